@@ -330,7 +330,7 @@ fn wake_each<R: Wait>(
     seat
 }
 
-// So many more callers do so in threads of their own, with the first.
+// The given number of further callers do so in threads of their own, with the first.
 fn wake_all<R: Threads + Wait + Sync>(
     rt: &R,
     custody: &Custody<Blocks>,
@@ -365,7 +365,7 @@ fn wake_all<R: Threads + Wait + Sync>(
     first
 }
 
-// So many callers leave the gate to others who sleep at it, and all come to their ends.
+// The given number of callers leave the gate to others who sleep at it, and all come to their ends.
 fn no_wake_is_lost<R: Threads + Wait + Sync>(
     rt: &R,
     alloc: Global,

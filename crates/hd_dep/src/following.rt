@@ -125,7 +125,8 @@ fn gather<M: PromotionLog, L: Ledger>(
     }
 }
 
-/// Promotes the secondary of a dependent handle, if its target is promoted. It waits otherwise.
+/// Promotes the secondary of a dependent handle, if its target is promoted. Otherwise the pair is
+/// kept with the waiting rows.
 fn visit_row<M: PromotionLog>(seg: &Seg, slot: Slot, waiting: &mut Vec<Waiting>, marker: &mut M)
     requires live { IsSome (get seg.now.rows slot.0) }
     requires of_kind { (live_at seg.now slot.0).kind ≡ kind.Dependent }

@@ -258,8 +258,8 @@ module _ (n : Numbers) (s : State) (e : Entry) (ages : List ℕ) (w : IsWellForm
   by_effect c t (finds_no_entry key f none p) = does c t _ p refl sound
   by_effect c t (removes_entry key slot x f p) = does c t _ p refl (emptied s ages sound slot)
   by_effect c t (removes_none key f none p) = does c t _ p refl sound
-  by_effect c t (answers_root goal f tells) =
-      ⊎_elim (λ x. does c t _ x.reply_is refl sound) (λ x. does c t _ x.1 refl sound) tells
+  by_effect c t (answers_root goal f is_root) =
+      ⊎_elim (λ x. does c t _ x.reply_is refl sound) (λ x. does c t _ x.1 refl sound) is_root
 
 pub nothing_at : {A : Type 0} (q : ℕ) (x : A) → get (empty {X = A} {R = nat_cmp}) q ≡ Some x → ⊥
 nothing_at q x e = none-some x (sym (get-empty nat_cmp q) ∙ e)

@@ -6,7 +6,7 @@ use Rattle.hd_model.specs.State.{State}
 use Rattle.hd_model.specs.Leads.{Leads}
 use Rattle.hd_model.specs.Scene.{Scene, generation_at}
 use Rattle.hd_model.specs.Reach.{IsRoot, named, queued, held, older}
-use Rattle.hd_model.specs.Anchors.{LeadsIn, IsShortest, IsAnchor, in_static, in_queue, by_handle, EdgeOf, TellsRoot}
+use Rattle.hd_model.specs.Anchors.{LeadsIn, IsShortest, IsAnchor, in_static, in_queue, by_handle, EdgeOf, ReturnsRoot}
 
 module _ {N : Type 0} {E : N → N → Type 0} where
   -- a chain has a number of edges, and what has one is a chain
@@ -43,7 +43,7 @@ module _ {N : Type 0} {s : Scene N} {x : N} (n : ℕ) where
   root_anchor (older l) = inr l
 
 -- the reply to `gcroot` on an object is unique
-pub one_root : (s : State) (goal : Id) (r q : Reply) → TellsRoot s goal r → TellsRoot s goal q → r ≡ q
+pub one_root : (s : State) (goal : Id) (r q : Reply) → ReturnsRoot s goal r → ReturnsRoot s goal q → r ≡ q
 one_root s goal r q (inl a) (inl b) =
     let e : a.edges ≡ b.edges =
     le_antisymm (a.shortest.shortest b.from b.edges b.shortest.anchor b.shortest.chain)

@@ -1,4 +1,4 @@
--- What `gcroot` tells, and what becomes of the object in a collection.
+-- What `gcroot` returns, and what becomes of the object in a collection.
 use Rattle.hd_model.proofs.Basics.{◌≡◌, ℕ, Bool, true, false, Option, Some, None, refl, sym, ◌∙◌, subst, ⊎_elim, inl, inr, ◌⊎◌, option_map_or, MatchOption, cond-false, get}
 use Rattle.hd_model.specs.Data.{Id, Entry, Reply}
 use Rattle.hd_model.specs.declared.data.Refusal.TheVariants as refusal
@@ -12,8 +12,8 @@ use Rattle.hd_model.specs.Scene.{scene_of}
 use Rattle.hd_model.specs.Reach.{IsReached}
 use Rattle.hd_model.specs.Collect.{Collects}
 use Rattle.hd_model.specs.InUse.{IsUsed, in_register, in_static, in_queue, by_handle, IsOlder, IsLedTo, IsResurrected}
-use Rattle.hd_model.specs.Anchors.{IsAnchor, AnchorOf, EdgeOf, TellsRoot}
-use Rattle.hd_model.specs.AnchorLaws.{GcRootTellsTheRoot, IsNoAnchor, RootedObjectsStay, UnrootedObjectsGo}
+use Rattle.hd_model.specs.Anchors.{IsAnchor, AnchorOf, EdgeOf, ReturnsRoot}
+use Rattle.hd_model.specs.AnchorLaws.{GcRootReturnsTheRoot, IsNoAnchor, RootedObjectsStay, UnrootedObjectsGo}
 use Rattle.hd_model.proofs.AnchorChains.{leads, anchor_root}
 use Rattle.hd_model.proofs.AnchorSearch.{anchor_named}
 use Rattle.hd_model.proofs.EdgeChains.{leads_on}
@@ -24,17 +24,17 @@ use Rattle.hd_model.proofs.SceneCollection.{reached_kept, still_object}
 use Rattle.hd_model.proofs.UseChains.{led_chain, chain_led, reached_use, to_be_finalized_resurrected}
 
 asks_root : (s t : State) (e : Entry) (o : Option Id) (found : Reply)
-    → ((goal : Id) → o ≡ Some goal → TellsRoot s goal found)
+    → ((goal : Id) → o ≡ Some goal → ReturnsRoot s goal found)
     → IsOutcome e (option_map_or (λ _. answers found s) o (refuses refusal.Null s)) t
-    → MatchOption o (e.reply ≡ reply.Refused refusal.Null) (λ goal. TellsRoot s goal e.reply)
-asks_root s t e None found tells is = is.reply
-asks_root s t e (Some goal) found tells is = subst (TellsRoot s goal) (sym is.reply) (tells goal refl)
+    → MatchOption o (e.reply ≡ reply.Refused refusal.Null) (λ goal. ReturnsRoot s goal e.reply)
+asks_root s t e None found is_root is = is.reply
+asks_root s t e (Some goal) found is_root is = subst (ReturnsRoot s goal) (sym is.reply) (is_root goal refl)
 
-pub gcroot_tells_the_root : GcRootTellsTheRoot
-gcroot_tells_the_root n s t e r step is =
+pub gcroot_returns_the_root : GcRootReturnsTheRoot
+gcroot_returns_the_root n s t e r step is =
     let a : AnswersRoot s e t r = step_of n s e t (cmd.GcRoot r) step is in
     record {
-      reply = asks_root s t e (register_of s e.caller r) a.found a.tells a.outcome;
+      reply = asks_root s t e (register_of s e.caller r) a.found a.is_root a.outcome;
       same = a.outcome.after ∙ root_after s (register_of s e.caller r) a.found;
     }
 

@@ -4,7 +4,7 @@ use Rattle.hd_model.specs.Data.{Id, Reply}
 use Rattle.hd_model.specs.declared.data.Reply.TheVariants as reply
 use Rattle.hd_model.specs.State.{State}
 use Rattle.hd_model.specs.Scene.{scene_of, joined, is_object, IsWhole}
-use Rattle.hd_model.specs.Anchors.{LeadsIn, AnchorOf, EdgeOf, TellsRoot}
+use Rattle.hd_model.specs.Anchors.{LeadsIn, AnchorOf, EdgeOf, ReturnsRoot}
 use Rattle.hd_model.proofs.AnchorChains.{some_edges, anchor_root}
 use Rattle.hd_model.proofs.SceneCollection.{root_object, edge_object}
 use Rattle.hd_model.proofs.Reachability.{decides_any, in_edges, decides_edges}
@@ -61,8 +61,8 @@ module _ (s : State) (w : IsWhole (scene_of s)) where
     starts_some : (k : ℕ) (x : Id) → Starts k x → list_any (starts k) (ids s) ≡ true
     starts_some k x h = (some_starts k).1 (x, (in_ids s x (anchor_object x h.0), h))
 
-    tells_chain : (x : Id) (k : ℕ) → Starts k x → (r : Reply) × TellsRoot s goal r
-    tells_chain x k h =
+    returns_chain : (x : Id) (k : ℕ) → Starts k x → (r : Reply) × ReturnsRoot s goal r
+    returns_chain x k h =
         let (m, short) = least_passing (λ j. list_any (starts j) (ids s)) k (starts_some k x h) in
         let (y, first) = (some_starts m).0 short.0 in
         let (i, low) = least_passing (λ j. starts m (record { 0 = j })) y.0 ((starts_is m y).1 first.1) in
@@ -82,13 +82,13 @@ module _ (s : State) (w : IsWhole (scene_of s)) where
           }),
         )
 
-    pub root_exists : (r : Reply) × TellsRoot s goal r
+    pub root_exists : (r : Reply) × ReturnsRoot s goal r
     root_exists =
         let led = led_is s 0 w (AnchorOf s) (is_anchor s s.statics) (anchor_is s s.statics) anchor_object
         goal in
         ⊎_elim
         (λ yes. let (x, rest) = led.0 yes in
-        let (k, chain) = some_edges rest.1 in tells_chain x k (rest.0, chain))
+        let (k, chain) = some_edges rest.1 in returns_chain x k (rest.0, chain))
         (λ no. (
           reply.Unrooted,
           inr (λ x a chain. true≢false (sym (led.1 (x, (a, chain))) ∙ no), λ i. reply.Unrooted),

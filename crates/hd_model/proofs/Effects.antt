@@ -1,7 +1,7 @@
 -- What each command does where it is not refused, one case for each way.
 use Rattle.hd_model.proofs.Basics.{Adding, AddsEntry, AnswersPlace, Back, Bool, Cmd, DoesCollect, Entry, Extra, FitsKind, GivesBack, Grown, Handle, Id, IsAllFree, IsOutcome, IsSome, Kind, List, Make, MakesHandle, MayAnswer, MayGive, None, Numbers, Object, One, Option, Outcome, Refusal, Slot, Some, State, Step, StepOf, Strength, TakesWay, Two, Zero, [], adding_key, adding_of, answers, ap, board_of, cond, count, count_of, false, field_of, fresh_object, get, handle_at, handle_register_of, identity_of, idle_slot, in_idle, in_new, inl, inr, is_kind, is_some, kind_of, last_serial, length, loaded, made_handle, object_by_id, on_handle, on_handle_of, option_and_then, pinned_by, pins, refl, refuses, register_of, secondary, secondary_of, set, set_registered, slot_of_key, static_of, strength, subst, sym, take_first, true, value_at, way_of_adding, with_board, with_entry, with_growth, with_handle, with_handle_register, with_object, with_place, with_queue, with_register, with_serial, with_static, with_weak, without_handle, without_secondary, without_use, ℕ, ⊎_elim, ◌&&◌, ◌+◌, ◌-◌, ◌<◌, ◌==◌, ◌^◌, ◌∙◌, ◌∷◌, ◌≡◌, ◌⊎◌}
 use Rattle.hd_model.specs.Command.{is_refused}
-use Rattle.hd_model.specs.Anchors.{TellsRoot}
+use Rattle.hd_model.specs.Anchors.{ReturnsRoot}
 use Rattle.hd_model.proofs.KindTests.{same_kind}
 use Rattle.hd_model.proofs.WeakSlots.{HasNoKey, HasKey, key_found, key_none, idle_found, value_is}
 use Rattle.hd_model.proofs.Outcomes.{option_cases, test_cases, on_object_cases, on_field_cases, on_handle_cases, on_handle_of_cases}
@@ -131,7 +131,7 @@ pub data Effect (n : Numbers) (s : State) (e : Entry) : Cmd → State → Type 0
       → e.reply ≡ reply.Done → Effect n s e (cmd.CRemove k) (with_weak s slot None)
   removes_none : {k : ℕ} (key : Id) → register_of s e.caller k ≡ Some key → HasNoKey s key
       → e.reply ≡ reply.Absent → Effect n s e (cmd.CRemove k) s
-  answers_root : {r : ℕ} (goal : Id) → register_of s e.caller r ≡ Some goal → TellsRoot s goal e.reply
+  answers_root : {r : ℕ} (goal : Id) → register_of s e.caller r ≡ Some goal → ReturnsRoot s goal e.reply
       → Effect n s e (cmd.GcRoot r) s
   gives_none : {given : Kind} → e.reply ≡ reply.Value 0 → Effect n s e (cmd.Trim given) s
 
@@ -316,7 +316,8 @@ module _ (n : Numbers) (s : State) (e : Entry) (t : State) where
       (λ slot is. comes _ _ (λ p _. removes_entry key slot (key_found s key slot is) f p))) h
   command_effect (cmd.GcRoot r) h =
       on_object_cases (Comes (cmd.GcRoot r)) s e.caller r _ (λ _. refuses_it _ _)
-      (λ goal f. comes _ _ (λ p _. answers_root goal f (subst (TellsRoot s goal) (sym p) (h.tells goal f))))
+      (λ goal f. comes _ _ (λ p _. answers_root goal f
+      (subst (ReturnsRoot s goal) (sym p) (h.is_root goal f))))
       h.outcome
 
   pub effect : Step n s e t → Effect n s e e.cmd t

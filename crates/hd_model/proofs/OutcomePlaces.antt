@@ -2,7 +2,7 @@
 use Rattle.hd_model.proofs.Basics.{Adding, AddsEntry, Back, Bool, Cmd, Entry, FinMap, FindsTableFull, GivesBack, Grown, Handle, Id, IsFree, IsLeastUnused, IsOutcome, Kind, List, Make, MakesHandle, MayGive, None, Numbers, One, Option, Outcome, Slot, Some, State, Step, StepOf, TakesWay, Two, Zero, [], adding_of, ap, count_of, false, get, handle_register_of, if◌then◌else◌, in_idle, in_new, inl, inr, is_kind, is_some, kind_of, length, nat_cmp, nat_lt, object_by_id, on_field, on_handle, on_handle_of, on_object, option_map_or, refl, refuses, register_of, slot_of_key, sym, take_first, total_size, touched_by, true, true≢false, way_of_adding, with_entry, with_growth, with_made, with_places, ℕ, ⊎_elim, ◌&&◌, ◌+◌, ◌==◌, ◌∙◌, ◌∷◌, ◌≡◌, Reply}
 use Rattle.hd_model.specs.Command.{is_refused}
 use Rattle.hd_model.specs.declared.command.Cmd.TheVariants as cmd
-use Rattle.hd_model.specs.Anchors.{TellsRoot}
+use Rattle.hd_model.specs.Anchors.{ReturnsRoot}
 use Rattle.hd_model.specs.declared.data.Refusal.TheVariants as refusal
 use Rattle.hd_model.specs.declared.data.Kind.TheVariants as kind
 
@@ -126,7 +126,7 @@ module _ (p : FinMap nat_cmp ℕ) where
         })) is
 
     -- where an object is pinned, and at which address, no chain depends on
-    root_placed : (goal : Id) (r : Reply) → TellsRoot s goal r → TellsRoot before goal r
+    root_placed : (goal : Id) (r : Reply) → ReturnsRoot s goal r → ReturnsRoot before goal r
     root_placed goal r (inl c) =
         inl (record { from = c.from; edges = c.edges; shortest = c.shortest; reply_is = c.reply_is })
     root_placed goal r (inr none) = inr none
@@ -202,7 +202,7 @@ module _ (p : FinMap nat_cmp ℕ) where
         by_option P leaf _ _ _ _ (slot_of_key s key) (λ slot. leaf _) (leaf _)))
     does_placed (cmd.GcRoot r) h is = record {
       found = is.found;
-      tells = λ goal f. root_placed goal is.found (is.tells goal f);
+      is_root = λ goal f. root_placed goal is.found (is.is_root goal f);
       outcome = alike _ _ is.outcome (λ P leaf. object_placed P leaf s e.caller r _ _ (λ goal. leaf _));
     }
     does_placed _ h is = alike _ _ is (λ P leaf. leaf _)

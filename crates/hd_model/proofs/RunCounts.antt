@@ -186,9 +186,9 @@ module _ (n : Numbers) (s : State) (e : Entry) (w : IsWellFormed n s) where
   removes c t (finds_no_entry key f none p) = ap (λ x. len s.objects + removed_in x) p
   removes c t (removes_entry key slot x f p) = ap (λ x. len s.objects + removed_in x) p
   removes c t (removes_none key f none p) = ap (λ x. len s.objects + removed_in x) p
-  removes c t (answers_root goal f tells) =
+  removes c t (answers_root goal f is_root) =
       ap (λ x. len s.objects + x)
-      (⊎_elim (λ x. ap removed_in x.reply_is) (λ x. ap removed_in x.1) tells)
+      (⊎_elim (λ x. ap removed_in x.reply_is) (λ x. ap removed_in x.1) is_root)
 
 pub handles_are_made_less_freed : HandlesAreMadeLessFreed
 handles_are_made_less_freed n journal s run =

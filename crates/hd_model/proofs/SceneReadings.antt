@@ -62,7 +62,8 @@ names_agree f g xs same =
     list_agrees (option_map f) (option_map g) xs
     (λ o h. option_agrees f g o (λ x e. same x (subst (λ q. Contains xs q) e h)))
 
-pub extra_agrees : {A B : Type 0} (f g : A → B) (e : Extra A) → ((x : A) → secondary_of e ≡ Some x → f x ≡ g x)
+pub extra_agrees : {A B : Type 0} (f g : A → B) (e : Extra A)
+    → ((x : A) → secondary_of e ≡ Some x → f x ≡ g x)
     → rename_extra f e ≡ rename_extra g e
 extra_agrees f g nothing same = refl
 extra_agrees f g (strength given) same = refl

@@ -11,7 +11,7 @@ use Rattle.hd_model.specs.Data.{Reply}
 use Rattle.hd_model.specs.State.{register_of}
 use Rattle.hd_model.specs.Command.{refuses}
 use Rattle.hd_model.specs.Step.{answers_root}
-use Rattle.hd_model.specs.Anchors.{TellsRoot}
+use Rattle.hd_model.specs.Anchors.{ReturnsRoot}
 use Rattle.hd_model.proofs.AnchorChains.{one_root}
 use Rattle.hd_model.specs.declared.data.Refusal.TheVariants as refusal
 
@@ -109,7 +109,8 @@ collected_same s e f t u k a b = (
 
 -- `gcroot` has one reply
 roots_same : (s : State) (e f : Entry) (t u : State) (r : ℕ) (p q : Reply) (o : Option Id)
-    → ((goal : Id) → o ≡ Some goal → TellsRoot s goal p) → ((goal : Id) → o ≡ Some goal → TellsRoot s goal q)
+    → ((goal : Id) → o ≡ Some goal → ReturnsRoot s goal p)
+    → ((goal : Id) → o ≡ Some goal → ReturnsRoot s goal q)
     → IsOutcome e (option_map_or (λ _. answers p s) o (refuses refusal.Null s)) t
     → IsOutcome f (option_map_or (λ _. answers q s) o (refuses refusal.Null s)) u → Same e f
 roots_same s e f t u r p q None a b x y = outcomes_same e f _ t u x y
@@ -153,7 +154,8 @@ way_same n s e f t u c (adds_entry v key) by is w other a b x y =
 way_same n s e f t u c (collects k) by is w other a b x y = collected_same s e (with_rest e f) t u k a b
 way_same n s e f t u c (answers_place h) by is w other a b x y = absurd (other h is)
 way_same n s e f t u c (answers_root r) by is w other a b x y =
-    roots_same s e (with_rest e f) t u r a.found b.found (register_of s e.caller r) a.tells b.tells a.outcome
+    roots_same s e (with_rest e f) t u r a.found b.found (register_of s e.caller r) a.is_root b.is_root
+    a.outcome
     b.outcome
 way_same n s e f t u c (gives_back wanted) by is w other a b x y =
     trimmed_same s e (with_rest e f) t u wanted a b (subst (TakesLeast s e) is x)

@@ -8,7 +8,7 @@ use Rattle.hd_model.specs.declared.data.Reply.TheVariants as reply
 use Rattle.hd_model.specs.declared.command.Cmd.TheVariants as cmd
 use Rattle.hd_model.specs.Data.{Reply}
 use Rattle.hd_model.specs.State.{register_of}
-use Rattle.hd_model.specs.Anchors.{TellsRoot}
+use Rattle.hd_model.specs.Anchors.{ReturnsRoot}
 use Rattle.hd_model.specs.Command.{answer_root}
 use Rattle.hd_model.specs.Step.{answers_root}
 use Rattle.hd_model.proofs.AnchorSearch.{root_exists}
@@ -230,11 +230,11 @@ module _ (n : Numbers) (s : State) (w : IsWellFormed n s) (caller : ℕ) (known 
 
   -- a reply that `gcroot` may have
   finds_root : (o : Option Id)
-      → (r : Reply) × ((goal : Id) → o ≡ Some goal → TellsRoot s goal r)
+      → (r : Reply) × ((goal : Id) → o ≡ Some goal → ReturnsRoot s goal r)
   finds_root None = (reply.Unrooted, λ goal is. absurd (none-some goal is))
   finds_root (Some goal) =
-      let (r, tells) = root_exists s (whole_scene n s w) goal in
-      (r, λ other is. subst (λ x. TellsRoot s x r) (same_Some goal other is) tells)
+      let (r, is_root) = root_exists s (whole_scene n s w) goal in
+      (r, λ other is. subst (λ x. ReturnsRoot s x r) (same_Some goal other is) is_root)
 
   by_way : (c : Cmd) (way : Way) → way_of s caller c ≡ way → CommandOf c way → IsValid c → HasWay n s caller c
       → Does n s caller c
@@ -277,9 +277,9 @@ module _ (n : Numbers) (s : State) (w : IsWellFormed n s) (caller : ℕ) (known 
       comes c (answer_place s caller h p) valid
       (λ x. subst (TakesWay n s _ _) (sym is) (record { place = p; may = may; outcome = x }))
   by_way c (answers_root r) is command valid has =
-      let (found, tells) = finds_root (register_of s caller r) in
+      let (found, is_root) = finds_root (register_of s caller r) in
       comes c (answer_root s caller r found) valid
-      (λ x. subst (TakesWay n s _ _) (sym is) (record { found = found; tells = tells; outcome = x }))
+      (λ x. subst (TakesWay n s _ _) (sym is) (record { found = found; is_root = is_root; outcome = x }))
   by_way c (gives_back wanted) is command valid has =
       comes c (answers (reply.Value 0) s) valid (λ x. subst (TakesWay n s _ _) (sym is) (inr x))
 

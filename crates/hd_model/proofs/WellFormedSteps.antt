@@ -280,7 +280,7 @@ module _ (n : Numbers) (s : State) (w : IsWellFormed n s) (e : Entry) (l : e.cal
       weak_keeps n s w slot None (λ y no. absurd (none-some y no)) (λ y no. absurd (none-some y no))
       (w.weak.kinds slot.0 (ap is_some x.held)) (w.weak.apart slot.0 (ap is_some x.held))
   effect_keeps c t v (removes_none key f none p) = w
-  effect_keeps c t v (answers_root goal f tells) = w
+  effect_keeps c t v (answers_root goal f is_root) = w
 
 pub step_keeps : (n : Numbers) (s t : State) (e : Entry) → IsWellFormed n s → Step n s e t → IsWellFormed n t
 step_keeps n s t e w step = effect_keeps n s w e step.caller e.cmd t step.valid (effect n s e t step)

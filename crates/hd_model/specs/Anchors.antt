@@ -41,14 +41,14 @@ EdgeOf s = IsEdge (scene_of s).object (scene_of s).handle
 abbrev pub AnchorOf : State → Id → Type 0
 AnchorOf s = IsAnchor s.statics (scene_of s)
 
--- a reply that tells a shortest chain to an object by the anchor that it begins at and its number of edges
-pub record TellsChain (s : State) (goal : Id) (r : Reply) : Type 0 where
+-- a reply that states a shortest chain to an object by the anchor that it begins at and its number of edges
+pub record ReturnsChain (s : State) (goal : Id) (r : Reply) : Type 0 where
   pub from : Id
   pub edges : ℕ
   pub shortest : IsShortest (EdgeOf s) (AnchorOf s) (λ (x : Id). x.0) goal from edges
   pub reply_is : r ≡ reply.Chain from edges
 
 -- the reply to `gcroot` on an object
-abbrev pub TellsRoot : State → Id → Reply → Type 0
-TellsRoot s goal r =
-    TellsChain s goal r ⊎ (IsUnrooted (EdgeOf s) (AnchorOf s) goal × (r ≡ reply.Unrooted))
+abbrev pub ReturnsRoot : State → Id → Reply → Type 0
+ReturnsRoot s goal r =
+    ReturnsChain s goal r ⊎ (IsUnrooted (EdgeOf s) (AnchorOf s) goal × (r ≡ reply.Unrooted))

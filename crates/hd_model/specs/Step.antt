@@ -13,7 +13,7 @@ use Rattle.hd_model.specs.Valid.{IsValid}
 use Rattle.hd_model.specs.State.{Numbers, Handle, State, handles_of, extra_data, register_of, handle_register_of, last_serial, handle_at, use_of, given_of, first_slot, IsFree, IsAllFree, with_handle_register, with_handle, with_use, without_use}
 use Rattle.hd_model.specs.Role.{pins}
 use Rattle.hd_model.specs.Places.{MayAnswer}
-use Rattle.hd_model.specs.Anchors.{TellsRoot}
+use Rattle.hd_model.specs.Anchors.{ReturnsRoot}
 use Rattle.hd_model.specs.Collect.{CollectsState}
 use Rattle.hd_model.specs.Command.{Outcome, answers, refuses, made_handle, new_object, set_field, get_field, set_value, read_value, copy_register, clear_register, put_static, get_static, read_generation, set_registered, take_queued, get_target, set_target, set_secondary, get_secondary, set_strength, raise_count, lower_count, free_handle, put_board, pick_board, answer_place, answer_root, Adding, is_refused, in_idle, in_new, adding_of, with_entry, add_entry, find_entry, remove_entry}
 
@@ -116,10 +116,10 @@ pub record GivesBack (old : State) (e : Entry) (new : State) (kind : Kind) : Typ
   pub grown : e.grown ≡ Back block
   pub after : new ≡ without_use old block
 
--- `gcroot` tells where a shortest chain to what rS references begins, or is refused where that is null
+-- `gcroot` returns where a shortest chain to what rS references begins, or is refused where that is null
 pub record AnswersRoot (old : State) (e : Entry) (new : State) (r : ℕ) : Type 0 where
   pub found : Reply
-  pub tells : (goal : Id) → register_of old e.caller r ≡ Some goal → TellsRoot old goal found
+  pub is_root : (goal : Id) → register_of old e.caller r ≡ Some goal → ReturnsRoot old goal found
   pub outcome : IsOutcome e (answer_root old e.caller r found) new
 
 -- how a command goes: the state alone decides its outcome, or it is one of seven with a premise or a choice

@@ -16,7 +16,7 @@ mod steps;
 mod weak_laws;
 
 pub use anchor_laws::{
-    gcroot_tells_the_root, root_is_one, rooted_objects_stay, unrooted_objects_go,
+    gcroot_returns_the_root, root_is_one, rooted_objects_stay, unrooted_objects_go,
 };
 pub use class::Class;
 pub use collection_laws::{

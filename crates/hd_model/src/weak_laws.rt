@@ -5,7 +5,7 @@ ghost use Rattle.hd_model.specs.WeakLaws.{WeakSlotsAreNotLive, WeakSlotsStayHeld
 ghost use Rattle.hd_model.specs.WeakLaws.{TextsLeaveTheWeakTableOut};
 
 /// In every run a `cfind` of a key returns the value of the last earlier done `cadd` of that key
-/// after which no done `cremove` of it stands, and `Absent` exactly where there is none.
+/// after which no done `cremove` of it comes, and `Absent` exactly where there is none.
 /// Collections do not show in it.
 pub fn find_returns_what_is_attached()
     ensures { FindReturnsWhatIsAttached }

@@ -51,7 +51,7 @@ fn churn(custody: &Custody<Pages>, mut seat: Seat<Pages>, plan: Plan) -> u64
     made
 }
 
-// So many more callers than the first do so, each in a thread of its own.
+// The given number of further callers do so, each in a thread of its own.
 fn churn_all<R: Threads + Sync>(
     rt: &R,
     custody: &Custody<Pages>,

@@ -1,9 +1,8 @@
 -- What each command does with the pinned addresses.
-use Rattle.hd_world.proofs.StoreWords.{Addr, AnswersPlace, Bool, Cmd, CollectedSteps, Done, Entry, Err, FinMap, GrowsFor, Handle, HasCollected, HasNames, HasPlace, HasRun, Id, IsOffer, IsOutcome, IsPlainStep, IsValid, KeepsNames, KeepsPlaces, LeavesHeap, Machine, MatchResult, MayAnswer, MayOffer, MayRun, Moves, None, Ok, Option, Outcome, RanOut, Refusal, Reply, Report, Result, Slot, Some, State, Step, StepOf, TakesSteps, Zero, aged_by, answer_place, answers, ap, asks_of, class_of, cond, done_of, empty, entry_of, false, get, get_inserted, handle_at, handle_register_of, if◌then◌else◌, insert, is_collect, kept_places, key_register, name_in, nat_cmp, no_room, nothing_at, option_and_then, option_map_or, pinned_by, pinned_in, pinned_target, pins, refl, refuses, register_of, same_Some, subst, sym, touched_by, true, true≢false, with_place, with_places, ℕ, ◌<◌, ◌∙◌, ◌≡◌, ◌≤◌}
+use Rattle.hd_world.proofs.StoreWords.{Addr, AnswersPlace, Bool, Cmd, CollectedSteps, Done, Entry, Err, FinMap, GrowsFor, Handle, HasCollected, HasNames, HasPlace, HasRun, Id, IsOffer, IsOutcome, IsPlainStep, IsValid, KeepsNames, KeepsPlaces, LeavesHeap, Machine, MayAnswer, MayOffer, MayRun, Moves, None, Ok, Option, Outcome, Refusal, Reply, Report, Result, Slot, Some, State, Step, StepOf, TakesSteps, Zero, aged_by, answer_place, answers, ap, asks_of, class_of, cond, done_of, empty, entry_of, false, get, get_inserted, handle_at, handle_register_of, if◌then◌else◌, insert, is_collect, kept_places, key_register, name_in, nat_cmp, no_room, nothing_at, option_and_then, option_map_or, pinned_by, pinned_in, pinned_target, pins, refl, refuses, register_of, same_Some, subst, sym, touched_by, true, true≢false, with_place, with_places, ℕ, ◌<◌, ◌∙◌, ◌≡◌, ◌≤◌}
 use Rattle.hd_model.specs.Aging.{is_refused}
 use Rattle.hd_model.specs.Command.{answer_root}
-use Rattle.hd_model.specs.Anchors.{TellsRoot}
-use Rattle.hd_model.specs.declared.data.Memory.{Memory}
+use Rattle.hd_model.specs.Anchors.{ReturnsRoot}
 use Rattle.hd_model.proofs.{OutcomePlaces.step_placed, Journals.ages_placed}
 use Rattle.hd_world.specs.declared.done.CallerCommand.{CallerCommand}
 use Rattle.hd_world.proofs.IdentityReadings.{no_some}
@@ -224,18 +223,16 @@ plain-kept m k asked offer may e did =
     }
 
 pub plain-runs : (m k : Machine) (asked : CallerCommand) (offer : Option Slot) → MayRun m asked offer
-    → key_register (class_of asked.cmd) ≡ None → (steps : ℕ) (r : Result Entry Memory)
-    → MatchResult r (λ e. HasRun m asked offer e (IsPlainStep m asked.cmd k e))
-    (λ _. RanOut m.numbers m.state asked.cmd m k)
-    → MatchResult r (λ e. HasRun m asked offer e
-    (KeepsPlaces m e k) × TakesSteps m.state m.ages e steps steps)
-    (λ _. RanOut m.numbers m.state asked.cmd m k × (steps ≡ steps))
-plain-runs m k asked offer may no_key steps (Ok e) did = (
-  plain-kept m k asked offer may e did,
-  others-steps e uses_places (ap uses_places did.command ∙ did.effect.plain) (λ n. refl) m steps
-      (ap (λ c. key_register (class_of c)) did.command ∙ no_key),
-)
-plain-runs m k asked offer may no_key steps (Err e) out = (out, refl)
+    → key_register (class_of asked.cmd) ≡ None → (steps : ℕ) (did e : Entry) → e ≡ did
+    → HasRun m asked offer did (IsPlainStep m asked.cmd k did)
+    → HasRun m asked offer e (KeepsPlaces m e k) × TakesSteps m.state m.ages e steps steps
+plain-runs m k asked offer may no_key steps did e entry ran =
+    subst (λ x. HasRun m asked offer x (KeepsPlaces m x k) × TakesSteps m.state m.ages x steps steps)
+    (sym entry) (
+      plain-kept m k asked offer may did ran,
+      others-steps did uses_places (ap uses_places ran.command ∙ ran.effect.plain) (λ n. refl) m steps
+          (ap (λ c. key_register (class_of c)) ran.command ∙ no_key),
+    )
 
 -- `addr` returns the address of what the handle pins
 module _ (m k : Machine) (e : Entry) (keeps : KeepsPlaces m e k) (h place : ℕ) (x : Id)
@@ -304,12 +301,12 @@ module _ (m : Machine) (caller r : ℕ) where
   ages_stay false = refl
 
   root_step : (found : Reply) (done : Done)
-      → ((goal : Id) → register_of m.state caller r ≡ Some goal → TellsRoot m.state goal found)
+      → ((goal : Id) → register_of m.state caller r ≡ Some goal → ReturnsRoot m.state goal found)
       → IsOutcome (asking done) (answer_root m.state caller r found) m.state
       → IsPlainStep m (cmd.GcRoot r) m (asking done)
-  root_step found done tells outcome = record {
+  root_step found done is_root outcome = record {
     plain = refl;
-    step = record { found = found; tells = tells; outcome = outcome };
+    step = record { found = found; is_root = is_root; outcome = outcome };
     numbers = refl;
     names = refl;
     ages = ages_stay (is_refused done.reply);
@@ -328,13 +325,13 @@ module _ (m : Machine) (caller r : ℕ) where
   abbrev answer_by : Reply → Option Id → Outcome
   answer_by found o = option_map_or (λ _. answers found m.state) o (refuses refusal.Null m.state)
 
-  pub root-told : (goal : Id) → register_of m.state caller r ≡ Some goal → (found : Reply)
-      → TellsRoot m.state goal found → (done : Done)
+  pub root-returned : (goal : Id) → register_of m.state caller r ≡ Some goal → (found : Reply)
+      → ReturnsRoot m.state goal found → (done : Done)
       → done ≡ record { reply = found; slot = None; grown = Zero }
       → IsPlainStep m (cmd.GcRoot r) m (asking done)
-  root-told goal is found tells done of =
+  root-returned goal is found is_root done of =
       root_step found done
-      (λ x same. subst (λ y. TellsRoot m.state y found) (same_Some goal x (sym is ∙ same)) tells)
+      (λ x same. subst (λ y. ReturnsRoot m.state y found) (same_Some goal x (sym is ∙ same)) is_root)
       (root_outcome found (answers found m.state) (ap (answer_by found) is) refl done of)
 
   pub root-refused : register_of m.state caller r ≡ None → (refused : Refusal) → refused ≡ refusal.Null

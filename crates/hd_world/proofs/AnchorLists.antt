@@ -1,4 +1,5 @@
--- What a search of a store begins at are the anchors of its state, and what it finds is what `gcroot` tells.
+-- What a search of a store begins at are the anchors of its state, and what it finds is what `gcroot`
+-- returns.
 use Rattle.hd_world.proofs.StoreWords.{◌≡◌, ℕ, ◌++◌, List, [], ◌∷◌, inl, inr, ⊎_elim, true, map, Contains, Option, Some, None, option_map, option_to_list, sym, ap, ◌∙◌, subst, refl, Addr, Id, Reply, Parts, IsStored, state_of, scene_of_parts, callers_of, scene_of, id_at, has_object, row_at, Table, role, holds, short, long, attaches, Role, drop, take, take-append-drop, entries, object_at, Machine, machine_of, name_in, ◌*◌, ◌-◌, arith, length, same_Some, placed_at, id_in, MatchOption}
 use Rattle.std.specs.Prelude.{flat_map, slice_get}
 use Rattle.hd_root.specs.Chain.{IsPath, IsLeastChain}
@@ -8,7 +9,7 @@ use Rattle.hd_model.specs.declared.data.Reply.TheVariants as reply
 use Rattle.hd_model.specs.Reach.{IsHeld, IsEdge}
 use Rattle.hd_model.specs.RootText.{held_by, held_of, root_in}
 use Rattle.hd_model.specs.Scene.{Scene}
-use Rattle.hd_model.specs.Anchors.{IsAnchor, in_static, in_queue, by_handle, IsShortest, IsUnrooted, TellsRoot}
+use Rattle.hd_model.specs.Anchors.{IsAnchor, in_static, in_queue, by_handle, IsShortest, IsUnrooted, ReturnsRoot}
 use Rattle.hd_model.proofs.Members.{not_in_none, member_cases, first_in, later_in, mapped_in, mapped_from}
 use Rattle.hd_model.proofs.MapEntries.{get_entry, entry_of}
 use Rattle.hd_model.proofs.AnchorChains.{shortest_like}
@@ -100,10 +101,12 @@ module _ (f : Parts) (stored : IsStored f) where
 
   -- what is made of the parts one after the other is that list
   pub listed-is : {statics roots : List (Option Addr)} {held : List Root} {made list : List Addr}
-      → (n : ℕ) → list ≡ made → made ≡ anchor_list statics f.queue.waiting held → statics ≡ drop (16 * n) roots
+      → (n : ℕ) → list ≡ made → made ≡ anchor_list statics f.queue.waiting held
+      → statics ≡ drop (16 * n) roots
       → roots ≡ f.roots → n ≡ callers_of f → held ≡ roots_of f.table → list ≡ listed
   listed-is n is of cut whole callers of_table =
-      is ∙ of ∙ (λ k. anchor_list ((cut ∙ (λ j. drop (16 * callers j) (whole j))) k) f.queue.waiting (of_table k))
+      is ∙ of ∙ (λ k. anchor_list ((cut ∙ (λ j. drop (16 * callers j) (whole j))) k) f.queue.waiting
+      (of_table k))
 
   abbrev AnchorAt : Addr → Type 0
   AnchorAt = IsAnchor statics_in (scene_of_parts f)
@@ -207,32 +210,32 @@ module _ (f : Parts) (stored : IsStored f) where
   -- ---- in the words of the machine
 
   module _ (m : Machine) (view : machine_of f ≡ m) (goal : Addr) (there : has_object f.heap goal ≡ true) where
-    told : (r : Reply) → TellsRoot (state_of f) (id_at f.heap goal) r
-        → TellsRoot m.state (name_in m.names goal) r
-    told r tells =
-        subst (λ (n : Machine). TellsRoot n.state (name_in n.names goal) r) view
-        (subst (λ x. TellsRoot (state_of f) x r) (sym (name-is f.heap goal)) tells)
+    returned : (r : Reply) → ReturnsRoot (state_of f) (id_at f.heap goal) r
+        → ReturnsRoot m.state (name_in m.names goal) r
+    returned r is_root =
+        subst (λ (n : Machine). ReturnsRoot n.state (name_in n.names goal) r) view
+        (subst (λ x. ReturnsRoot (state_of f) x r) (sym (name-is f.heap goal)) is_root)
 
-    pub tells-chain : (from : Addr) (edges : ℕ)
+    pub returns-chain : (from : Addr) (edges : ℕ)
         → IsShortest EdgeAt (Contains listed) (λ x. (id_at f.heap x).0) goal from edges
-        → TellsRoot m.state (name_in m.names goal) (reply.Chain (id_at f.heap from) edges)
-    tells-chain from edges c =
-        told (reply.Chain (id_at f.heap from) edges) (inl (record {
+        → ReturnsRoot m.state (name_in m.names goal) (reply.Chain (id_at f.heap from) edges)
+    returns-chain from edges c =
+        returned (reply.Chain (id_at f.heap from) edges) (inl (record {
           from = id_at f.heap from;
           edges = edges;
           shortest = shortest_by_id goal from edges there c;
           reply_is = refl;
         }))
 
-    pub tells-unrooted : IsUnrooted EdgeAt (Contains listed) goal
-        → TellsRoot m.state (name_in m.names goal) reply.Unrooted
-    tells-unrooted none = told reply.Unrooted (inr (unrooted_by_id goal there none, refl))
+    pub returns-unrooted : IsUnrooted EdgeAt (Contains listed) goal
+        → ReturnsRoot m.state (name_in m.names goal) reply.Unrooted
+    returns-unrooted none = returned reply.Unrooted (inr (unrooted_by_id goal there none, refl))
 
-    pub tells-found : (anchors : List Addr) → anchors ≡ listed → (chain : List Addr)
+    pub returns-found : (anchors : List Addr) → anchors ≡ listed → (chain : List Addr)
         → Found goal anchors (Some chain) → (x : Addr) → slice_get chain 0 ≡ Some x → (id : Id)
         → id ≡ (placed_at f.heap x).id → (n : ℕ) → n ≡ length chain
-        → TellsRoot m.state (name_in m.names goal) (reply.Chain id (n - 1))
-    tells-found anchors same chain least x first id named n sized =
+        → ReturnsRoot m.state (name_in m.names goal) (reply.Chain id (n - 1))
+    returns-found anchors same chain least x first id named n sized =
         let shortest = subst (λ xs. IsShortest EdgeAt (Contains xs) (λ a. (id_at f.heap a).0) goal least.from
         least.edges) same least.shortest in
         let edges : least.edges ≡ n - 1 = omega (arith, sized, least.size) in
@@ -240,6 +243,6 @@ module _ (f : Parts) (stored : IsStored f) where
         let named_by : id_at f.heap least.from ≡ id =
         ap (id_at f.heap) at
         ∙ ap id_in (placed_is f.heap x (found-object goal anchors same chain least x first)) ∙ sym named in
-        subst (λ k. TellsRoot m.state (name_in m.names goal) (reply.Chain id k)) edges
-        (subst (λ i. TellsRoot m.state (name_in m.names goal) (reply.Chain i least.edges)) named_by
-        (tells-chain least.from least.edges shortest))
+        subst (λ k. ReturnsRoot m.state (name_in m.names goal) (reply.Chain id k)) edges
+        (subst (λ i. ReturnsRoot m.state (name_in m.names goal) (reply.Chain i least.edges)) named_by
+        (returns-chain least.from least.edges shortest))

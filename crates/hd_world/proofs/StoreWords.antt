@@ -83,6 +83,6 @@ pub use Rattle.hd_world.specs.Store.{IsOverHeap, Machine, machine_of, without_sp
 pub use Rattle.hd_world.specs.StoreParts.{parts}
 pub use Rattle.hd_world.specs.Stored.{HasUses, IsStored, IsTied, Parts, callers_of, numbers_of, one_dependent, one_extra, scene_of_parts, state_of}
 pub use Rattle.hd_world.specs.Visited.{CollectedSteps, SearchSteps, TakesSteps, blocks_of, due_in, entries_beside, has_kind, key_register, looked_up, steps_by}
-pub use Rattle.hd_world.specs.World.{Asks, GrowsFor, GrowsUnoffered, HasLimits, IsOffer, MayOffer, RanOut, WorldView, asks_of, block_back, handle_slot, no_room, object_room}
+pub use Rattle.hd_world.specs.World.{Asks, GrowsFor, GrowsUnoffered, HasLimits, IsOffer, MayOffer, WorldView, asks_of, block_back, handle_slot, no_room, object_room}
 pub use Rattle.hd_world.specs.declared.done.Done.{Done}
 pub use Rattle.hd_world.specs.declared.store.Store.TheInside.{Inside}

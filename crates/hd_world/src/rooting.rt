@@ -2,7 +2,7 @@
 ghost use Rattle.std.specs.Prelude.{◌≡◌, ◌<◌, IsSome, IfOk};
 ghost use Rattle.std.specs.FinMap.{get};
 ghost use Rattle.hd_model.specs.declared.command.Cmd.TheVariants as cmds;
-ghost use Rattle.hd_model.specs.Anchors.{TellsRoot};
+ghost use Rattle.hd_model.specs.Anchors.{ReturnsRoot};
 ghost use Rattle.hd_world.specs.Reading.{name_in};
 ghost use Rattle.hd_world.specs.Commands.{IsPlainStep, entry_of, done_of};
 ghost use Rattle.hd_world.specs.declared.done.CallerCommand.{CallerCommand};
@@ -22,7 +22,7 @@ impl Store {
     fn root_of(&self, goal: Addr) -> Result<Reply, Memory>
         requires { IsSome (get self.now.names goal.0) }
         ensures { let id = name_in self.now.names goal in
-            IfOk result (TellsRoot self.now.state id) }
+            IfOk result (ReturnsRoot self.now.state id) }
     {
         let held = gather_alone(self.alloc, &self.table, self.ages.blocks())?;
         let statics = statics(&self.roots, self.handle_registers.len());
@@ -38,7 +38,11 @@ impl Store {
 }
 
 /// `gcroot rS`.
-pub(crate) fn tell_root(store: &Store, caller: u32, r: u8) -> Result<Result<Done, Refusal>, Memory>
+pub(crate) fn return_root(
+    store: &Store,
+    caller: u32,
+    r: u8,
+) -> Result<Result<Done, Refusal>, Memory>
     requires caller { caller < store.now.numbers.callers }
     requires register { r < REGISTERS }
     ensures { let asked : CallerCommand = record { caller = caller; cmd = cmds.GcRoot r } in

@@ -27,7 +27,9 @@ returns-in-AddrOf g c =
 pub returns : goal.returns
 returns g c =
     plain-runs c.args.store.now c.carry_out.new.store c.args.asked c.args.offer c.requires
-    c.carry_out.ensures.no_key c.args.steps.now c.carry_out.result c.carry_out.ensures.done
+    c.carry_out.ensures.no_key c.args.steps.now
+    (entry_of c.args.asked (done_of c.in_ok-done-2.done)) c.entry-2.result c.entry-2.ensures
+    c.in_ok-done-2.ensures.done
 
 pub returns-in-CAdd : goal.returns-in-CAdd
 returns-in-CAdd g c =

@@ -1,5 +1,5 @@
 use Rattle.hd_world.proofs.StoreWords.{parts, ◌∙◌, arith, subst, Contains, None}
-use Rattle.hd_world.proofs.AnchorLists.{listed-is, listed_object, found-object, tells-found, tells-unrooted, Found}
+use Rattle.hd_world.proofs.AnchorLists.{listed-is, listed_object, found-object, returns-found, returns-unrooted, Found}
 use Rattle.hd_world.proofs.NamedAddresses.{in_heap}
 use Rattle.hd_world.proofs.store.Store.root_of.Goals as goal
 
@@ -30,7 +30,7 @@ returns-in-Some c =
     c.statics-statics.ensures c.deref.ensures.value
     (omega (arith, c.len.ensures, c.self.inside.handle_registers.ok.0))
     (c.deref-2.ensures.value ∙ c.in_ok-held.ensures) in
-    tells-found f c.self.invariant c.args.self.now c.self.view_is c.args.goal
+    returns-found f c.self.invariant c.args.self.now c.self.view_is c.args.goal
     (in_heap f c.args.self.now c.self.view_is c.self.invariant c.args.goal c.requires) _ is _
     (subst (Found f c.self.invariant c.args.goal c.deref-3.result.now) c.in-Some.is c.in_ok-chain.ensures)
     c.at.result c.at.ensures c.id.result c.id.ensures.identity c.len-in-Some.result c.len-in-Some.ensures
@@ -42,7 +42,7 @@ returns c =
     c.statics-statics.ensures c.deref.ensures.value
     (omega (arith, c.len.ensures, c.self.inside.handle_registers.ok.0))
     (c.deref-2.ensures.value ∙ c.in_ok-held.ensures) in
-    tells-unrooted f c.self.invariant c.args.self.now c.self.view_is c.args.goal
+    returns-unrooted f c.self.invariant c.args.self.now c.self.view_is c.args.goal
     (in_heap f c.args.self.now c.self.view_is c.self.invariant c.args.goal c.requires)
     (subst (λ xs. Found f c.self.invariant c.args.goal xs None) is
     (subst (Found f c.self.invariant c.args.goal c.deref-3.result.now) c.in-None.is c.in_ok-chain.ensures))

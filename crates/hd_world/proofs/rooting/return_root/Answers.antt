@@ -1,9 +1,10 @@
-use Rattle.hd_world.proofs.AddressSteps.{root-told, root-refused}
-use Rattle.hd_world.proofs.rooting.tell_root.Goals as goal
+use Rattle.hd_world.proofs.AddressSteps.{root-returned, root-refused}
+use Rattle.hd_world.proofs.rooting.return_root.Goals as goal
 
 pub returns-in_ok-root_of-in-Ok : goal.returns-in_ok-root_of-in-Ok
 returns-in_ok-root_of-in-Ok c =
-    root-told c.args.store.now c.args.caller c.args.r _ c.in-Ok.ensures.value _ c.in_ok-root_of-in-Ok.ensures
+    root-returned c.args.store.now c.args.caller c.args.r _ c.in-Ok.ensures.value _
+    c.in_ok-root_of-in-Ok.ensures
     c.of.result c.of.ensures
 
 pub returns-in-Err : goal.returns-in-Err
