@@ -1,4 +1,4 @@
--- A full line tells its entry.
+-- A full line determines its entry.
 use Rattle.hd_print.proofs.Basics.{All, Entry, drop, List, Option, Some, None, [], ap, arith, codes, decimal, get_or, leb, leb-true, ne_eqb, refl, slice_split, sym, ℕ, ◌*◌, ◌++◌, ◌+◌, ◌/◌, ◌%◌, ◌<◌, ◌==◌, ◌^◌, ◌∙◌, ◌∷◌, ◌≡◌, ◌≤◌, false}
 use Rattle.std.specs.Prelude.{unwrap_or, if◌then◌else◌}
 use Rattle.std.proofs.{lemmas.Bool.eq-eqb, lemmas.List.append_cancel_left, lemmas.List.Splits.slice_split_at, lemmas.List.Splits.slice_split_none}
@@ -13,7 +13,7 @@ use Rattle.hd_model.specs.declared.data.Refusal.TheVariants.{Null, BadField, Hea
 use Rattle.hd_model.specs.declared.data.Reply.TheVariants.{Done, Object, Nothing, Value, Generation, Place, Report, NoneQueued, Absent, Chain, Unrooted, Refused}
 use Rattle.hd_model.specs.Text.{identity_text}
 use Rattle.hd_model.specs.FullText.{full_line}
-use Rattle.hd_print.specs.EntryLines.{IsSmall, IsSmallId, IsSmallRefusal, IsSmallReply, IsSmallSlot, IsSmallGrowth, HasSmall, FullLinesTell}
+use Rattle.hd_print.specs.EntryLines.{IsSmall, IsSmallId, IsSmallRefusal, IsSmallReply, IsSmallSlot, IsSmallGrowth, HasSmall, FullLinesDetermineEntries}
 use Rattle.hd_print.proofs.Numerals.{value_again, digit_bytes}
 use Rattle.hd_print.proofs.LineWords.{all_fail}
 use Rattle.hd_print.proofs.FullWords.{identity_joined, reply_words, slot_words, growth_words, words_after, full_words, words_of_lines, full_line_words}
@@ -84,7 +84,8 @@ abbrev grown_in : List (List ℕ) → Grown
 grown_in [] = Zero
 grown_in ([] ∷ words) = Zero
 grown_in ((b ∷ digits) ∷ words) =
-    if b == 64 then grown_in words else if b == 43 then grown_by (cut_at 44 digits) else Back (value_of digits)
+    if b == 64 then grown_in words else if b == 43 then grown_by (cut_at 44 digits)
+    else Back (value_of digits)
 
 -- ---- they say what they were written for
 
@@ -97,7 +98,8 @@ no_mark byte n low small =
 cut_two : (byte m n : ℕ) → byte < 48 → IsSmall m → IsSmall n
     → cut_at byte (decimal m ++ byte ∷ decimal n) ≡ decimal m ∷ decimal n ∷ []
 cut_two byte m n low a b =
-    slice_split_at (λ b. b == byte) (decimal m) byte (decimal n) (no_mark byte m low a) (eq-eqb byte byte refl)
+    slice_split_at (λ b. b == byte) (decimal m) byte (decimal n) (no_mark byte m low a)
+    (eq-eqb byte byte refl)
     ∙ ap (λ (parts : List (List ℕ)). decimal m ∷ parts)
     (slice_split_none (λ b. b == byte) (decimal n) (no_mark byte n low b))
 
@@ -180,7 +182,7 @@ grown_again : (slot : Option Slot) (grown : Grown) → IsSmallGrowth grown
 grown_again None grown small = growth_again grown small
 grown_again (Some slot) grown small = growth_again grown small
 
--- the words of a full line tell its entry
+-- the words of a full line determine its entry
 module _ (d e : Entry) (m n : ℕ) (sd : HasSmall d m) (se : HasSmall e n)
     (same : full_line d m ≡ full_line e n) where
   words : full_words d m ≡ full_words e n
@@ -214,8 +216,8 @@ module _ (d e : Entry) (m n : ℕ) (sd : HasSmall d m) (se : HasSmall e n)
   growths = sym (grown_again d.slot d.grown sd.grown) ∙ ap grown_in rest
       ∙ grown_again e.slot e.grown se.grown
 
-  pub told : d.cmd ≡ e.cmd → (d ≡ e) × (m ≡ n)
-  told same_cmd = (
+  pub determined : d.cmd ≡ e.cmd → (d ≡ e) × (m ≡ n)
+  determined same_cmd = (
     λ i. record {
       caller = callers i;
       cmd = same_cmd i;
@@ -226,5 +228,5 @@ module _ (d e : Entry) (m n : ℕ) (sd : HasSmall d m) (se : HasSmall e n)
     numbers,
   )
 
-pub full_lines_tell : FullLinesTell
-full_lines_tell d e m n sd se same_cmd same = told d e m n sd se same same_cmd
+pub full_lines_determine_entries : FullLinesDetermineEntries
+full_lines_determine_entries d e m n sd se same_cmd same = determined d e m n sd se same same_cmd

@@ -10,7 +10,7 @@ use Rattle.hd_model.specs.FullText.{full_line, full_lines, end_of}
 use Rattle.hd_model.specs.Judged.{list_of, GoesAlong, IsWhole, AreRight, so_far, at_the_end}
 use Rattle.hd_model.specs.WellFormed.{IsWellFormed}
 use Rattle.hd_model.proofs.{OneState.one_state_after, StepChains.push, WellFormedSteps.step_keeps, WellFormedSteps.start_is_well_formed}
-use Rattle.hd_print.proofs.LineEndings.{numeral_tells}
+use Rattle.hd_print.proofs.LineEndings.{numeral_determines}
 use Rattle.hd_print.proofs.StepLines.{one_entry, line_parts}
 
 -- the number of the next line of a caller
@@ -18,7 +18,7 @@ abbrev pub next_number : ℕ → List Entry → ℕ
 next_number caller before = count_by (λ (other : Entry). other.caller == caller) before + 1
 
 -- the commands of a caller's part
-abbrev own : List Entry → ℕ → List Cmd
+abbrev pub own : List Entry → ℕ → List Cmd
 own entries caller = commands_of (part_of entries caller)
 
 own_here : (e : Entry) (es : List Entry) (c : ℕ) → c ≡ e.caller → own (e ∷ es) c ≡ e.cmd ∷ own es c
@@ -27,9 +27,10 @@ own_here e es c same =
 
 own_apart : (e : Entry) (es : List Entry) (c : ℕ) → (c ≡ e.caller → ⊥) → own (e ∷ es) c ≡ own es c
 own_apart e es c other =
-    ap (λ b. commands_of (cond b (e ∷ part_of es c) (part_of es c))) (ne_eqb e.caller c (λ same. other (sym same)))
+    ap (λ b. commands_of (cond b (e ∷ part_of es c) (part_of es c)))
+    (ne_eqb e.caller c (λ same. other (sym same)))
 
-own-append : (xs ys : List Entry) (c : ℕ) → own (xs ++ ys) c ≡ own xs c ++ own ys c
+pub own-append : (xs ys : List Entry) (c : ℕ) → own (xs ++ ys) c ≡ own xs c ++ own ys c
 own-append xs ys c =
     ap commands_of (filter-append (λ (e : Entry). e.caller == c) xs ys)
     ∙ map-append (λ (e : Entry). e.cmd) (part_of xs c) (part_of ys c)
@@ -42,7 +43,7 @@ same_callers : (n : Numbers) (s t u : State) (d e : Entry) (i j : ℕ) → n.cal
 same_callers n s t u d e i j few a b same =
     let known_d = a.caller in
     let known_e = b.caller in
-    (numeral_tells d.caller e.caller _ _ (omega arith) (omega arith) refl refl
+    (numeral_determines d.caller e.caller _ _ (omega arith) (omega arith) refl refl
     (sym (line_parts d i) ∙ same ∙ line_parts e j)).0
 
 module _ (n : Numbers) (callers : n.callers < 2 ^ 64) (blocks : n.blocks < 2 ^ 32) where
@@ -119,7 +120,8 @@ numbered_more make before [] e =
     ap (λ (b : List Entry). make e (next_number e.caller b) ∷ []) (sym (append-nil before))
 numbered_more make before (x ∷ xs) e =
     ap (λ l. make x (next_number x.caller before) ∷ l) (numbered_more make (before ++ x ∷ []) xs e
-    ∙ ap (λ (b : List Entry). numbered_after make (before ++ x ∷ []) xs ++ make e (next_number e.caller b) ∷ [])
+    ∙ ap (λ (b : List Entry). numbered_after make (before ++ x ∷ []) xs
+    ++ make e (next_number e.caller b) ∷ [])
     (append_assoc before (x ∷ []) xs))
 
 pub lines_more : (journal : List Entry) (e : Entry)
@@ -131,12 +133,13 @@ pub goes_on : {n : Numbers} {lists : List (List Cmd)} {journal : List Entry} {s 
     {left after : ℕ → List Cmd} → GoesAlong n lists journal s left → Step n s e t
     → left e.caller ≡ e.cmd ∷ after e.caller → ((c : ℕ) → (c ≡ e.caller → ⊥) → left c ≡ after c)
     → GoesAlong n lists (journal ++ e ∷ []) t after
-goes_on {lists = lists} {journal = journal} {e = e} {left = left} {after = after} along step next apart = record {
-  run = push along.run step;
-  parts = λ c. along.parts c ∙ ap (λ (l : List Cmd). own journal c ++ l) (rest c)
-      ∙ sym (append_assoc (own journal c) (own (e ∷ []) c) (after c))
-      ∙ ap (λ (l : List Cmd). l ++ after c) (sym (own-append journal (e ∷ []) c));
-}
+goes_on {lists = lists} {journal = journal} {e = e} {left = left} {after = after} along step next apart
+    = record {
+      run = push along.run step;
+      parts = λ c. along.parts c ∙ ap (λ (l : List Cmd). own journal c ++ l) (rest c)
+          ∙ sym (append_assoc (own journal c) (own (e ∷ []) c) (after c))
+          ∙ ap (λ (l : List Cmd). l ++ after c) (sym (own-append journal (e ∷ []) c));
+    }
   where
     rest : (c : ℕ) → left c ≡ own (e ∷ []) c ++ after c
     rest c = ⊎_elim (λ same. subst (λ k. left k ≡ own (e ∷ []) k ++ after k) (sym same)
@@ -206,7 +209,8 @@ module _ {n : Numbers} {lists : List (List Cmd)} {journal : List Entry} {s : Sta
       same = one_run callers blocks shorter along parts.0
 
       next : list_of lists e.caller ≡ own journal e.caller ++ e.cmd ∷ other e.caller
-      next = shorter.parts e.caller ∙ ap (λ (b : List Entry). own b e.caller ++ (own (e ∷ []) e.caller ++ other e.caller)) same.0
+      next = shorter.parts e.caller
+          ∙ ap (λ (b : List Entry). own b e.caller ++ (own (e ∷ []) e.caller ++ other e.caller)) same.0
           ∙ ap (λ (l : List Cmd). own journal e.caller ++ (l ++ other e.caller)) (own_here e [] e.caller refl)
 
   by_lines : (lines : List (List ℕ)) → AreRight n lists lines → lines ≡ full_lines journal ++ line ∷ []
@@ -216,7 +220,11 @@ module _ {n : Numbers} {lists : List (List Cmd)} {journal : List Entry} {s : Sta
       by : (k : List Entry) → Ending k → GoesAlong n lists k t other
           → full_lines k ≡ full_lines journal ++ line ∷ [] → IsNextLine n lists journal s line
       by [] nothing whole none =
-          absurd (omega (arith, ap (λ (l : List (List ℕ)). length l) none, length-append (full_lines journal) (line ∷ [])))
+          absurd (omega (
+            arith,
+            ap (λ (l : List (List ℕ)). length l) none,
+            length-append (full_lines journal) (line ∷ []),
+          ))
       by _ (one_last es e) whole more = by_entry es e whole more
   by_lines _ (at_the_end {journal = j} {s = t} whole) lines =
       let parts = same_from_push (full_lines j) (full_lines journal) (end_of j t) line lines in

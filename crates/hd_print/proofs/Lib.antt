@@ -9,3 +9,4 @@ pub mod FullLineReadBack
 pub mod LineEndings
 pub mod StepLines
 pub mod JudgedRuns
+pub mod RightLines

@@ -16,7 +16,7 @@ use Rattle.hd_model.specs.declared.data.Reply.TheVariants as reply
 use Rattle.hd_model.specs.State.{Numbers, Handle, State, register_of, handle_register_of, handle_at, first_slot, IsFree, IsAllFree, with_place}
 use Rattle.hd_model.specs.Role.{pins}
 use Rattle.hd_model.specs.Places.{IsFreePlace, MayAnswer}
-use Rattle.hd_model.specs.Anchors.{TellsRoot}
+use Rattle.hd_model.specs.Anchors.{ReturnsRoot}
 use Rattle.hd_model.specs.Command.{Outcome, answers, refuses, new_object, answer_place, answer_root}
 use Rattle.hd_model.specs.Step.{IsOutcome, MayGive, AnswersPlace, DoesCollect, AnswersRoot, pinned_by, pinned_target, Way, decided, makes_object, makes_handle, collects, answers_place, gives_back, adds_entry, answers_root, way_of, TakesWay, Step}
 use Rattle.hd_model.specs.Text.{reply_text}
@@ -24,7 +24,7 @@ use Rattle.hd_model.specs.FullText.{full_line}
 use Rattle.hd_model.specs.WellFormed.{IsWellFormed}
 use Rattle.hd_model.proofs.{Collections.one_collection, AnchorChains.one_root, WellFormedSteps.first_block}
 use Rattle.hd_print.specs.EntryLines.{IsSmall, IsSmallSlot, IsSmallGrowth}
-use Rattle.hd_print.proofs.LineEndings.{slot_end, slot_off, numeral_tells, ending_tells}
+use Rattle.hd_print.proofs.LineEndings.{slot_end, slot_off, numeral_determines, ending_determines}
 
 -- ---- what the line has after the number
 
@@ -49,14 +49,16 @@ module _ (x y : Entry) (same : after_number x ≡ after_number y) where
       let heads = ap (λ (bytes : List ℕ). get_or bytes 0 0) (replied _ _ a b) in absurd (omega (arith, heads))
 
   -- values and addresses are the same
-  values_tell : (m n : ℕ) → IsSmall m → IsSmall n → x.reply ≡ reply.Value m → y.reply ≡ reply.Value n → m ≡ n
-  values_tell m n small_m small_n a b =
-      (numeral_tells m n _ _ small_m small_n (slot_off x.slot x.grown) (slot_off y.slot y.grown)
+  values_determined : (m n : ℕ) → IsSmall m → IsSmall n → x.reply ≡ reply.Value m → y.reply ≡ reply.Value n
+      → m ≡ n
+  values_determined m n small_m small_n a b =
+      (numeral_determines m n _ _ small_m small_n (slot_off x.slot x.grown) (slot_off y.slot y.grown)
       (ap (drop 6) (replied _ _ a b))).0
 
-  places_tell : (p q : ℕ) → IsSmall p → IsSmall q → x.reply ≡ reply.Place p → y.reply ≡ reply.Place q → p ≡ q
-  places_tell p q small_p small_q a b =
-      (numeral_tells p q _ _ small_p small_q (slot_off x.slot x.grown) (slot_off y.slot y.grown)
+  places_determined : (p q : ℕ) → IsSmall p → IsSmall q → x.reply ≡ reply.Place p → y.reply ≡ reply.Place q
+      → p ≡ q
+  places_determined p q small_p small_q a b =
+      (numeral_determines p q _ _ small_p small_q (slot_off x.slot x.grown) (slot_off y.slot y.grown)
       (ap (drop 5) (replied _ _ a b))).0
 
 -- ---- what `addr` answers
@@ -116,7 +118,7 @@ module _ (n : Numbers) (s : State) (d e : Entry) (t u : State) (w : IsWellFormed
   by_ending : (r : Reply) → d.reply ≡ r → e.reply ≡ r → IsSmallSlot d.slot → IsSmallSlot e.slot
       → IsSmallGrowth d.grown → IsSmallGrowth e.grown → IsAlike d e
   by_ending r a b small_d small_e grown_d grown_e =
-      let parts = ending_tells d.slot e.slot d.grown e.grown small_d small_e grown_d grown_e
+      let parts = ending_determines d.slot e.slot d.grown e.grown small_d small_e grown_d grown_e
       (append_cancel_left (reply_text r) _ _ (replied d e same r r a b)) in
       record { slot = parts.0; grown = parts.1; reply = a ∙ sym b }
 
@@ -133,7 +135,8 @@ module _ (n : Numbers) (s : State) (d e : Entry) (t u : State) (w : IsWellFormed
       let high = may.1.high in let first : slot.0 ≡ block * 64 = ap (λ (x : Slot). x.0) may.3 in omega arith
   slot_fits kind (Back block) slot may = absurd may
 
-  growth_fits : (kind : Kind) (grown : Grown) (slot : Slot) → MayGive n s kind grown slot → IsSmallGrowth grown
+  growth_fits : (kind : Kind) (grown : Grown) (slot : Slot) → MayGive n s kind grown slot
+      → IsSmallGrowth grown
   growth_fits kind Zero slot may = tt
   growth_fits kind (One block) slot may = let high = may.1.high in omega arith
   growth_fits kind (Two block other) slot may =
@@ -176,9 +179,10 @@ module _ (n : Numbers) (s : State) (d e : Entry) (t u : State) (w : IsWellFormed
       (subst IsSmallSlot (sym x.slot) tt) (subst IsSmallSlot (sym y.slot) tt)
       (subst IsSmallGrowth (sym x.grown) (block_fits kind x.block x.free))
       (subst IsSmallGrowth (sym y.grown) (block_fits kind y.block y.free)))
-      (λ y. let one : 1 ≡ 0 = values_tell d e same 1 0 (omega arith) (omega arith) x.reply y.reply in
+      (λ y. let one : 1 ≡ 0 = values_determined d e same 1 0 (omega arith) (omega arith) x.reply y.reply in
       absurd (omega arith)) b)
-      (λ x. ⊎_elim (λ y. let one : 1 ≡ 0 = values_tell e d (sym same) 1 0 (omega arith) (omega arith) y.reply
+      (λ x. ⊎_elim (λ y. let one : 1 ≡ 0 = values_determined e d (sym same) 1 0 (omega arith) (omega arith)
+      y.reply
       x.reply in absurd (omega arith))
       (λ y. by_outcomes _ _ refl x y) b) a
 
@@ -188,7 +192,7 @@ module _ (n : Numbers) (s : State) (d e : Entry) (t u : State) (w : IsWellFormed
       → MatchOption o (IsFreePlace s id q) (λ own. q ≡ own) → p ≡ q
   one_place None id p q a b f g =
       let low = f.small in let high = g.small in
-      places_tell d e same p q (omega arith) (omega arith) a b
+      places_determined d e same p q (omega arith) (omega arith) a b
   one_place (Some own) id p q a b f g = f ∙ sym g
 
   by_place : (h : ℕ) → AnswersPlace s d t h → AnswersPlace s e u h → IsAlike d e
@@ -198,30 +202,32 @@ module _ (n : Numbers) (s : State) (d e : Entry) (t u : State) (w : IsWellFormed
       moved = ap (λ c. answer_place s c h b.place) callers
 
       may : (id : Id) → pinned_target s d.caller h ≡ Some id → MayAnswer s id b.place
-      may = subst (λ c. (id : Id) → pinned_target s c h ≡ Some id → MayAnswer s id b.place) (sym callers) b.may
+      may = subst (λ c. (id : Id) → pinned_target s c h ≡ Some id → MayAnswer s id b.place) (sym callers)
+          b.may
 
       by : PlaceCase s (pinned_target s d.caller h) (answer_place s d.caller h) → IsAlike d e
       by (alike f) = by_outcomes _ _ (f a.place b.place ∙ moved) a.outcome b.outcome
-      by (names id target returns) =
+      by (names id target is_root) =
           let first : d.reply ≡ reply.Place a.place =
-          a.outcome.reply ∙ ap (λ (o : Outcome). o.reply) (returns a.place) in
+          a.outcome.reply ∙ ap (λ (o : Outcome). o.reply) (is_root a.place) in
           let second : e.reply ≡ reply.Place b.place =
-          b.outcome.reply ∙ ap (λ (o : Outcome). o.reply) (sym moved ∙ returns b.place) in
+          b.outcome.reply ∙ ap (λ (o : Outcome). o.reply) (sym moved ∙ is_root b.place) in
           let places : a.place ≡ b.place =
           one_place (get s.places id.0) id a.place b.place first second (a.may id target) (may id target) in
           by_outcomes _ _ (ap (answer_place s d.caller h) places ∙ moved) a.outcome b.outcome
 
   by_root : (r : ℕ) → AnswersRoot s d t r → AnswersRoot s e u r → IsAlike d e
   by_root r a b = by_outcomes _ _
-      (by (register_of s d.caller r) a.tells tells ∙ ap (λ c. answer_root s c r b.found) callers)
+      (by (register_of s d.caller r) a.is_root is_root ∙ ap (λ c. answer_root s c r b.found) callers)
       a.outcome b.outcome
     where
-      tells : (goal : Id) → register_of s d.caller r ≡ Some goal → TellsRoot s goal b.found
-      tells = subst (λ c. (goal : Id) → register_of s c r ≡ Some goal → TellsRoot s goal b.found) (sym callers)
-          b.tells
+      is_root : (goal : Id) → register_of s d.caller r ≡ Some goal → ReturnsRoot s goal b.found
+      is_root = subst (λ c. (goal : Id) → register_of s c r ≡ Some goal → ReturnsRoot s goal b.found)
+          (sym callers)
+          b.is_root
 
-      by : (o : Option Id) → ((goal : Id) → o ≡ Some goal → TellsRoot s goal a.found)
-          → ((goal : Id) → o ≡ Some goal → TellsRoot s goal b.found)
+      by : (o : Option Id) → ((goal : Id) → o ≡ Some goal → ReturnsRoot s goal a.found)
+          → ((goal : Id) → o ≡ Some goal → ReturnsRoot s goal b.found)
           → option_map_or (λ _. answers a.found s) o (refuses refusal.Null s)
           ≡ option_map_or (λ _. answers b.found s) o (refuses refusal.Null s)
       by None f g = refl

@@ -1,4 +1,4 @@
--- The line of an entry and the lines of a journal, plain or full; and what a full line tells.
+-- The line of an entry and the lines of a journal, plain or full; and what a full line determines.
 use Rattle.std.specs.Prelude.{◌≡◌, ℕ, ◌<◌, ◌/◌, ◌^◌, Bool, true, false, List, [], Option, Some, None}
 use Rattle.std.specs.List.{concat}
 use Rattle.hd_model.specs.declared.data.Id.{Id}
@@ -72,8 +72,8 @@ pub record HasSmall (e : Entry) (index : ℕ) : Type 0 where
   pub slot : IsSmallSlot e.slot
   pub grown : IsSmallGrowth e.grown
 
--- for a given command the full line tells the entry and its number
-abbrev pub FullLinesTell : Type 0
-FullLinesTell =
+-- for a given command the full line determines the entry and its number
+abbrev pub FullLinesDetermineEntries : Type 0
+FullLinesDetermineEntries =
     (d e : Entry) (m n : ℕ) → HasSmall d m → HasSmall e n → d.cmd ≡ e.cmd → full_line d m ≡ full_line e n
     → (d ≡ e) × (m ≡ n)

@@ -34,7 +34,8 @@ loop-i-preserved g c =
     let its_line = c.as_bytes.ensures ∙ c.set_line.ensures in record {
       lines = took_line c.args.journal.now.entries loop.i c.entry-entry.result (omega arith)
           c.entry-entry.ensures c.requires loop.counts loop.invariant.counts number.result
-          number.ensures.number (line_by c.args.full) _ _ _ c.as_bytes.result.now loop.invariant.lines its_line
+          number.ensures.number (line_by c.args.full) _ _ _ c.as_bytes.result.now loop.invariant.lines
+          its_line
           c.in_ok-write_all.ensures.all;
       counts = counts_more c.args.journal.now.entries loop.i c.entry-entry.result (omega arith)
           c.entry-entry.ensures c.requires loop.counts loop.invariant.counts number.result
