@@ -1,5 +1,5 @@
 -- The value of decimal digits, from left to right.
-use Rattle.hd_script.proofs.Basics.{List, None, Some, [], and_from, and_right, arith, at_drop_more, cond-false, cond-true, drop, false, fold, get_or, is_ascii_digit, le-leb, leb, length, list_all, lt-leb, lt-ltb, ltb, sym, true, value_of, ℕ, ◌&&◌, ◌*◌, ◌+◌, ◌-◌, ◌<◌, ◌∙◌, ◌∷◌, ◌≡◌, ◌≤◌}
+use Rattle.hd_script.proofs.Basics.{List, None, Some, [], and_right, arith, at_drop_more, cond-false, drop, false, fold, get_or, is_ascii_digit, leb, length, list_all, lt-leb, ltb, sym, value_of, ℕ, ◌&&◌, ◌*◌, ◌+◌, ◌-◌, ◌<◌, ◌∙◌, ◌∷◌, ◌≡◌, ◌≤◌}
 use Rattle.hd_model.specs.Grammar.{number_of}
 
 -- one more digit after those of a number

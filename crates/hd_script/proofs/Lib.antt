@@ -15,3 +15,4 @@ pub mod LoadStep
 pub mod LoadRun
 pub mod LoadCount
 pub mod LoadLine
+pub mod DividingLines

@@ -50,10 +50,10 @@ parts p xs i e within =
 take_more : (x n : ℕ) (xs : List ℕ) → take (1 + n) (x ∷ xs) ≡ x ∷ take n xs
 take_more x n xs = let more : 1 + n ≡ suc n = omega arith in ap (λ (m : ℕ). take m (x ∷ xs)) more
 
-first_passes : (p : ℕ → Bool) (x : ℕ) (xs : List ℕ) → p x ≡ true → before_first p (x ∷ xs) ≡ []
+pub first_passes : (p : ℕ → Bool) (x : ℕ) (xs : List ℕ) → p x ≡ true → before_first p (x ∷ xs) ≡ []
 first_passes p x xs e = ap (λ (b : Bool). take (cond (not b) (1 + position_or_len p xs) 0) (x ∷ xs)) e
 
-first_fails : (p : ℕ → Bool) (x : ℕ) (xs : List ℕ) → p x ≡ false
+pub first_fails : (p : ℕ → Bool) (x : ℕ) (xs : List ℕ) → p x ≡ false
     → before_first p (x ∷ xs) ≡ x ∷ before_first p xs
 first_fails p x xs e =
     ap (λ (b : Bool). take (cond (not b) (1 + position_or_len p xs) 0) (x ∷ xs)) e

@@ -4,3 +4,4 @@ pub mod Lists
 pub mod Fault
 pub mod Laws
 pub mod Load
+pub mod AuditInput

@@ -2,6 +2,7 @@
 //! commands for each caller.
 #![tactic(auto)]
 
+mod audit;
 mod fault;
 mod generated;
 mod laws;
@@ -12,6 +13,7 @@ mod reading;
 mod scripts;
 mod text;
 
+pub use audit::parse_audit;
 pub use fault::ScriptFault;
 pub use generated::generate;
 pub use laws::{faults_come_first, lines_make_the_bytes, lists_follow_the_lines, words_decide};

@@ -317,8 +317,8 @@ fn fin(word: &[u8]) -> Option<bool>
     }
 }
 
-// Whether a word is this text.
-fn spells(word: &[u8], text: &str) -> bool
+/// Whether a word is this text.
+pub(crate) fn spells(word: &[u8], text: &str) -> bool
     ensures { result ≡ bytes_eq word.now text.now }
 {
     let letters = text.as_bytes();
