@@ -1,0 +1,30 @@
+-- An idle slot of the weak table, and a block whose slots are all free.
+use Rattle.std.proofs.Common.{Some, ap, arith, is_some, subst, sym, ℕ, ◌*◌, ◌/◌, ◌<◌, ◌∙◌, ◌≡◌, ◌≤◌}
+use Rattle.std.specs.FinMap.{get}
+use Rattle.hd_model.specs.declared.data.Kind.{Kind}
+use Rattle.hd_model.specs.declared.data.Slot.{Slot}
+use Rattle.hd_model.specs.Command.{idle_slot}
+use Rattle.hd_model.specs.State.{BlockUse, Numbers, State, IsAllFree, first_slot, handles_of, use_of}
+use Rattle.hd_model.specs.WellFormed.{IsWellFormed}
+use Rattle.hd_model.proofs.WeakSlots.{idle_found}
+use Rattle.hd_audit.specs.Inside.{IsUnnamed, slots_of}
+
+module _ (n : Numbers) (s : State) (w : IsWellFormed n s) where
+  used_low : (slot : ℕ) (u : BlockUse) → use_of s (slot / 64) ≡ Some u → slot < slots_of n.blocks
+  used_low slot u is = omega (arith, (w.handles.blocks (slot / 64) (ap is_some is)).1)
+
+  -- an idle slot of the weak table
+  pub idle_is_low : (slot : Slot) → idle_slot s ≡ Some slot → slot.0 < slots_of n.blocks
+  idle_is_low slot e = used_low slot.0 _ (w.weak.kinds slot.0 (ap is_some (idle_found s slot e)))
+
+  pub idle_unnamed : (slot : Slot) → idle_slot s ≡ Some slot → IsUnnamed (get s.weak slot.0)
+  idle_unnamed slot e = subst IsUnnamed (sym (idle_found s slot e)) tt
+
+  -- a block whose slots are all free
+  pub all_free_of : (k : Kind) (block : ℕ) → IsAllFree s k block → use_of s block ≡ Some (handles_of k)
+  all_free_of k block free =
+      let at : (block * 64) / 64 ≡ block = omega arith in
+      ap (use_of s) (sym at) ∙ (free (first_slot block) at).of_kind
+
+  pub all_free_low : (k : Kind) (block : ℕ) → IsAllFree s k block → block ≤ n.blocks
+  all_free_low k block free = (w.handles.blocks block (ap is_some (all_free_of k block free))).1

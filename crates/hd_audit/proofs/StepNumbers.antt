@@ -1,0 +1,313 @@
+-- The numbers of a step's entry that are read off its line are below 2^32.
+use Rattle.std.proofs.Common.{cond, IsSome, List, MatchOption, None, Option, Some, [], ap, arith, is_some, refl, subst, sym, true, true≢false, ℕ, ⊎_elim, ◌&&◌, ◌*◌, ◌+◌, ◌<◌, ◌==◌, ◌^◌, ◌∙◌, ◌∷◌, ◌≡◌, ◌≤◌, nat_lt, length, option_and_then, unwrap_or}
+use Rattle.std.specs.Option.{option_map_or}
+use Rattle.std.proofs.lemmas.Option.{none-some, same_Some}
+use Rattle.std.specs.FinMap.{get}
+use Rattle.hd_model.specs.declared.command.Cmd.{Cmd}
+use Rattle.hd_model.specs.declared.data.Entry.{Entry}
+use Rattle.hd_model.specs.declared.data.Grown.{Grown}
+use Rattle.hd_model.specs.declared.data.Id.{Id}
+use Rattle.hd_model.specs.declared.data.Kind.{Kind}
+use Rattle.hd_model.specs.declared.data.Refusal.{Refusal}
+use Rattle.hd_model.specs.declared.data.Reply.{Reply}
+use Rattle.hd_model.specs.declared.data.Slot.{Slot}
+use Rattle.hd_model.specs.declared.command.Cmd.TheVariants as cmd
+use Rattle.hd_model.specs.declared.data.Grown.TheVariants.{Zero, One, Two, Back}
+use Rattle.hd_model.specs.declared.data.Kind.TheVariants as kind
+use Rattle.hd_model.specs.declared.data.Reply.TheVariants as reply
+use Rattle.hd_model.specs.declared.data.Refusal.TheVariants as refusal
+use Rattle.hd_model.specs.Anchors.{ReturnsRoot}
+use Rattle.hd_model.specs.Command.{Outcome, add_entry, adding_key, answers, idle_slot, in_idle, in_new, is_refused, loaded, on_field, on_handle, on_handle_of, on_object, refuses, slot_of_key, take_first}
+use Rattle.hd_model.specs.Places.{IsFreePlace, MayAnswer}
+use Rattle.hd_model.specs.Role.{pins}
+use Rattle.hd_model.specs.State.{Handle, IsAllFree, IsFree, Numbers, State, block_of, count_of, first_slot, handle_at, handle_register_of, object_by_id, register_of, total_size, use_of}
+use Rattle.hd_model.specs.Step.{AnswersPlace, FindsTableFull, IsOutcome, MayGive, Step, TakesWay, Way, adds_entry, answers_place, answers_root, collects, decided, gives_back, makes_handle, makes_object, pinned_by, pinned_target, way_of, way_of_adding}
+use Rattle.hd_model.specs.UserLaws.{HasPlacesApart}
+use Rattle.hd_model.specs.WellFormed.{IsWellFormed}
+use Rattle.hd_model.specs.Kinds.{is_kind, kind_of}
+use Rattle.hd_model.proofs.WeakSlots.{idle_found}
+use Rattle.hd_model.proofs.Outcomes.{on_field_cases, on_handle_cases, on_handle_of_cases, on_object_cases, option_cases, test_cases}
+use Rattle.hd_audit.proofs.ChoiceLines.{IsLow, IsLowGrowth, IsLowSlot}
+
+-- the address in a reply
+abbrev place_of : Reply → Option ℕ
+place_of (reply.Place p) = Some p
+place_of (reply.Object id) = None
+place_of (reply.Value n) = None
+place_of (reply.Generation g) = None
+place_of (reply.Report r) = None
+place_of (reply.Chain from edges) = None
+place_of (reply.Refused r) = None
+place_of reply.Done = None
+place_of reply.Nothing = None
+place_of reply.NoneQueued = None
+place_of reply.Absent = None
+place_of reply.Unrooted = None
+
+loaded_is : (v : Option Id) → place_of (loaded v) ≡ None
+loaded_is None = refl
+loaded_is (Some id) = refl
+
+-- an outcome with a low slot and no address
+record IsPlain (o : Outcome) : Type 0 where
+  slot : IsLowSlot o.slot
+  reply : place_of o.reply ≡ None
+
+plain : (r : Reply) (s : State) → place_of r ≡ None → IsPlain (answers r s)
+plain r s is = record { slot = tt; reply = is }
+
+is_there : {A : Type 0} (x : Option A) (d : A) → IsSome x → x ≡ Some (unwrap_or x d)
+is_there None d h = absurd (true≢false (sym h))
+is_there (Some x) d h = refl
+
+root_is : {s : State} (goal : Id) (r : Reply) → ReturnsRoot s goal r → place_of r ≡ None
+root_is goal r is_root = ⊎_elim (λ chain. ap place_of chain.reply_is) (λ none. ap place_of none.1) is_root
+
+module _ (n : Numbers) (s : State) (w : IsWellFormed n s) (few : n.blocks ≤ 256) where
+  used_low : (slot : Slot) → IsSome (use_of s (block_of slot)) → slot.0 < 2 ^ 32
+  used_low slot used = let within = (w.handles.blocks (block_of slot) used).1 in omega (arith, within, few)
+
+  handle_low : (slot : Slot) (handle : Handle Id) → handle_at s slot ≡ Some handle → slot.0 < 2 ^ 32
+  handle_low slot handle is = used_low slot (ap is_some (w.handles.kinds slot.0 handle is))
+
+  weak_low : (slot : Slot) → IsSome (get s.weak slot.0) → slot.0 < 2 ^ 32
+  weak_low slot is = used_low slot (ap is_some (w.weak.kinds slot.0 is))
+
+  free_low : (wanted : Kind) (slot : Slot) → IsFree s wanted slot → slot.0 < 2 ^ 32
+  free_low wanted slot free = used_low slot (ap is_some free.of_kind)
+
+  first_low : (slot : Slot) (block : ℕ) → block ≤ n.blocks → slot ≡ first_slot block → slot.0 < 2 ^ 32
+  first_low slot block within is =
+      let number : slot.0 ≡ block * 64 = ap (λ (x : Slot). x.0) is in omega (arith, number, within, few)
+
+  given_low : (wanted : Kind) (grown : Grown) (slot : Slot) → MayGive n s wanted grown slot
+      → (slot.0 < 2 ^ 32) × IsLowGrowth grown
+  given_low wanted Zero slot may = (free_low wanted slot may, tt)
+  given_low wanted (One block) slot may =
+      (first_low slot block may.1.high may.2, omega (arith, may.1.high, few))
+  given_low wanted (Two block other) slot may = (
+    first_low slot block may.1.high may.3,
+    (omega (arith, may.1.high, few), omega (arith, may.2.high, few)),
+  )
+  given_low wanted (Back block) slot may = absurd may
+
+  all_free_low : (wanted : Kind) (block : ℕ) → IsAllFree s wanted block → block < 2 ^ 32
+  all_free_low wanted block free =
+      let same : block_of (first_slot block) ≡ block = omega arith in
+      let its_use = (free (first_slot block) same).of_kind in
+      let used : IsSome (use_of s block) =
+      subst (λ b. IsSome (use_of s b)) same (ap is_some its_use) in
+      omega (arith, (w.handles.blocks block used).1, few)
+
+  refused : (r : Refusal) → IsPlain (refuses r s)
+  refused r = plain (reply.Refused r) s refl
+
+  done : (t : State) → IsPlain (answers reply.Done t)
+  done t = plain reply.Done t refl
+
+  load : (v : Option Id) (t : State) → IsPlain (answers (loaded v) t)
+  load v t = plain (loaded v) t (loaded_is v)
+
+  taken : (caller d : ℕ) (queue : List Id) → IsPlain (take_first s caller d queue)
+  taken caller d [] = plain reply.NoneQueued _ refl
+  taken caller d (id ∷ rest) = plain (reply.Object id) _ refl
+
+  -- what the state alone decides has a low slot and no address
+  module _ (caller : ℕ) where
+    on_one : (o : ℕ) (act : Id → Outcome) → ((id : Id) → IsPlain (act id))
+        → IsPlain (on_object s caller o act)
+    on_one o act each = on_object_cases IsPlain s caller o act (λ _. refused _) (λ id _. each id)
+
+    on_part : (o i : ℕ) (act : Id → Outcome) → ((id : Id) → IsPlain (act id))
+        → IsPlain (on_field s caller o i act)
+    on_part o i act each =
+        on_field_cases IsPlain s caller o i act (λ _. refused _) (λ _ _ _. refused _) (λ id _ _. each id)
+
+    on_row : (h : ℕ) (act : Slot → Handle Id → Outcome)
+        → ((slot : Slot) (handle : Handle Id) → handle_at s slot ≡ Some handle → IsPlain (act slot handle))
+        → IsPlain (on_handle s caller h act)
+    on_row h act each =
+        on_handle_cases IsPlain s caller h act (λ _. refused _) (λ _ _ _. refused _)
+        (λ slot handle _ live. each slot handle live)
+
+    on_kind : (h : ℕ) (wanted : Kind) (act : Slot → Handle Id → Outcome)
+        → ((slot : Slot) (handle : Handle Id) → IsPlain (act slot handle))
+        → IsPlain (on_handle_of s caller h wanted act)
+    on_kind h wanted act each =
+        on_handle_of_cases IsPlain s caller h wanted act (λ _. refused _) (λ _ _ _. refused _)
+        (λ _ _ _ _ _. refused _) (λ slot handle _ _ _. each slot handle)
+
+    -- a way that the state alone decides
+    abbrev IsPlainWay : Way → Type 0
+    IsPlainWay (decided o) = IsPlain o
+    IsPlainWay (makes_object d fields fin) = Unit {0}
+    IsPlainWay (makes_handle d make t) = Unit {0}
+    IsPlainWay (collects k) = Unit {0}
+    IsPlainWay (answers_place h) = Unit {0}
+    IsPlainWay (gives_back wanted) = Unit {0}
+    IsPlainWay (adds_entry v key) = Unit {0}
+    IsPlainWay (answers_root r) = Unit {0}
+
+    added_in : (v : ℕ) (key : Id) (slot : Slot) → idle_slot s ≡ Some slot
+        → IsPlain (add_entry s caller v slot key)
+    added_in v key slot is =
+        record { slot = weak_low slot (ap is_some (idle_found s slot is)); reply = refl }
+
+    adding : (v : ℕ) (o : Option Id) → IsPlainWay (way_of_adding s caller v
+        (option_map_or (adding_key s) o (is_refused refusal.Null)))
+    adding v None = refused _
+    adding v (Some key) =
+        option_cases (λ a. IsPlainWay (way_of_adding s caller v a)) (λ _. is_refused refusal.Present)
+        (slot_of_key s key) _
+        (λ _. option_cases (λ a. IsPlainWay (way_of_adding s caller v a)) (λ slot. in_idle slot key)
+        (idle_slot s) (in_new key) (λ _. tt) (λ slot is. added_in v key slot is))
+        (λ _ _. refused _)
+
+    way_plain : (c : Cmd) → IsPlainWay (way_of s caller c)
+    way_plain (cmd.New d fields fin) = tt
+    way_plain (cmd.Set o i v) = on_part o i _ (λ id. done _)
+    way_plain (cmd.Get d o i) = on_part o i _ (λ id. load _ _)
+    way_plain (cmd.Val o v) = on_one o _ (λ id. done _)
+    way_plain (cmd.Read o) = on_one o _ (λ id. plain _ s refl)
+    way_plain (cmd.Copy d r) = done _
+    way_plain (cmd.Clear d) = done _
+    way_plain (cmd.SPut k r) = done _
+    way_plain (cmd.SGet d k) = load _ _
+    way_plain (cmd.Gen o) = on_one o _ (λ id. plain _ s refl)
+    way_plain (cmd.Suppress o) = on_one o _ (λ id. done _)
+    way_plain (cmd.Reregister o) = on_one o _ (λ id. done _)
+    way_plain (cmd.Final d) = taken caller d s.queue
+    way_plain (cmd.Collect k) = tt
+    way_plain (cmd.HNew d make t) = tt
+    way_plain (cmd.HGet d h) = on_row h _ (λ slot handle _. load _ _)
+    way_plain (cmd.HSet h t) =
+        on_row h _ (λ slot handle _. test_cases IsPlain (is_kind handle.kind kind.Dependent
+        && is_some (register_of s caller t)) _ _ (λ _. refused _) (λ _. done _))
+    way_plain (cmd.HSec h r) =
+        on_kind h kind.Dependent _
+        (λ slot handle. option_cases IsPlain _ handle.target _ (λ _. refused _) (λ _ _. done _))
+    way_plain (cmd.HDep d h) = on_kind h kind.Dependent _ (λ slot handle. load _ _)
+    way_plain (cmd.HVar h given) = on_kind h kind.Variable _ (λ slot handle. done _)
+    way_plain (cmd.HFree h) =
+        on_row h _ (λ slot handle live. record { slot = handle_low slot handle live; reply = refl })
+    way_plain (cmd.HPut k h) = done _
+    way_plain (cmd.HPick d k) = done _
+    way_plain (cmd.AddrOf h) = tt
+    way_plain (cmd.HUp h) = on_kind h kind.Counted _ (λ slot handle. plain _ _ refl)
+    way_plain (cmd.HDown h) =
+        on_kind h kind.Counted _ (λ slot handle. test_cases IsPlain (count_of handle.extra == 0) _ _
+        (λ _. refused _) (λ _. plain _ _ refl))
+    way_plain (cmd.Trim wanted) = tt
+    way_plain (cmd.CAdd k v) = adding v (register_of s caller k)
+    way_plain (cmd.CFind d k) =
+        on_one k _ (λ key. option_cases IsPlain _ (slot_of_key s key) _ (λ _. plain _ _ refl)
+        (λ _ _. load _ _))
+    way_plain (cmd.CRemove k) =
+        on_one k _ (λ key. option_cases IsPlain _ (slot_of_key s key) _ (λ _. plain _ _ refl) (λ _ _. done _))
+    way_plain (cmd.GcRoot r) = tt
+
+  -- the numbers of an entry that are read off its line
+  record HasLow (e : Entry) : Type 0 where
+    slot : IsLowSlot e.slot
+    grown : IsLowGrowth e.grown
+    place : (p : ℕ) → e.reply ≡ reply.Place p → p < 2 ^ 32
+
+  no_place : (r : Reply) → place_of r ≡ None → (p : ℕ) → r ≡ reply.Place p → p < 2 ^ 32
+  no_place r is p place = absurd (none-some p (sym is ∙ ap place_of place))
+
+  of_plain : (e : Entry) (o : Outcome) (t : State) → IsPlain o → IsOutcome e o t → HasLow e
+  of_plain e o t low is = record {
+    slot = subst IsLowSlot (sym is.slot) low.slot;
+    grown = subst IsLowGrowth (sym is.grown) tt;
+    place = no_place e.reply (ap place_of is.reply ∙ low.reply);
+  }
+
+  of_given : (wanted : Kind) (e : Entry) (slot : Slot) → e.slot ≡ Some slot
+      → MayGive n s wanted e.grown slot → e.reply ≡ reply.Done → HasLow e
+  of_given wanted e slot is may replies =
+      let low = given_low wanted e.grown slot may in record {
+        slot = subst IsLowSlot (sym is) low.0;
+        grown = low.1;
+        place = no_place e.reply (ap place_of replies);
+      }
+
+  of_full : (wanted : Kind) (e : Entry) (t : State) → FindsTableFull n s e t wanted → HasLow e
+  of_full wanted e t full = of_plain e _ t (refused _) full.refused
+
+  module _ (apart : HasPlacesApart s) where
+    may_low : (id : Id) (p : ℕ) → MayAnswer s id p → p < 2 ^ 32
+    may_low id p may = by (get s.places id.0) refl may
+      where
+        by : (o : Option ℕ) → get s.places id.0 ≡ o
+            → MatchOption o (IsFreePlace s id p) (λ own. p ≡ own) → p < 2 ^ 32
+        by None none free = free.small
+        by (Some own) some same =
+            let object = object_by_id s id in
+            let low : own < 2 ^ 32 = apart.small id own (own + (length object.fields + 3)) (record {
+              object = object;
+              is_stored = is_there (get s.objects id.0) _ (w.names.places id.0 (ap is_some some));
+              place = some;
+              end_is = refl;
+            }) in
+            subst (λ k. k < 2 ^ 32) (sym same) low
+
+    -- `addr`
+    found : (caller h : ℕ) (slot : Slot) (handle : Handle Id) (id : Id)
+        → handle_register_of s caller h ≡ Some slot → handle_at s slot ≡ Some handle → pins handle ≡ true
+        → handle.target ≡ Some id → pinned_target s caller h ≡ Some id
+    found caller h slot handle id f g same target =
+        ap (option_and_then (λ x. pinned_by (handle_at s x))) f ∙ ap pinned_by g
+        ∙ ap (λ b. cond b handle.target None) same ∙ target
+
+    of_place : (e : Entry) (t : State) (h : ℕ) → AnswersPlace s e t h → HasLow e
+    of_place e t h a =
+        let Low : Outcome → Type 0 = λ o. IsOutcome e o t → HasLow e in
+        let lost : (r : Refusal) → Low (refuses r s) = λ r. of_plain e _ t (refused r) in
+        on_handle_cases Low s e.caller h _ (λ _. lost _) (λ _ _ _. lost _)
+        (λ slot handle f g. test_cases Low (pins handle) _ _
+        (λ same. option_cases Low _ handle.target _ (λ _. lost _)
+        (λ id target is. record {
+          slot = subst IsLowSlot (sym is.slot) tt;
+          grown = subst IsLowGrowth (sym is.grown) tt;
+          place = λ p placed. subst (λ k. k < 2 ^ 32)
+              (same_Some a.place p (sym (ap place_of is.reply) ∙ ap place_of placed))
+              (may_low id a.place (a.may id (found e.caller h slot handle id f g same target)));
+        })) (λ _. lost _)) a.outcome
+
+    of_way : (e : Entry) (t : State) (way : Way) → IsPlainWay e.caller way → TakesWay n s e t way → HasLow e
+    of_way e t (decided o) low is = of_plain e o t low is
+    of_way e t (makes_object d fields fin) low is =
+        of_plain e _ t (test_cases IsPlain (nat_lt n.heap (total_size s + (fields + 3))) _ _ (λ _. refused _)
+        (λ _. plain _ _ refl)) is.1
+    of_way e t (makes_handle d make r) low is =
+        ⊎_elim (λ m. of_given (kind_of make) e m.slot m.given m.may m.reply)
+        (of_full (kind_of make) e t) is
+    of_way e t (collects k) low is = record {
+      slot = subst IsLowSlot (sym is.slot) tt;
+      grown = subst IsLowGrowth (sym is.grown) tt;
+      place = no_place e.reply (ap place_of is.reply);
+    }
+    of_way e t (answers_place h) low is = of_place e t h is
+    of_way e t (gives_back wanted) low is =
+        ⊎_elim (λ g. record {
+          slot = subst IsLowSlot (sym g.slot) tt;
+          grown = subst IsLowGrowth (sym g.grown) (all_free_low wanted g.block g.free);
+          place = no_place e.reply (ap place_of g.reply);
+        }) (of_plain e _ t (plain _ s refl)) is
+    of_way e t (adds_entry v key) low is =
+        ⊎_elim (λ a. of_given kind.Dependent e a.slot a.given a.may a.reply)
+        (of_full kind.Dependent e t) is
+    of_way e t (answers_root r) low is =
+        of_plain e _ t (on_object_cases IsPlain s e.caller r _ (λ _. refused _)
+        (λ goal named. plain is.found s (root_is goal is.found (is.is_root goal named)))) is.outcome
+
+    -- the numbers of a step's entry that are read off its line are below 2^32
+    pub step_low : (e : Entry) (t : State) → n.callers ≤ 16 → Step n s e t → IsLow e
+    step_low e t callers step =
+        let low = of_way e t (way_of s e.caller e.cmd) (way_plain e.caller e.cmd) step.does in
+        record {
+          caller = let known = step.caller in omega (arith, known, callers);
+          slot = low.slot;
+          grown = low.grown;
+          place = low.place;
+        }

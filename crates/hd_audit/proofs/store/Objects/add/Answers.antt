@@ -1,0 +1,21 @@
+use Rattle.std.proofs.Common.{None, ap, arith, length, ◌+◌, ◌∙◌, ◌≡◌}
+use Rattle.std.specs.FinMap.{get}
+use Rattle.hd_model.specs.State.{Object}
+use Rattle.hd_model.specs.declared.data.Id.{Id}
+use Rattle.hd_audit.specs.Judge.{cells_of}
+use Rattle.hd_audit.proofs.ObjectCells.{cells-added}
+use Rattle.hd_audit.proofs.store.Objects.add.Goals as goal
+
+pub invariant_of-self-2 : goal.invariant_of-self-2
+invariant_of-self-2 c =
+    let fresh : get c.self.inside.stored c.args.id ≡ None =
+    ap (λ m. get m c.args.id) c.self.view_is ∙ c.requires.fresh in
+    let size = length c.args.object.fields + 3 in
+    let grown : cells_of c.insert.new.self ≡ cells_of c.self.inside.stored + size =
+    ap cells_of c.in_ok-insert.ensures ∙ cells-added c.self.inside.stored c.args.id c.args.object fresh in
+    let count : length c.object.inside.fields.items ≡ length c.args.object.fields =
+    ap (λ (o : Object Id). length o.fields) c.object.view_is in
+    record {
+      count = omega (arith, grown, count, c.len.ensures, c.self.invariant.count, c.object.inside.fields.ok.0);
+      low = omega (arith, grown, ap cells_of c.self.view_is, c.requires.room);
+    }

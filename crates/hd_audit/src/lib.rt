@@ -1,0 +1,26 @@
+//! A judge of printed runs: it decides whether a text of full lines is that of a run of a script.
+//! It has a machine of its own, on maps and lists, and reads no heap and no table of the runtime.
+#![tactic(auto)]
+
+mod choice;
+mod collecting;
+mod data;
+mod entries;
+mod handles;
+mod laws;
+mod lines;
+mod machine;
+mod made;
+mod making;
+mod marks;
+mod numbered;
+mod objects;
+mod places;
+mod rooting;
+mod step;
+mod store;
+mod table;
+mod weak;
+
+pub use laws::runs_have_no_wrong_line;
+pub use lines::{Verdict, audit};

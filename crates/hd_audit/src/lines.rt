@@ -1,0 +1,216 @@
+// The lines of a text, judged in order.
+ghost use Rattle.std.specs.Prelude.{◌≡◌, ℕ, ◌+◌, ◌<◌, ◌≤◌, ◌^◌, if◌then◌else◌, List, [], ◌∷◌, ◌++◌, length, position, replicate, slice_get, slice_index, slice_index_or, bytes_eq, IfOk, IfSome, IsSome};
+ghost use Rattle.std.specs.FinMap.{len};
+ghost use Rattle.hd_model.specs.declared.limits.TheConstants.{HEAP, BLOCKS, CALLERS, MOST_BYTES};
+ghost use Rattle.hd_model.specs.{FullText.full_line, Grammar.is_line_end, Judged.cut_lines};
+ghost use Rattle.hd_model.specs.Text.{is_collect};
+ghost use Rattle.hd_model.specs.Valid.{IsValid};
+ghost use Rattle.hd_audit.specs.Judging.{numbers_of, IsRight};
+ghost use Rattle.hd_audit.specs.SoFar.{Along, TakesLine, Ends};
+
+use crate::choice::Choice;
+use crate::machine::Machine;
+use hd_model::{Class, Cmd, Entry, Memory};
+use hd_print::{Line, end_line, full_line};
+use hd_script::Scripts;
+use std::alloc::Global;
+
+/// Whether a text is that of a run.
+#[derive(Clone, Copy, Debug, PartialEq, Eq)]
+pub enum Verdict {
+    /// It is the full text of a run of the script.
+    Run,
+    /// It is not: `line`, from 1, is the first that is not right, or the one that is missing.
+    NotRun { line: u32 },
+    /// There was no memory to judge it.
+    Memory,
+}
+
+/// Judges a text against a script, a heap of `heap` cells and a table of `blocks` blocks.
+pub fn audit(alloc: Global, scripts: &Scripts, text: &[u8], heap: u32, blocks: u32) -> Verdict
+    requires text { length text.now ≤ MOST_BYTES }
+    requires heap { (3 ≤ heap) × (heap ≤ HEAP) }
+    requires blocks { (1 ≤ blocks) × (blocks ≤ BLOCKS) }
+    ensures { IsRight (numbers_of scripts.now heap blocks) scripts.now text.now result }
+{
+    match judge(alloc, scripts, text, heap, blocks) {
+        Ok(verdict) => verdict,
+        Err(Memory) => Verdict::Memory,
+    }
+}
+
+// The same, as long as there is memory.
+fn judge(
+    alloc: Global,
+    scripts: &Scripts,
+    text: &[u8],
+    heap: u32,
+    blocks: u32,
+) -> Result<Verdict, Memory>
+    requires { blocks ≤ BLOCKS }
+    ensures { IfOk result (IsRight (numbers_of scripts.now heap blocks) scripts.now text.now) }
+{
+    let mut judged = Judged::open(alloc, scripts, heap, blocks)?;
+    let mut lines = 0;
+    let mut rest = text;
+    'lines: while judged.left > 0 {
+        if rest.is_empty() {
+            return Ok(Verdict::NotRun { line: lines + 1 });
+        }
+        let (line, after) = cut_line(rest);
+        if !judged.take_line(scripts, line)? {
+            return Ok(Verdict::NotRun { line: lines + 1 });
+        }
+        lines += 1;
+        rest = after;
+    }
+    if rest.is_empty() {
+        return Ok(Verdict::NotRun { line: lines + 1 });
+    }
+    Ok(judged.end(lines, rest))
+}
+
+// The first line with its end, and the bytes after it.
+fn cut_line(bytes: &[u8]) -> (&[u8], &[u8])
+    requires { 0 < length bytes.now }
+    ensures lines { cut_lines bytes.now ≡ result.0.now ∷ cut_lines result.1.now }
+    ensures shorter { length result.1.now < length bytes.now }
+{
+    match line_end(bytes) {
+        Some(end) => (&bytes[..end + 1], &bytes[end + 1..]),
+        None => (bytes, &[]),
+    }
+}
+
+// The index of the first byte that ends a line.
+fn line_end(bytes: &[u8]) -> Option<usize>
+    ensures end { result ≡ position is_line_end bytes.now }
+    ensures within { IfSome result (λ end. end < length bytes.now) }
+{
+    bytes.iter().position(|b| *b == b'\n')
+}
+
+// A count of 0 for each caller.
+fn no_counts(alloc: Global, callers: u32) -> Result<Vec<u32>, Memory>
+    ensures { IfOk result (λ counts. counts.items ≡ replicate callers 0) }
+{
+    let mut counts = Vec::new(alloc);
+    match counts.resize(callers as usize, 0) {
+        Ok(()) => Ok(counts),
+        Err(_) => Err(Memory),
+    }
+}
+
+// What was judged so far: the machine after it, the entries of each caller, the commands that are
+// left, and the collections.
+#[derive(Drop)]
+struct Judged {
+    machine: Machine,
+    done: Vec<u32>,
+    left: u32,
+    collections: u32,
+}
+
+impl Judged {
+    // Nothing yet.
+    fn open(alloc: Global, scripts: &Scripts, heap: u32, blocks: u32) -> Result<Judged, Memory>
+        requires { blocks ≤ BLOCKS }
+        ensures numbers { let n = numbers_of scripts.now heap blocks in
+            IfOk result (λ j. j.machine.numbers ≡ n) }
+        ensures none { IfOk result (λ j. Along scripts.now j []) }
+    {
+        let callers = scripts.callers();
+        let left = scripts.total();
+        let done = no_counts(alloc, callers)?;
+        let machine = Machine::open(alloc, callers, heap, blocks)?;
+        Ok(Judged {
+            machine,
+            done,
+            left,
+            collections: 0,
+        })
+    }
+
+    // The next command of a caller, if it has one.
+    fn next(&self, scripts: &Scripts, caller: u32) -> Option<Cmd>
+        requires { length self.now.done.items ≡ length scripts.now }
+        ensures command { result ≡ slice_get (slice_index_or scripts.now caller [])
+            (slice_index self.now.done.items caller) }
+        ensures valid { IfSome result IsValid }
+        ensures known { IsSome result → caller < length scripts.now }
+    {
+        if caller < scripts.callers() && self.done[caller as usize] < scripts.len(caller) {
+            Some(scripts.cmd(caller, self.done[caller as usize]))
+        } else {
+            None
+        }
+    }
+
+    // Whether a line is the full line of the next entry of its caller. Its step is taken then.
+    fn take_line(&mut self, scripts: &Scripts, line: &[u8]) -> Result<bool, Memory>
+        requires some { 0 < self.old.left }
+        requires along { (lines : List (List ℕ)) × Along scripts.now self.old lines }
+        ensures { IfOk result (TakesLine scripts.now self.old line.now self.new) }
+    {
+        let choice = Choice::by(line);
+        let Some(cmd) = self.next(scripts, choice.caller) else {
+            return Ok(false);
+        };
+        let Some(entry) = self.machine.step(cmd, &choice)? else {
+            return Ok(false);
+        };
+        let number = self.done[choice.caller as usize] + 1;
+        if !is_its_line(entry, number, line) {
+            return Ok(false);
+        }
+        self.done[choice.caller as usize] = number;
+        self.left -= 1;
+        self.collections += collected(cmd);
+        Ok(true)
+    }
+
+    // The verdict on what follows the lines of all entries.
+    fn end(&self, lines: u32, rest: &[u8]) -> Verdict
+        requires some { 0 < length rest.now }
+        requires whole { self.now.left ≡ 0 }
+        requires few { lines + 2 < 2 ^ 32 }
+        requires objects { len self.now.machine.state.objects < 2 ^ 32 }
+        ensures { Ends self.now lines rest.now result }
+    {
+        let handles = self.machine.live();
+        let objects = self.machine.objects_len() as u32;
+        let (line, after) = cut_line(rest);
+        if !is_line(&end_line(handles, objects, self.collections), line) {
+            Verdict::NotRun { line: lines + 1 }
+        } else if after.is_empty() {
+            Verdict::Run
+        } else {
+            Verdict::NotRun { line: lines + 2 }
+        }
+    }
+}
+
+// A collection counts as one.
+fn collected(cmd: Cmd) -> u32
+    ensures { result ≡ (if is_collect cmd then 1 else 0) }
+{
+    if matches!(cmd.class(), Class::Collects(_)) {
+        1
+    } else {
+        0
+    }
+}
+
+// Whether bytes are the full line of an entry, which is the given one of its caller.
+fn is_its_line(entry: Entry, number: u32, bytes: &[u8]) -> bool
+    ensures { result ≡ bytes_eq (full_line entry number) bytes.now }
+{
+    is_line(&full_line(entry, number), bytes)
+}
+
+// Whether bytes are those of a line.
+fn is_line(line: &Line, bytes: &[u8]) -> bool
+    ensures { result ≡ bytes_eq line.now bytes.now }
+{
+    line.as_bytes() == bytes
+}

@@ -1,0 +1,239 @@
+// The commands whose slot, blocks or address the line states: `hnew`, `trim` and `addr`.
+ghost use Rattle.std.specs.Prelude.{◌≡◌, ℕ, ◌+◌, ◌<◌, ◌≤◌, ◌↔◌, Err, false, IsTrue, IsSome, IfOk, IfSome, MatchOption, Some, None};
+ghost use Rattle.hd_model.specs.declared.data.Refusal.TheVariants as refusal;
+ghost use Rattle.hd_model.specs.State.{register_of, given_of, first_slot, IsFree, IsAllFree};
+ghost use Rattle.hd_model.specs.Command.{extra_by};
+ghost use Rattle.hd_model.specs.Step.{MayGive, IsLeastUnused, blocks_needed, with_growth, makes_handle, gives_back, answers_place};
+ghost use Rattle.hd_model.specs.{WellFormed.IsWellFormed, Valid.IsValidMake, UserLaws.HasPlacesApart};
+ghost use Rattle.hd_model.specs.Kinds.{is_paired};
+ghost use Rattle.hd_audit.specs.View.{extra_of};
+ghost use Rattle.hd_audit.specs.Commands.{Grows, WayComesTo, pinned_in};
+
+use crate::choice::Choice;
+use crate::data::{BlockUse, Extra, Handle};
+use crate::machine::Machine;
+use crate::made::Made;
+use hd_model::limits::{BLOCKS, REGISTERS, ROWS};
+use hd_model::{Grown, Id, Kind, Make, Memory, Refusal, Reply, Slot};
+
+// The extra of a handle with a target. Without one a dependent handle has no secondary either.
+fn extra_by(machine: &Machine, caller: u32, make: Make, target: Option<Id>) -> Extra
+    requires caller { caller < machine.now.numbers.callers }
+    requires make { IsValidMake make }
+    ensures { extra_of result ≡ extra_by (register_of machine.now.state caller) make target }
+{
+    match make {
+        Make::Short | Make::Long | Make::Strong | Make::Pinned => Extra::Nothing,
+        Make::Variable(strength) => Extra::Strength(strength),
+        Make::Counted => Extra::Count(1),
+        Make::Dependent(s) => match target {
+            Some(_) => Extra::Secondary(machine.register(caller, s)),
+            None => Extra::Secondary(None),
+        },
+    }
+}
+
+// Whether a slot is a free one of a kind.
+fn is_free(machine: &Machine, kind: Kind, slot: Slot) -> bool
+    ensures { IsTrue result ↔ IsFree machine.now.state kind slot }
+{
+    machine.handle(slot).is_none()
+        && machine.weak_at(slot).is_none()
+        && machine.is_of(kind, slot.0 / ROWS)
+}
+
+// Whether a block is the least unused one from a number on.
+fn is_least(machine: &Machine, from: u32, block: u32) -> bool
+    ensures least { IsTrue result
+        ↔ IsLeastUnused machine.now.numbers machine.now.state from block }
+    ensures few { IsTrue result → block ≤ BLOCKS }
+{
+    // A read for the proof: no table has more blocks than this.
+    let _limit = machine.blocks();
+    match machine.least_unused(from) {
+        Some(least) => least == block,
+        None => false,
+    }
+}
+
+// Whether a slot is the first of a block.
+fn is_first(block: u32, slot: Slot) -> bool
+    ensures { IsTrue result ↔ (slot ≡ first_slot block) }
+{
+    slot.0 / ROWS == block && slot.0 % ROWS == 0
+}
+
+/// Whether a new row of a kind may get a slot with a growth.
+pub(crate) fn may_give(machine: &Machine, kind: Kind, grown: Grown, slot: Slot) -> bool
+    ensures { IsTrue result ↔ MayGive machine.now.numbers machine.now.state kind grown slot }
+{
+    match grown {
+        Grown::Zero => is_free(machine, kind, slot),
+        Grown::One(block) => {
+            !kind.paired() && is_least(machine, 1, block) && is_first(block, slot)
+        }
+        Grown::Two(block, other) => {
+            kind.paired()
+                && is_least(machine, 1, block)
+                && is_least(machine, block + 1, other)
+                && is_first(block, slot)
+        }
+        Grown::Back(_) => false,
+    }
+}
+
+/// Uses the blocks by which the table grows.
+pub(crate) fn grow(machine: &mut Machine, kind: Kind, grown: Grown)
+    requires { Grows machine.old kind grown }
+    ensures { let after = with_growth machine.old.state kind grown in
+        machine.new ≡ record machine.old { state = after } }
+{
+    match grown {
+        Grown::Zero | Grown::Back(_) => {}
+        Grown::One(block) => machine.give_block(block, BlockUse::HandlesOf(kind)),
+        Grown::Two(block, other) => {
+            machine.give_block(block, BlockUse::HandlesOf(kind));
+            machine.give_block(other, BlockUse::ExtraData);
+        }
+    }
+}
+
+/// The refusal of a full table, where too few blocks are without a use.
+pub(crate) fn table_full(machine: &Machine, kind: Kind) -> Option<Result<Made, Refusal>>
+    ensures { let s = machine.now.state in let few = given_of s + blocks_needed kind in
+        MatchOption result (few ≤ machine.now.numbers.blocks)
+        (λ made. (machine.now.numbers.blocks < few)
+        × (made ≡ Err (refusal.TableFull (given_of s)))) }
+{
+    let needed = if kind.paired() { 2 } else { 1 };
+    let given = machine.given();
+    if machine.blocks() < given + needed {
+        Some(Err(Refusal::TableFull { given }))
+    } else {
+        None
+    }
+}
+
+/// `hnew hD KIND rT`.
+pub(crate) fn make_handle(
+    machine: &mut Machine,
+    caller: u32,
+    d: u8,
+    make: Make,
+    t: u8,
+    choice: &Choice,
+) -> Option<Result<Made, Refusal>>
+    requires caller { caller < machine.old.numbers.callers }
+    requires registers { (d < REGISTERS) × (t < REGISTERS) }
+    requires make { IsValidMake make }
+    requires formed { IsWellFormed machine.old.numbers machine.old.state }
+    ensures { let way = makes_handle d make t in
+        WayComesTo caller way choice.now machine.old machine.new result }
+{
+    let kind = make.kind();
+    let Some(slot) = choice.slot else {
+        return table_full(machine, kind);
+    };
+    if !may_give(machine, kind, choice.grown, slot) {
+        return None;
+    }
+    let target = machine.register(caller, t);
+    let extra = extra_by(machine, caller, make, target);
+    grow(machine, kind, choice.grown);
+    let handle = Handle {
+        kind,
+        target,
+        extra,
+    };
+    machine.put_handle(slot, handle);
+    machine.set_handle_register(caller, d, Some(slot));
+    Some(Ok(Made::in_slot(slot, choice.grown)))
+}
+
+// Whether all slots of a block are free slots of a kind.
+fn is_all_free(machine: &Machine, kind: Kind, block: u32) -> bool
+    requires { IsWellFormed machine.now.numbers machine.now.state }
+    ensures { IsTrue result ↔ IsAllFree machine.now.state kind block }
+{
+    let limit = machine.blocks();
+    if block > limit {
+        return false;
+    }
+    if !machine.is_of(kind, block) {
+        return false;
+    }
+    for row in 0..ROWS {
+        if !is_free(machine, kind, Slot(block * ROWS + row)) {
+            return false;
+        }
+    }
+    true
+}
+
+/// `trim KIND`.
+pub(crate) fn trim(
+    machine: &mut Machine,
+    kind: Kind,
+    choice: &Choice,
+) -> Option<Result<Made, Refusal>>
+    requires { IsWellFormed machine.old.numbers machine.old.state }
+    ensures { let way = gives_back kind in
+        (caller : ℕ) → WayComesTo caller way choice.now machine.old machine.new result }
+{
+    let Grown::Back(block) = choice.grown else {
+        return Some(Ok(Made::of(Reply::Value(0))));
+    };
+    if !is_all_free(machine, kind, block) {
+        return None;
+    }
+    machine.take_block(block);
+    Some(Ok(Made {
+        reply: Reply::Value(1),
+        slot: None,
+        grown: choice.grown,
+    }))
+}
+
+// The object that the handle in hS pins, or why it pins none.
+fn pinned_in(machine: &Machine, caller: u32, h: u8) -> Result<Id, Refusal>
+    requires caller { caller < machine.now.numbers.callers }
+    requires register { h < REGISTERS }
+    ensures { result ≡ pinned_in machine.now.state caller h }
+{
+    let (_, handle) = machine.live_in(caller, h)?;
+    if !handle.pins() {
+        return Err(Refusal::WrongKind);
+    }
+    match handle.target {
+        Some(id) => Ok(id),
+        None => Err(Refusal::Null),
+    }
+}
+
+/// `addr hS`.
+pub(crate) fn answer_place(
+    machine: &mut Machine,
+    caller: u32,
+    h: u8,
+    choice: &Choice,
+) -> Result<Option<Result<Made, Refusal>>, Memory>
+    requires caller { caller < machine.old.numbers.callers }
+    requires register { h < REGISTERS }
+    requires formed { IsWellFormed machine.old.numbers machine.old.state }
+    requires apart { HasPlacesApart machine.old.state }
+    ensures { let way = answers_place h in
+        IfOk result (WayComesTo caller way choice.now machine.old machine.new) }
+{
+    let id = match pinned_in(machine, caller, h) {
+        Ok(id) => id,
+        Err(refusal) => return Ok(Some(Err(refusal))),
+    };
+    if let Some(own) = machine.place(id) {
+        return Ok(Some(Ok(Made::of(Reply::Place(own)))));
+    }
+    if !machine.is_free_place(id, choice.place) {
+        return Ok(None);
+    }
+    machine.put_place(id, choice.place)?;
+    Ok(Some(Ok(Made::of(Reply::Place(choice.place)))))
+}
