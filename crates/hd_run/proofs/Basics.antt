@@ -41,11 +41,11 @@ pub use Rattle.hd_model.specs.declared.limits.TheConstants.{BLOCKS, CALLERS, HEA
 pub use Rattle.hd_run.specs.Bounds.{numbers_for}
 pub use Rattle.hd_run.specs.Claims.{Answers, AreBytesRefused, AsksForLoad, AsksToRead, HasLine, IsStatus, KeepsCount, KeepsRun, Promise, RefusesScript, RunsWhole, StopsForMemory, Together}
 pub use Rattle.hd_run.specs.Ending.{Cause, CauseBy, FaultCause, IsLoadScript, IsProgram, Keeps, Lists, RanBy, ReadProgram, ReadWhole, RefusedBy, RunBy, RunCause, ScriptBy, StoppedAtBy, journal_in, kept_of, kept_that, numbers_by, run_ending, world_of, world_that}
-pub use Rattle.hd_run.specs.Modes.{mode_of, runs_alone, traits_of}
+pub use Rattle.hd_run.specs.Modes.{form_by, form_of, lines_form, mode_of, runs_alone, traits_of}
 pub use Rattle.hd_run.specs.Report.{HasFewCallers, HasSumOf, IsWritable, Reports, Writes, fault_status, form_for, memory_text, ran_text, status_of, stopped_text, text_for, whole_text}
 pub use Rattle.hd_run.specs.Together.{HasPlayed, HavePlayed, IsReadyToPlay, MayWantMemory, RanAllTogether, StoppedTogether}
 pub use Rattle.hd_run.specs.Turns.{IsReadyFor, IsReadyToRun, RanWhole, StoppedAt, list_of, taken_by, turn_of, turns_from, turns_of}
-pub use Rattle.hd_run.specs.Words.{GivesNumber, GivesNumbers, IsFaultOfWords, IsInLimits, IsRefusal, asked_by, listing_of, number_in, number_of, program, request_of, request_or_usage, solo_of, unless_faulty, with_numbers}
+pub use Rattle.hd_run.specs.Words.{GivesNumber, GivesNumbers, IsFaultOfWords, IsInLimits, IsRefusal, asked_by, audit_of, is_given, listing_of, number_in, number_of, program, request_of, request_or_usage, solo_of, unless_faulty, with_numbers}
 pub use Rattle.hd_run.specs.Work.{IsJob, Worked}
 pub use Rattle.hd_run.specs.declared.ending.Ending.{Ending}
 pub use Rattle.hd_run.specs.declared.ending.Ending.TheVariants.{Done, Refused, Stopped}
@@ -54,9 +54,9 @@ pub use Rattle.hd_run.specs.declared.ending.Fault.TheVariants.{BadLine, NoMemory
 pub use Rattle.hd_run.specs.declared.ending.Ran.{Ran}
 pub use Rattle.hd_run.specs.declared.limits.TheConstants.{LEAST_HEAP}
 pub use Rattle.hd_run.specs.declared.mode.Form.{Form}
-pub use Rattle.hd_run.specs.declared.mode.Form.TheVariants.{Lines, Summary}
+pub use Rattle.hd_run.specs.declared.mode.Form.TheVariants.{FullLines, Lines, Summary}
 pub use Rattle.hd_run.specs.declared.mode.Mode.{Mode}
-pub use Rattle.hd_run.specs.declared.mode.Mode.TheVariants.{Load}
+pub use Rattle.hd_run.specs.declared.mode.Mode.TheVariants.{Audit, Load, Roots, Run as TheRun, Solo}
 pub use Rattle.hd_run.specs.declared.mode.Traits.{Traits}
 pub use Rattle.hd_run.specs.declared.outcome.Kept.{Kept}
 pub use Rattle.hd_run.specs.declared.outcome.Kept.TheVariants.{Alone, Nothing, Shared}

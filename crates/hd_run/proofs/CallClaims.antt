@@ -1,11 +1,10 @@
 -- What a call promises, from the cause of its ending and its report.
-use Rattle.hd_run.proofs.Basics.{Alone, Answers, AreBytesRefused, AsksForLoad, AsksToRead, BadLine, Bool, Cause, CauseBy, Cmd, Done, Ending, Entry, Fault, FaultCause, Form, GaveCount, HasLine, IfSome, IsErr, IsFaultOfWords, IsProgram, IsStatus, KeepsCount, KeepsRun, Kept, Lines, List, Load, MOST_BYTES, Mode, NoMemory, None, Nothing, Ok, Option, Outcome, OverSize, Promise, Ran, ReadProgram, ReadWhole, Refused, RefusedBy, RefusesScript, Reports, Request, RootId, Rose, RunsWhole, ScriptBy, Shared, SinkView, Some, SourceView, Stopped, StopsForMemory, Summary, Took, Unread, Usage, Worked, [], ap, append-nil, arith, false, fault_status, form_for, inl, inr, journal_in, kept_of, kept_that, length, length-append, lit<, memory_text, ran_text, refl, run_from_solo, status_of, stopped_text, subst, sym, text_for, traits_of, true, world_of, world_that, ℕ, ◌++◌, ◌+◌, ◌∙◌, ◌≡◌, ◌≢◌, ◌≤◌, ◌⊎◌}
+use Rattle.hd_run.proofs.Basics.{Alone, Answers, AreBytesRefused, AsksForLoad, AsksToRead, BadLine, Bool, Cause, CauseBy, Cmd, Done, Ending, Entry, Fault, FaultCause, GaveCount, HasLine, IfSome, IsErr, IsFaultOfWords, IsProgram, IsStatus, KeepsCount, KeepsRun, Kept, Lines, List, Load, MOST_BYTES, Mode, NoMemory, None, Nothing, Ok, Option, Outcome, OverSize, Promise, ReadProgram, Refused, RefusedBy, RefusesScript, Reports, Request, RootId, Rose, RunsWhole, ScriptBy, Shared, SinkView, Some, SourceView, Stopped, StopsForMemory, Summary, Took, Unread, Usage, Worked, [], ap, append-nil, arith, false, fault_status, form_by, form_for, form_of, inl, inr, journal_in, kept_of, length, length-append, lit<, ran_text, refl, run_from_solo, status_of, stopped_text, subst, sym, text_for, traits_of, true, world_of, world_that, ℕ, ◌++◌, ◌∙◌, ◌≡◌, ◌≢◌, ◌≤◌, ◌⊎◌}
 use Rattle.std.specs.Io.KnownBytes.{Consumes, IsAtEnd}
 use Rattle.hd_model.specs.Grammar.{script_of}
 use Rattle.hd_model.proofs.RunCounts.{handles_are_made_less_freed}
 use Rattle.hd_run.proofs.RunEndings.{no_whole, ending_status, journal_kept, nothing_reported, run_keeps, reported_as, write_rose, status_cases}
 use Rattle.hd_run.proofs.LoadClaims.{line_of, refused_line}
-use Rattle.hd_run.specs.declared.ending.Ran.TheVariants as ran
 
 -- the handles of what is kept are those that were made, less those that were freed
 pub kept_handles : (kept : Kept) → KeepsRun kept → KeepsCount kept
@@ -17,7 +16,7 @@ kept_handles (Shared w) run = handles_are_made_less_freed w.numbers w.journal w.
 -- ---- what was read
 
 -- the bytes that a read took are among those that were left, and all that it read are all of them
-among : (old new : Option (List ℕ)) (bytes read : List ℕ) → old ≡ Some bytes →
+pub among : (old new : Option (List ℕ)) (bytes read : List ℕ) → old ≡ Some bytes →
     Consumes old new read → length read ≤ length bytes
 among None new bytes read e reported_as = cc
 among (Some xs) None bytes read e reported_as = absurd reported_as
@@ -25,7 +24,7 @@ among (Some xs) (Some ys) bytes read e reported_as =
     let same : xs ≡ bytes = cc in
     omega (arith, ap length reported_as, ap length same, length-append read ys)
 
-all_of : (old new : Option (List ℕ)) (bytes read : List ℕ) → old ≡ Some bytes →
+pub all_of : (old new : Option (List ℕ)) (bytes read : List ℕ) → old ≡ Some bytes →
     Consumes old new read → IsAtEnd new → read ≡ bytes
 all_of None new bytes read e reported_as end = cc
 all_of (Some xs) None bytes read e reported_as end = absurd reported_as
@@ -42,7 +41,7 @@ not_refused lists bytes few program (inr fault) =
     cc
 
 -- nothing was read
-nothing_read : (v : SourceView) → GaveCount v v (λ n. n ≤ MOST_BYTES)
+pub nothing_read : (v : SourceView) → GaveCount v v (λ n. n ≤ MOST_BYTES)
 nothing_read v = record {
   bytes = [];
   gave = record { consumed = none_consumed v.left; counted = inl (omega arith); unfailed = refl };
@@ -56,7 +55,7 @@ nothing_read v = record {
 module _ (old new : SourceView) where
   -- ---- a fault, by whether the mode reads
 
-  unread_rose : FaultCause old new Unread → Rose old.faults new.faults
+  pub unread_rose : FaultCause old new Unread → Rose old.faults new.faults
   unread_rose broke = subst (λ n. Rose n new.faults) broke.gave.gave.unfailed broke.failed.rose
 
   usage_by : (reads : Bool) (f : Fault) → fault_status f ≡ 2 → RefusedBy reads old new f → ⊥
@@ -199,7 +198,7 @@ module _ (old new : SourceView) where
       refl,
       all.0,
       subst (λ (rs : Option (List RootId)). Took before after
-          (ran_text (traits_of r.mode).form (world_that run) rs)) all.1 took,
+          (ran_text (form_of r) (world_that run) rs)) all.1 took,
     )
 
     -- what is said where memory ran out
@@ -214,25 +213,35 @@ module _ (old new : SourceView) where
         (sym memory)
         (inl (unread, refl), subst (λ (f : Ending). Took before after (text_for Lines f)) memory took)
     memory_of (Some r) (Refused NoMemory) cause is took =
-        (inl (cause, refl), subst (Took before after) (nothing_reported (traits_of r.mode).form) took)
+        (inl (cause, refl), subst (Took before after) (nothing_reported (form_of r)) took)
     memory_of (Some r) (Refused f) cause is took = cc
     memory_of (Some r) (Stopped run) (lists, script, at) is took = (
       inr (lists, script, run, refl, at),
-      subst (λ (es : List Entry). Took before after (stopped_text (traits_of r.mode).form es))
+      subst (λ (es : List Entry). Took before after (stopped_text (form_of r) es))
           (journal_kept run) took,
     )
     memory_of (Some r) (Done run roots) cause is took = cc
 
     -- the line of a load, which alone reads nothing
-    line_by : (m : Mode) (r : Request) (e : Ending) (o : Outcome) → (traits_of m).reads ≡ false →
+    line_by : (m : Mode) (slots : Bool) (r : Request) (e : Ending) (o : Outcome) →
+        (traits_of m).reads ≡ false →
         CauseBy (traits_of m).reads (traits_of m).threads (traits_of m).lists_roots r old new e →
-        Reports before after (traits_of m).form e o → HasLine r.rounds before after o.status
-    line_by Load r (Refused f) o load cause reports = refused_line r.rounds before after Summary f o reports
-    line_by Load r (Stopped run) o load (lists, script, at) reports =
-        line_of r.rounds lists script.1 before after (Stopped run) o at reports
-    line_by Load r (Done run roots) o load (lists, script, all) reports =
-        line_of r.rounds lists script.1 before after (Done run roots) o all reports
-    line_by m r e o load cause reports = cc
+        Reports before after (form_by slots (traits_of m)) e o → HasLine r.rounds before after o.status
+    line_by Load slots r e o load cause reports = by e cause (in_summary slots reports)
+      where
+        in_summary : (t : Bool) → Reports before after (form_by t (traits_of Load)) e o
+            → Reports before after Summary e o
+        in_summary true is = is
+        in_summary false is = is
+
+        by : (f : Ending) → CauseBy false true false r old new f → Reports before after Summary f o
+            → HasLine r.rounds before after o.status
+        by (Refused f) cause is = refused_line r.rounds before after Summary f o is
+        by (Stopped run) (lists, script, at) is =
+            line_of r.rounds lists script.1 before after (Stopped run) o at is
+        by (Done run roots) (lists, script, all) is =
+            line_of r.rounds lists script.1 before after (Done run roots) o all is
+    line_by m slots r e o load cause reports = cc
 
 module _ {S K : Type 0} (seen : S → SourceView) (shown : K → SinkView) (source : S × S) (sink : K × K)
     (o : Outcome) where
@@ -334,11 +343,11 @@ module _ {S K : Type 0} (seen : S → SourceView) (shown : K → SinkView) (sour
   -- what was asked was done
   pub asked_promise : (r : Request) (e : Ending) →
       Worked seen (traits_of r.mode).threads (traits_of r.mode).lists_roots r source e →
-      Reports (shown sink.0) (shown sink.1) (traits_of r.mode).form e o
+      Reports (shown sink.0) (shown sink.1) (form_of r) e o
       → Promise seen shown (Some r) source sink o
   asked_promise r e worked reports = promise (Some r) e worked.cause reports
       (λ unread. worked.unread (is_false (traits_of r.mode).reads unread))
-      (λ load. line_by (seen source.0) (seen source.1) (shown sink.0) (shown sink.1) r.mode r e o load
+      (λ load. line_by (seen source.0) (seen source.1) (shown sink.0) (shown sink.1) r.mode r.slots r e o load
       worked.cause reports)
     where
       is_false : (b : Bool) → ¬ (b ≡ true) → b ≡ false

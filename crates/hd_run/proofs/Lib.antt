@@ -9,6 +9,8 @@ mod PlaySteps
 mod JournalSums
 mod SharedRun
 mod CallClaims
+mod AuditInputs
+mod AuditClaims
 mod RunEndings
 mod LoadClaims
 mod WorkCauses

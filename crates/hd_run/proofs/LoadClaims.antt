@@ -1,5 +1,5 @@
 -- The run of a load: its numbers, the sum in its line, and the line.
-use Rattle.hd_run.proofs.Basics.{BLOCKS, Cmd, Done, Ending, Fault, Form, HEAP, HasLine, HasSumOf, IsLoadScript, LOAD_CALLERS, List, Option, Outcome, RanAllTogether, Refused, Reports, RootId, RunCause, SinkView, Stopped, Summary, Took, WorldView, ap, append-nil, arith, commands_of, false, generated_list, inl, inr, length-map, load_numbers, numbers_for, part_of, ran_text, range_with_len, refl, status_of, subst, sym, text_for, true, ℕ, ◌*◌, ◌+◌, ◌<◌, ◌^◌, ◌∙◌, ◌≡◌, ◌≤◌}
+use Rattle.hd_run.proofs.Basics.{BLOCKS, Cmd, Done, Ending, Fault, Form, HEAP, HasLine, HasSumOf, IsLoadScript, LOAD_CALLERS, List, Option, Outcome, RanAllTogether, Refused, Reports, RootId, RunCause, SinkView, Stopped, Summary, Took, WorldView, append-nil, arith, commands_of, false, generated_list, length-map, load_numbers, numbers_for, part_of, ran_text, range_with_len, refl, status_of, subst, sym, text_for, true, ℕ, ◌*◌, ◌+◌, ◌<◌, ◌^◌, ◌∙◌, ◌≡◌, ◌≤◌}
 use Rattle.std.proofs.lemmas.Nat.{mul-le}
 use Rattle.hd_model.specs.Generated.{generated_lists}
 use Rattle.hd_script.specs.Load.{IsLoadRun}

@@ -1,5 +1,6 @@
 -- What the command's matches ask for, and when the words are valid.
-use Rattle.hd_run.proofs.Basics.{BLOCKS, Err, GivesNumber, GivesNumbers, Global, HEAP, IsAmong, IsInLimits, IsUnsignedIn, Kinds, LEAST_HEAP, List, MOST_ROUNDS, Mode, None, Ok, Option, ParsesUnsigned, ReadsOne, Result, Row, Some, String, Text, [], ap, arith, asked_by, codes, fault_of, first_value, first_value-rows, inl, inr, map, matches_of, mode_of, number_in, number_of, one_of, one_text-rows, option_and_then, option_map, option_map_or, program, refl, rows_of, string_bytes, sym, unless_faulty, unwrap_or, with_numbers, ℕ, ◌-◌, ◌^◌, ◌∙◌, ◌∷◌, ◌≡◌, ◌≢◌, ◌≤◌, ◌⊎◌}
+use Rattle.hd_run.proofs.Basics.{BLOCKS, Err, GivesNumber, GivesNumbers, Global, HEAP, IsAmong, IsInLimits, IsUnsignedIn, Kinds, LEAST_HEAP, List, MOST_ROUNDS, Mode, None, Ok, Option, ParsesUnsigned, ReadsOne, Result, Row, Some, String, Text, [], ap, arith, asked_by, codes, false, fault_of, first_value, first_value-rows, inl, inr, is_given, map, matches_of, mode_of, number_in, number_of, one_of, one_text-rows, option_and_then, option_map, option_map_or, program, refl, rows_of, string_bytes, sym, unless_faulty, unwrap_or, with_numbers, ℕ, ◌-◌, ◌^◌, ◌∙◌, ◌∷◌, ◌≡◌, ◌≢◌, ◌≤◌, ◌⊎◌}
+use Rattle.std.specs.Str.{bytes_eq}
 use Rattle.clap.specs.{declared.error.kind.ErrorKind.ErrorKind, declared.parser.matches.Found.Found}
 use Rattle.hd_run.specs.{declared.request.TheConstants.ROUNDS, Words.request_of}
 use Rattle.clap.specs.declared.error.kind.ErrorKind.TheVariants as kind
@@ -59,6 +60,12 @@ asked_mode found t o some is = let same = first_value-rows found (codes "mode") 
     ap (option_map (with_numbers (rows_of found))) is
     ∙ ap (λ (o : Option Text). option_map (with_numbers (rows_of found)) (option_and_then mode_of o))
     (sym some ∙ same)
+
+-- whether a flag is given, by its text
+pub given_read : (found : Found) (name : Text) (o : Option Text) → first_value found name ≡ o
+    → option_map_or (λ text. bytes_eq text (codes "true")) o false ≡ is_given (rows_of found) name
+given_read found name o is = let same = first_value-rows found name in
+    ap (λ (p : Option Text). option_map_or (λ text. bytes_eq text (codes "true")) p false) (sym is ∙ same)
 
 -- where the command finds no fault in the words, they ask for what its matches ask for
 pub valid_words : (words : List (String Global)) (rows : List Row)

@@ -23,40 +23,42 @@ apart s t differ same =
 
 -- the names of the mode and of the options
 abbrev names : List Text
-names = codes "mode" ∷ codes "heap" ∷ codes "blocks" ∷ codes "rounds" ∷ []
+names = codes "mode" ∷ codes "heap" ∷ codes "blocks" ∷ codes "rounds" ∷ codes "slots" ∷ []
 
--- a test of four indices that one passes alone
+-- a test of five indices that one passes alone
 alone : (test : ℕ → Bool) (k : ℕ) → test 0 ≡ eqb 0 k → test 1 ≡ eqb 1 k → test 2 ≡ eqb 2 k → test 3 ≡ eqb 3 k
-    → (j : ℕ) → j < 4 → test j ≡ true → j ≡ k
-alone test k a b c d zero lt is = eqb-true 0 k (sym a ∙ is)
-alone test k a b c d (suc zero) lt is = eqb-true 1 k (sym b ∙ is)
-alone test k a b c d (suc (suc zero)) lt is = eqb-true 2 k (sym c ∙ is)
-alone test k a b c d (suc (suc (suc zero))) lt is = eqb-true 3 k (sym d ∙ is)
-alone test k a b c d (suc (suc (suc (suc j)))) lt is = absurd (omega arith)
+    → test 4 ≡ eqb 4 k → (j : ℕ) → j < 5 → test j ≡ true → j ≡ k
+alone test k a b c d e zero lt is = eqb-true 0 k (sym a ∙ is)
+alone test k a b c d e (suc zero) lt is = eqb-true 1 k (sym b ∙ is)
+alone test k a b c d e (suc (suc zero)) lt is = eqb-true 2 k (sym c ∙ is)
+alone test k a b c d e (suc (suc (suc zero))) lt is = eqb-true 3 k (sym d ∙ is)
+alone test k a b c d e (suc (suc (suc (suc zero)))) lt is = eqb-true 4 k (sym e ∙ is)
+alone test k a b c d e (suc (suc (suc (suc (suc j))))) lt is = absurd (omega arith)
 
-name_of_rule : (j : ℕ) (r : Rule) → j < 4 → (slice_index_or program.top.rules j r).id ≡ slice_index_or names
+name_of_rule : (j : ℕ) (r : Rule) → j < 5 → (slice_index_or program.top.rules j r).id ≡ slice_index_or names
     j []
 name_of_rule zero r lt = refl
 name_of_rule (suc zero) r lt = refl
 name_of_rule (suc (suc zero)) r lt = refl
 name_of_rule (suc (suc (suc zero))) r lt = refl
-name_of_rule (suc (suc (suc (suc j)))) r lt = absurd (omega arith)
+name_of_rule (suc (suc (suc (suc zero)))) r lt = refl
+name_of_rule (suc (suc (suc (suc (suc j))))) r lt = absurd (omega arith)
 
 module _ (old : Command) (m : ArgMatches) (p : IsParsedFrom old m) (app : app_of old ≡ program) where
   rules : map rule_of (args_of old) ≡ program.top.rules
   rules = ap (λ (a : App). a.top.rules) app
 
-  count : length (args_of old) ≡ 4
+  count : length (args_of old) ≡ 5
   count = let same = length-map (args_of old) rule_of in
-      let four : length program.top.rules ≡ 4 = refl in
-      omega (arith, same, ap length rules, four)
+      let five : length program.top.rules ≡ 5 = refl in
+      omega (arith, same, ap length rules, five)
 
-  rule_at : (k : ℕ) (d : Arg) → k < 4
+  rule_at : (k : ℕ) (d : Arg) → k < 5
       → rule_of (slice_index_or (args_of old) k d) ≡ slice_index_or program.top.rules k (rule_of d)
   rule_at k d lt = sym (get_or-map rule_of (args_of old) k d (rule_of d) (omega (arith, count)))
       ∙ ap (λ (rs : List Rule). slice_index_or rs k (rule_of d)) rules
 
-  name_at : (k : ℕ) (d : Arg) → k < 4 → (slice_index_or (args_of old) k d).id.now ≡ slice_index_or names k []
+  name_at : (k : ℕ) (d : Arg) → k < 5 → (slice_index_or (args_of old) k d).id.now ≡ slice_index_or names k []
   name_at k d lt = ap (λ (r : Rule). r.id) (rule_at k d lt) ∙ name_of_rule k (rule_of d) lt
 
   simple : all_simple (shape_of old).rules ≡ true
@@ -70,10 +72,10 @@ module _ (old : Command) (m : ArgMatches) (p : IsParsedFrom old m) (app : app_of
   local = p.from.globals ∙ (plain_fields old (ap (λ (a : App). a.top.is_plain) app)).globals
 
   -- the option at a position, with a number of these limits
-  module _ (k : ℕ) (name : Text) (least most : ℕ) (lt : k < 4)
+  module _ (k : ℕ) (name : Text) (least most : ℕ) (lt : k < 5)
       (named : slice_index_or names k [] ≡ name) (some : name ≡ [] → ⊥)
       (limits : (r : Rule) → (slice_index_or program.top.rules k r).parser ≡ Some (Unsigned least most))
-      (unique : (j : ℕ) → j < 4 → bytes_eq (slice_index_or names j []) name ≡ true → j ≡ k)
+      (unique : (j : ℕ) → j < 5 → bytes_eq (slice_index_or names j []) name ≡ true → j ≡ k)
       (own : (bytes_eq name (codes "help") ≡ false) × (bytes_eq name (codes "version") ≡ false)) where
     id_at : (d : Arg) → (slice_index_or (args_of old) k d).id.now ≡ name
     id_at d = name_at k d lt ∙ named
@@ -82,8 +84,8 @@ module _ (old : Command) (m : ArgMatches) (p : IsParsedFrom old m) (app : app_of
         → bytes_eq (slice_index_or (args_of old) j e).id.now (slice_index_or (args_of old) k d).id.now ≡ true
         → j ≡ k
     only d j e low same =
-        let four : j < 4 = omega (arith, count) in
-        unique j four (subst (λ (t : Text). bytes_eq t name ≡ true) (name_at j e four)
+        let five : j < 5 = omega (arith, count) in
+        unique j five (subst (λ (t : Text). bytes_eq t name ≡ true) (name_at j e five)
         (subst (λ (t : Text). bytes_eq (slice_index_or (args_of old) j e).id.now t ≡ true) (id_at d) same))
 
     not_auto : (d : Arg) → IsAuto (slice_index_or (args_of old) k d) → ⊥
@@ -148,11 +150,12 @@ module _ (old : Command) (m : ArgMatches) (p : IsParsedFrom old m) (app : app_of
   pub gives_numbers : GivesNumbers (found_of m)
   gives_numbers = record {
     heap = given 1 (codes "heap") LEAST_HEAP HEAP (omega arith) refl (apart _ _ refl) (λ r. refl)
-        (alone (λ j. bytes_eq (slice_index_or names j []) (codes "heap")) 1 refl refl refl refl) (refl, refl);
+        (alone (λ j. bytes_eq (slice_index_or names j []) (codes "heap")) 1 refl refl refl refl refl)
+        (refl, refl);
     blocks = given 2 (codes "blocks") 1 BLOCKS (omega arith) refl (apart _ _ refl) (λ r. refl)
-        (alone (λ j. bytes_eq (slice_index_or names j []) (codes "blocks")) 2 refl refl refl refl)
+        (alone (λ j. bytes_eq (slice_index_or names j []) (codes "blocks")) 2 refl refl refl refl refl)
         (refl, refl);
     rounds = given 3 (codes "rounds") 1 MOST_ROUNDS (omega arith) refl (apart _ _ refl) (λ r. refl)
-        (alone (λ j. bytes_eq (slice_index_or names j []) (codes "rounds")) 3 refl refl refl refl)
+        (alone (λ j. bytes_eq (slice_index_or names j []) (codes "rounds")) 3 refl refl refl refl refl)
         (refl, refl);
   }

@@ -1,5 +1,5 @@
 -- The endings of a run: their statuses, what is kept, and that their text can be written.
-use Rattle.hd_run.proofs.Basics.{Alone, BadLine, Bool, CALLERS, Cmd, Done, Ending, Err, Fault, Form, HasFewCallers, HasSumOf, IsReadyFor, IsStatus, IsWritable, Keeps, KeepsRun, Kept, Lines, List, NoMemory, Nothing, Numbers, Ok, OnErr, OnOk, Outcome, OverSize, Ran, RanAllTogether, RanBy, RanWhole, Refused, Reports, Result, Rose, Run, RunBy, RunCause, Shared, SinkView, SoloRun, Stopped, StoppedAt, StoppedAtBy, StoppedTogether, Summary, Took, Unread, Usage, WorldView, [], ap, arith, false, fault_status, inl, inr, is_ok, journal_in, kept_of, kept_that, length, lit<, memory_text, refl, run_ending, run_from_solo, status_of, stopped_text, subst, sym, text_for, true, world_of, world_that, ℕ, ◌∙◌, ◌≡◌, ◌≢◌, ◌≤◌, ◌⊎◌}
+use Rattle.hd_run.proofs.Basics.{Alone, BadLine, Bool, CALLERS, Cmd, Done, Ending, Err, Fault, Form, FullLines, HasFewCallers, HasSumOf, IsReadyFor, IsStatus, IsWritable, Keeps, KeepsRun, Kept, Lines, List, NoMemory, Nothing, Numbers, Ok, OnErr, OnOk, Outcome, OverSize, Ran, RanAllTogether, RanBy, RanWhole, Refused, Reports, Result, Rose, Run, RunBy, RunCause, Shared, SinkView, SoloRun, Stopped, StoppedAt, StoppedAtBy, StoppedTogether, Summary, Took, Unread, Usage, WorldView, [], arith, false, fault_status, inl, inr, is_ok, journal_in, kept_of, kept_that, lines_form, lit<, memory_text, refl, run_ending, run_from_solo, status_of, stopped_text, subst, sym, text_for, true, world_of, world_that, ℕ, ◌∙◌, ◌≡◌, ◌≢◌, ◌≤◌, ◌⊎◌}
 use Rattle.hd_model.specs.declared.data.Memory.{Memory}
 use Rattle.hd_run.proofs.SharedRun.{few_callers}
 use Rattle.hd_run.specs.declared.ending.Ran.TheVariants as ran
@@ -32,6 +32,7 @@ journal_kept (ran.Shared w) = refl
 
 pub nothing_reported : (form : Form) → memory_text ≡ stopped_text form []
 nothing_reported Lines = refl
+nothing_reported FullLines = refl
 nothing_reported Summary = refl
 
 -- the ending of a run keeps its world
@@ -86,16 +87,17 @@ module _ (threads listed : Bool) (n : Numbers) (lists : List (List Cmd)) (e : En
       (λ w numbers run. few_callers n w.journal w.state few (run_from_solo n w.journal w.state run))
       (λ w numbers run. few_callers n w.journal w.state few run) threads listed e cause
 
-pub lines_sum : (e : Ending) → HasSumOf Lines e
-lines_sum (Refused f) = tt
-lines_sum (Stopped run) = tt
-lines_sum (Done run roots) = tt
+pub lines_sum : (full : Bool) (e : Ending) → HasSumOf (lines_form full) e
+lines_sum full (Refused f) = tt
+lines_sum full (Stopped run) = tt
+lines_sum true (Done run roots) = tt
+lines_sum false (Done run roots) = tt
 
 -- the run of few callers can be written by lines
-pub lines_writable : (threads listed : Bool) (n : Numbers) (lists : List (List Cmd)) (e : Ending) →
-    RunCause threads listed n lists e → n.callers ≤ CALLERS → IsWritable Lines e
-lines_writable threads listed n lists e cause few =
-    record { callers = run_callers threads listed n lists e cause few; sum = lines_sum e }
+pub lines_writable : (threads listed full : Bool) (n : Numbers) (lists : List (List Cmd)) (e : Ending) →
+    RunCause threads listed n lists e → n.callers ≤ CALLERS → IsWritable (lines_form full) e
+lines_writable threads listed full n lists e cause few =
+    record { callers = run_callers threads listed n lists e cause few; sum = lines_sum full e }
 
 -- a fault can be written in any form
 pub fault_writable : (form : Form) (f : Fault) → IsWritable form (Refused f)

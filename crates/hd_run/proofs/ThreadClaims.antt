@@ -1,5 +1,5 @@
 -- What `run` and `load` promise, from the cause of their ending and its report.
-use Rattle.hd_run.proofs.Basics.{Cmd, Contains, Done, Ending, Fault, Form, KeepsRun, List, Nothing, Numbers, Option, Outcome, RanAllTogether, Refused, Reports, RootId, RunCause, Shared, SinkView, Stopped, StoppedTogether, Together, Took, WorldView, [], ap, arith, false, fault_status, inl, inr, journal_in, kept_of, lit<, ran_text, refl, status_of, stopped_text, subst, sym, text_for, true, whole_text, world_of, ◌∙◌, ◌∷◌, ◌≡◌, ◌⊎◌}
+use Rattle.hd_run.proofs.Basics.{Cmd, Contains, Done, Ending, Fault, Form, KeepsRun, List, Nothing, Numbers, Option, Outcome, RanAllTogether, Refused, Reports, RootId, RunCause, Shared, SinkView, Stopped, StoppedTogether, Together, Took, WorldView, [], ap, false, fault_status, inl, inr, journal_in, kept_of, lit<, ran_text, refl, status_of, stopped_text, subst, sym, text_for, true, whole_text, world_of, ◌∙◌, ◌∷◌, ◌≡◌, ◌⊎◌}
 use Rattle.hd_run.proofs.RunEndings.{no_whole, nothing_reported, run_keeps, reported_as, write_rose, status_cases}
 use Rattle.hd_run.proofs.CallClaims.{kept_handles}
 use Rattle.hd_run.specs.declared.ending.Ran.TheVariants as ran

@@ -1,23 +1,23 @@
 -- What the work of a request comes to, and that its ending can be written.
-use Rattle.hd_run.proofs.Basics.{BLOCKS, Bool, CALLERS, CauseBy, Cmd, Done, Ending, HEAP, HasSumOf, IsInLimits, IsJob, IsWritable, List, Lists, Load, Mode, Refused, Request, ScriptBy, SourceView, Stopped, Traits, Worked, arith, false, generated_lists, inl, inr, not, numbers_by, numbers_for, refl, runs_alone, subst, sym, traits_of, true, ◌&&◌, ◌≡◌, ◌≤◌}
+use Rattle.hd_run.proofs.Basics.{BLOCKS, Bool, CALLERS, CauseBy, Cmd, Done, Ending, HEAP, HasSumOf, IsInLimits, IsJob, IsWritable, List, Lists, Load, Mode, Refused, Request, ScriptBy, Solo, SourceView, Stopped, Summary, TheRun, Traits, Worked, arith, false, form_by, form_of, generated_lists, inl, inr, not, numbers_by, numbers_for, refl, runs_alone, subst, sym, traits_of, true, ◌&&◌, ◌≡◌, ◌≤◌}
 use Rattle.hd_run.proofs.RunEndings.{run_callers, lines_sum, fault_writable}
 use Rattle.hd_run.proofs.LoadClaims.{load_is, load_sum}
 
 -- one thread runs the script, and lists the roots or not
 alone : (listed : Bool) (t : Traits) → runs_alone listed t ≡ true
     → (t.threads ≡ false) × (t.lists_roots ≡ listed)
-alone true t is = listing t.threads t.lists_roots is
+alone true t is = listing t.threads t.lists_roots t.judges is
   where
-    listing : (a b : Bool) → (not a && b) ≡ true → (a ≡ false) × (b ≡ true)
-    listing false true is = (refl, refl)
-    listing false false is = cc
-    listing true b is = cc
-alone false t is = plain t.threads t.lists_roots is
+    listing : (a b c : Bool) → (not a && b && not c) ≡ true → (a ≡ false) × (b ≡ true)
+    listing false true c is = (refl, refl)
+    listing false false c is = cc
+    listing true b c is = cc
+alone false t is = plain t.threads t.lists_roots t.judges is
   where
-    plain : (a b : Bool) → (not a && not b) ≡ true → (a ≡ false) × (b ≡ false)
-    plain false false is = (refl, refl)
-    plain false true is = cc
-    plain true b is = cc
+    plain : (a b c : Bool) → (not a && not b && not c) ≡ true → (a ≡ false) × (b ≡ false)
+    plain false false c is = (refl, refl)
+    plain false true c is = cc
+    plain true b c is = cc
 
 module _ (r : Request) (old new : SourceView) where
   abbrev reads : Bool
@@ -54,25 +54,35 @@ module _ (r : Request) (old new : SourceView) where
   few true lists read = read.program.shape.most
   few false lists script = omega arith
 
-  sum_of : (m : Mode) (e : Ending) →
+  sum_of : (m : Mode) (slots : Bool) (e : Ending) →
       CauseBy (traits_of m).reads (traits_of m).threads (traits_of m).lists_roots r old new e →
-      HasSumOf (traits_of m).form e
-  sum_of Load (Refused f) cause = tt
-  sum_of Load (Stopped run) cause = tt
-  sum_of Load (Done run roots) (lists, script, all) = load_sum r.rounds lists script.1 (Done run roots) all
-  sum_of m e cause = lines_sum e
+      HasSumOf (form_by slots (traits_of m)) e
+  sum_of Load slots e cause = in_summary slots (by e cause)
+    where
+      in_summary : (t : Bool) → HasSumOf Summary e → HasSumOf (form_by t (traits_of Load)) e
+      in_summary true is = is
+      in_summary false is = is
+
+      by : (f : Ending) → CauseBy false true false r old new f → HasSumOf Summary f
+      by (Refused f) cause = tt
+      by (Stopped run) cause = tt
+      by (Done run roots) (lists, script, all) = load_sum r.rounds lists script.1 (Done run roots) all
+  sum_of Solo true e cause = lines_sum true e
+  sum_of TheRun true e cause = lines_sum true e
+  sum_of m true e cause = lines_sum false e
+  sum_of m false e cause = lines_sum false e
 
   pub cause_writable : (e : Ending) →
       CauseBy reads (traits_of r.mode).threads (traits_of r.mode).lists_roots r old new e →
-      IsWritable (traits_of r.mode).form e
-  cause_writable (Refused f) cause = fault_writable (traits_of r.mode).form f
+      IsWritable (form_of r) e
+  cause_writable (Refused f) cause = fault_writable (form_of r) f
   cause_writable (Stopped run) (lists, script, at) = record {
     callers = run_callers _ _ _ lists (Stopped run) at (few reads lists script);
-    sum = sum_of r.mode (Stopped run) (lists, script, at);
+    sum = sum_of r.mode r.slots (Stopped run) (lists, script, at);
   }
   cause_writable (Done run roots) (lists, script, all) = record {
     callers = run_callers _ _ _ lists (Done run roots) all (few reads lists script);
-    sum = sum_of r.mode (Done run roots) (lists, script, all);
+    sum = sum_of r.mode r.slots (Done run roots) (lists, script, all);
   }
 
 -- ---- the same of a source
@@ -96,5 +106,5 @@ module _ {S : Type 0} (seen : S → SourceView) (r : Request) (source : S × S) 
 
   pub worked_writable : (e : Ending) →
       Worked seen (traits_of r.mode).threads (traits_of r.mode).lists_roots r source e →
-      IsWritable (traits_of r.mode).form e
+      IsWritable (form_of r) e
   worked_writable e worked = cause_writable r (seen source.0) (seen source.1) e worked.cause

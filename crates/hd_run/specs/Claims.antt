@@ -18,7 +18,7 @@ abbrev pub RunsWhole : Option Request → SourceView → SourceView → SinkView
 RunsWhole asked old new before after kept = IsSomeAnd asked (λ r. let t = traits_of r.mode in
     (lists : List (List Cmd)) × ScriptBy t.reads r old new lists
     × (run : Ran) × (kept ≡ kept_that run) × RanBy t.threads (numbers_by t.reads r lists) lists run
-    × Took before after (text_by t (world_that run)))
+    × Took before after (text_by r (world_that run)))
 
 -- What was read where nothing is kept: at most the limit of bytes, and nothing where no mode asks for it. Of
 -- a run it says nothing.

@@ -2,7 +2,7 @@
 -- goes in this order: the words, reading, the size, the grammar, running. All this is the project's
 -- own.
 use Rattle.std.specs.Prelude.{◌≡◌, ◌⊎◌, Bool, true, false, ℕ, ◌+◌, ◌≤◌, List, [], length, Option, None, Some, Result, Ok, Err}
-use Rattle.hd_model.specs.{declared.command.Cmd.Cmd, declared.data.Entry.Entry, declared.data.Memory.Memory, declared.data.RootId.RootId, declared.limits.TheConstants.MOST_BYTES, declared.limits.TheConstants.MOST_ROUNDS, Generated.load_numbers, Generated.generated_lists, Grammar.script_of, Grammar.AreLists, RootText.roots_of, State.Numbers}
+use Rattle.hd_model.specs.{declared.command.Cmd.Cmd, declared.data.Entry.Entry, declared.data.RootId.RootId, declared.limits.TheConstants.MOST_BYTES, declared.limits.TheConstants.MOST_ROUNDS, Generated.load_numbers, Generated.generated_lists, Grammar.script_of, Grammar.AreLists, RootText.roots_of, State.Numbers}
 use Rattle.hd_io.specs.declared.source.ReadFault.{ReadFault}
 use Rattle.hd_io.specs.declared.source.ReadFault.TheVariants as read_fault
 use Rattle.hd_io.specs.Source.{SourceView, GaveAll, GaveCount, ReadBrokeOff}

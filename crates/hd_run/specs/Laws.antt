@@ -1,6 +1,6 @@
 -- What the turns of a journal say of each caller's part of it; and the limits as numbers, since a definition
 -- cites the program's own constants, which another number would change with them.
-use Rattle.std.specs.Prelude.{◌≡◌, ℕ, List, [], ◌++◌, map, codes, Option}
+use Rattle.std.specs.Prelude.{◌≡◌, ℕ, List, [], ◌++◌, map, codes, false, Option}
 use Rattle.clap.specs.Words.{new_app, with_rule}
 use Rattle.hd_model.specs.{declared.command.Cmd.Cmd, declared.data.Entry.Entry, declared.data.RootId.RootId, Run.part_of, Run.commands_of}
 use Rattle.hd_model.specs.declared.limits.TheConstants.{HEAP, BLOCKS, MOST_ROUNDS, MOST_BYTES}
@@ -8,7 +8,8 @@ use Rattle.hd_run.specs.declared.ending.Fault.TheVariants.{Usage, Unread, OverSi
 use Rattle.hd_run.specs.declared.ending.Ending.TheVariants.{Refused, Stopped, Done}
 use Rattle.hd_run.specs.{declared.ending.Ran.Ran, declared.limits.TheConstants.LEAST_HEAP, declared.mode.Mode.Mode, Report.status_of}
 use Rattle.hd_run.specs.Turns.{list_of, turns_from, turn_of, taken_by}
-use Rattle.hd_run.specs.Words.{program, mode_rule, number_rule, with_numbers}
+use Rattle.hd_run.specs.Words.{program, mode_rule, number_rule, flag_rule, with_numbers}
+use Rattle.hd_run.specs.{Audit.finding_status, declared.audit.Finding.TheVariants.Right, declared.audit.Finding.TheVariants.WrongAt}
 
 -- Where the turns of a journal are a prefix of all turns of a script, each caller's list is the
 -- commands of its part, and then those of its turns that are left.
@@ -20,12 +21,17 @@ PartsFollowTheTurns =
 
 pub record LimitsAreThese : Type 0 where
   -- the words take a heap of 3 to 1,000,000 cells, 1 to 256 blocks, and 1 to 3,000 rounds
-  pub words : program ≡ with_rule (with_rule (with_rule (with_rule (new_app (codes "hdt")) mode_rule)
-      (number_rule (codes "heap") 3 1000000)) (number_rule (codes "blocks") 1 256))
-      (number_rule (codes "rounds") 1 3000)
-  -- where they name no number, the heap has 1,000,000 cells, there are 256 blocks, and a load has 100 rounds
-  pub defaults : (mode : Mode) → with_numbers [] mode
-      ≡ record { mode = mode; limits = record { heap = 1000000; blocks = 256 }; rounds = 100 }
+  pub words : program ≡ with_rule (with_rule (with_rule (with_rule (with_rule (new_app (codes "hdt"))
+      mode_rule) (number_rule (codes "heap") 3 1000000)) (number_rule (codes "blocks") 1 256))
+      (number_rule (codes "rounds") 1 3000)) (flag_rule (codes "slots"))
+  -- where they name no number, the heap has 1,000,000 cells, there are 256 blocks, and a load has 100 rounds;
+  -- and lines have no slots
+  pub defaults : (mode : Mode) → with_numbers [] mode ≡ record {
+    mode = mode;
+    limits = record { heap = 1000000; blocks = 256 };
+    rounds = 100;
+    slots = false;
+  }
   -- the same limits hold where no words are read
   pub heap : (LEAST_HEAP ≡ 3) × (HEAP ≡ 1000000)
   pub blocks : BLOCKS ≡ 256
@@ -40,3 +46,5 @@ pub record LimitsAreThese : Type 0 where
   pub unread : status_of (Refused Unread) ≡ 4
   pub memory : status_of (Refused NoMemory) ≡ 6
   pub stopped : (run : Ran) → status_of (Stopped run) ≡ 6
+  pub right : finding_status Right ≡ 0
+  pub wrong : (line : ℕ) → finding_status (WrongAt line) ≡ 7

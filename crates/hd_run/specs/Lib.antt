@@ -7,5 +7,7 @@ pub mod Ending
 pub mod Work
 pub mod Report
 pub mod Claims
+pub mod Audit
+pub mod AuditClaims
 pub mod Laws
 pub mod Still

@@ -1,10 +1,12 @@
 -- What a call writes and returns. The texts and the statuses are this project's own.
 use Rattle.std.specs.Prelude.{◌≡◌, ℕ, ◌^◌, ◌<◌, sum_by, List, ◌++◌, ◌⊎◌, codes, decimal, Option, None, Some, Result, MatchResult, All}
+use Rattle.std.specs.List.{concat}
 use Rattle.hd_model.specs.{declared.data.Entry.Entry, declared.data.RootId.RootId, declared.limits.TheConstants.CALLERS, Generated.load_text_of, Generated.value_returned, RootText.list_text}
 use Rattle.hd_model.specs.Text.{newline, lines_of, text_of}
+use Rattle.hd_model.specs.FullText.{full_lines, full_text_of}
 use Rattle.hd_io.specs.Sink.{SinkView, Took, WriteBrokeOff}
 use Rattle.hd_world.specs.World.{WorldView}
-use Rattle.hd_run.specs.{declared.ending.Fault.Fault, declared.ending.Ending.Ending, declared.outcome.Outcome.Outcome, declared.mode.Form.Form, declared.mode.Form.TheVariants.Lines, declared.mode.Form.TheVariants.Summary, declared.mode.Traits.Traits, declared.request.Request.Request, Modes.traits_of}
+use Rattle.hd_run.specs.{declared.ending.Fault.Fault, declared.ending.Ending.Ending, declared.outcome.Outcome.Outcome, declared.mode.Form.Form, declared.mode.Form.TheVariants.Lines, declared.mode.Form.TheVariants.FullLines, declared.mode.Form.TheVariants.Summary, declared.request.Request.Request, Modes.traits_of, Modes.form_of}
 use Rattle.hd_run.specs.declared.ending.Fault.TheVariants.{Usage, Unread, OverSize, BadLine, NoMemory}
 use Rattle.hd_run.specs.declared.ending.Ending.TheVariants.{Refused, Stopped, Done}
 use Rattle.hd_run.specs.Ending.{world_that, kept_of, world_of, journal_in, roots_by}
@@ -28,7 +30,8 @@ memory_text = codes "fault memory" ++ newline
 
 abbrev pub fault_text : Fault → List ℕ
 fault_text Usage =
-    codes "usage: hdt solo|run|load|roots [--heap CELLS] [--blocks COUNT] [--rounds N]" ++ newline
+    codes "usage: hdt solo|run|load|roots|audit [--heap CELLS] [--blocks COUNT] [--rounds N] [--slots]"
+    ++ newline
 fault_text Unread = codes "fault read" ++ newline
 fault_text OverSize = codes "fault size" ++ newline
 fault_text (BadLine k) = codes "fault line " ++ decimal k ++ newline
@@ -37,11 +40,13 @@ fault_text NoMemory = memory_text
 -- what is written where memory ran out: the entries so far and its line, or its line alone
 abbrev pub stopped_text : Form → List Entry → List ℕ
 stopped_text Lines journal = lines_of journal ++ memory_text
+stopped_text FullLines journal = concat (full_lines journal) ++ memory_text
 stopped_text Summary journal = memory_text
 
--- what is written of a whole run: the text of its journal, or the line of a load
+-- what is written of a whole run: the text of its journal, plain or full, or the line of a load
 abbrev pub whole_text : Form → WorldView → List ℕ
 whole_text Lines w = text_of w.journal w.state
+whole_text FullLines w = full_text_of w.journal w.state
 whole_text Summary w = load_text_of w.journal w.state
 
 -- what is written of what ran: after that the lines of the roots, where they were listed
@@ -49,9 +54,9 @@ abbrev pub ran_text : Form → WorldView → Option (List RootId) → List ℕ
 ran_text form w None = whole_text form w
 ran_text form w (Some roots) = whole_text form w ++ list_text roots
 
--- what a mode writes of a whole run
-abbrev pub text_by : Traits → WorldView → List ℕ
-text_by t w = ran_text t.form w (roots_by t.lists_roots w)
+-- what is written of a whole run for a request
+abbrev pub text_by : Request → WorldView → List ℕ
+text_by r w = ran_text (form_of r) w (roots_by (traits_of r.mode).lists_roots w)
 
 -- what each ending writes
 abbrev pub text_for : Form → Ending → List ℕ
@@ -59,10 +64,10 @@ text_for form (Refused fault) = fault_text fault
 text_for form (Stopped run) = stopped_text form (world_that run).journal
 text_for form (Done run roots) = ran_text form (world_that run) roots
 
--- how the mode of a request writes a run, and how a refusal of the words is written
+-- how the run of a request is written, and how a refusal of the words is
 abbrev pub form_for : Option Request → Form
 form_for None = Lines
-form_for (Some r) = (traits_of r.mode).form
+form_for (Some r) = form_of r
 
 -- the sink took all of a text; or a write failed, after a prefix of it
 abbrev pub Writes : {T E : Type 0} → SinkView → SinkView → List ℕ → Result T E → Type 0
@@ -76,6 +81,7 @@ HasFewCallers journal = All (λ (e : Entry). e.caller < CALLERS) journal
 -- the sum that a load reports fits in 64 bits
 abbrev pub HasSum : Form → WorldView → Type 0
 HasSum Lines w = Unit {0}
+HasSum FullLines w = Unit {0}
 HasSum Summary w = sum_by (λ (e : Entry). value_returned e.reply) w.journal < 2 ^ 64
 
 abbrev pub HasSumOf : Form → Ending → Type 0

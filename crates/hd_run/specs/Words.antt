@@ -1,9 +1,9 @@
 -- What the words of a command line ask for. The modes, the options and their limits are this project's own;
 -- which words a command takes, and which values it finds in them, is as `clap` has it.
 use Rattle.std.specs.Prelude.{◌≡◌, ◌≢◌, ◌⊎◌, ℕ, ◌≤◌, Bool, true, false, List, [], ◌∷◌, map, codes, Option, None, Some, Result, Ok, Err, String, string_bytes, option_map, option_and_then, if◌then◌else◌}
-use Rattle.std.specs.{Option.option_map_or, declared.alloc.Global.Global, Str.Parse.digits_value, Str.Parse.without_leading_plus}
+use Rattle.std.specs.{Option.option_map_or, declared.alloc.Global.Global, Str.bytes_eq, Str.Parse.digits_value, Str.Parse.without_leading_plus}
 use Rattle.clap.specs.Words.{App, IsUnsignedIn, Row, Rule, Text, first_of, one_of, fault_of, matches_of, new_app, new_rule, one_text, with_rule}
-use Rattle.clap.specs.{declared.error.kind.ErrorKind.ErrorKind, declared.error.kind.ErrorKind.TheVariants.OutOfMemory, declared.builder.value_parser.ValueParser.TheVariants.Unsigned, declared.parser.matches.Found.Found}
+use Rattle.clap.specs.{declared.error.kind.ErrorKind.ErrorKind, declared.error.kind.ErrorKind.TheVariants.OutOfMemory, declared.builder.action.ArgAction.TheVariants.SetTrue, declared.builder.value_parser.ValueParser.TheVariants.Unsigned, declared.parser.matches.Found.Found}
 use Rattle.hd_model.specs.declared.limits.TheConstants.{HEAP, BLOCKS, MOST_ROUNDS}
 use Rattle.hd_run.specs.{declared.limits.TheConstants.LEAST_HEAP, declared.request.TheConstants.ROUNDS, declared.ending.Fault.Fault, declared.ending.Fault.TheVariants.Usage, declared.ending.Fault.TheVariants.NoMemory, declared.mode.Mode.Mode, declared.request.Request.Request}
 use Rattle.hd_run.specs.Modes.{mode_of, traits_of, runs_alone}
@@ -19,11 +19,19 @@ number_rule name least most = record (new_rule name) {
   parser = Some (Unsigned least most);
 }
 
--- the command: a mode, and three options
-abbrev pub program : App
-program = with_rule (with_rule (with_rule (with_rule (new_app (codes "hdt")) mode_rule)
+-- an option without a value
+abbrev pub flag_rule : Text → Rule
+flag_rule name = record (new_rule name) { long = Some name; action = Some SetTrue }
+
+-- a mode, and three options with a number
+abbrev pub numbered : App
+numbered = with_rule (with_rule (with_rule (with_rule (new_app (codes "hdt")) mode_rule)
     (number_rule (codes "heap") LEAST_HEAP HEAP)) (number_rule (codes "blocks") 1 BLOCKS))
     (number_rule (codes "rounds") 1 MOST_ROUNDS)
+
+-- the command: these, and a flag
+abbrev pub program : App
+program = with_rule numbered (flag_rule (codes "slots"))
 
 -- the number that a text of digits states
 abbrev pub number_in : Text → ℕ
@@ -33,7 +41,11 @@ number_in text = digits_value 10 (without_leading_plus text)
 abbrev pub number_of : List Row → Text → ℕ → ℕ
 number_of rows name default = option_map_or number_in (one_of name rows) default
 
--- a mode with the numbers of the options
+-- whether a flag is given: its text is then `true`
+abbrev pub is_given : List Row → Text → Bool
+is_given rows name = option_map_or (λ text. bytes_eq text (codes "true")) (first_of name rows) false
+
+-- a mode with the numbers of the options and the flag
 abbrev pub with_numbers : List Row → Mode → Request
 with_numbers rows mode = record {
   mode = mode;
@@ -42,6 +54,7 @@ with_numbers rows mode = record {
     blocks = number_of rows (codes "blocks") BLOCKS;
   };
   rounds = number_of rows (codes "rounds") ROUNDS;
+  slots = is_given rows (codes "slots");
 }
 
 -- what is asked for by what the command finds in the words
@@ -70,6 +83,11 @@ solo_of asked = if_alone false asked
 -- a request, where it is one for the mode `roots`
 abbrev pub listing_of : Option Request → Option Request
 listing_of asked = if_alone true asked
+
+-- a request, where it is one for a mode that judges
+abbrev pub audit_of : Option Request → Option Request
+audit_of None = None
+audit_of (Some r) = if (traits_of r.mode).judges then Some r else None
 
 -- why words are refused: memory ran out, or they ask for nothing
 abbrev pub IsFaultOfWords : Option Request → Fault → Type 0

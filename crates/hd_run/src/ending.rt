@@ -73,7 +73,7 @@ impl Ran {
 }
 
 impl Fault {
-    fn status(self) -> u8
+    pub(crate) fn status(self) -> u8
         ensures { result ≡ fault_status self }
     {
         match self {

@@ -3,10 +3,12 @@
 
 ghost use Rattle.std.specs.Prelude.{◌≡◌, ◌≤◌};
 ghost use Rattle.hd_model.specs.Generated.{load_numbers, generated_lists};
-ghost use Rattle.hd_run.specs.{declared.mode.Form.TheVariants.Lines, declared.mode.Form.TheVariants.Summary, declared.limits.TheConstants.LEAST_HEAP, Bounds.numbers_for};
-ghost use Rattle.hd_run.specs.Words.{request_of, solo_of, listing_of};
+ghost use Rattle.hd_run.specs.{declared.mode.Form.TheVariants.Summary, declared.limits.TheConstants.LEAST_HEAP, Bounds.numbers_for, Modes.lines_form};
+ghost use Rattle.hd_run.specs.Words.{request_of, solo_of, listing_of, audit_of};
 ghost use Rattle.hd_run.specs.Claims.{Promise, Together, HasLine};
+ghost use Rattle.hd_run.specs.AuditClaims.{AuditPromise, ProgramPromise};
 
+mod audit;
 mod ending;
 mod laws;
 mod limits;
@@ -21,11 +23,12 @@ mod threads;
 mod turns;
 mod work;
 
+use crate::audit::{Finding, judge};
 use crate::ending::{Ending, Fault};
 use crate::limits::Limits;
 use crate::mode::Form;
-use crate::report::report;
-use crate::request::{read_words, read_words_alone};
+use crate::report::{report, report_finding};
+use crate::request::{read_audit_words, read_words, read_words_alone};
 use crate::threads::run_callers;
 use crate::work::{work, work_alone};
 use hd_io::{Pace, Sink, Source};
@@ -39,8 +42,8 @@ use std::thread::Threads;
 pub use still::still_ends_never_fail;
 
 /// The program: reads its words, the program's name first, and does what they say, in the mode that
-/// they name: `solo`, `run`, `load` or `roots`. It may start threads and wait for them, so what it
-/// promises is promised where it returns.
+/// they name: `solo`, `run`, `load`, `roots` or `audit`. It may start threads and wait for them, so
+/// what it promises is promised where it returns.
 pub fn top<R: Threads + Wait + Sync, S: Source, K: Sink, P: Pace>(
     rt: &R,
     alloc: Global,
@@ -49,12 +52,15 @@ pub fn top<R: Threads + Wait + Sync, S: Source, K: Sink, P: Pace>(
     sink: &mut K,
     pace: &P,
 ) -> Outcome
-    ensures { Promise S.seen K.seen (request_of words.now)
+    ensures { ProgramPromise S.seen K.seen (request_of words.now)
         (source.old, source.new) (sink.old, sink.new) result }
 {
     match read_words(alloc, words) {
         Ok(request) => {
-            let form = request.mode.traits().form;
+            if request.mode.traits().judges {
+                return audit_mode(alloc, words, source, sink);
+            }
+            let form = request.form();
             let ending = work(rt, alloc, request, source, pace);
             report(sink, form, ending)
         }
@@ -77,7 +83,7 @@ pub fn solo<S: Source, K: Sink>(
 {
     match read_words_alone(alloc, words, false) {
         Ok(request) => {
-            let form = request.mode.traits().form;
+            let form = request.form();
             let ending = work_alone(alloc, request, source);
             report(sink, form, ending)
         }
@@ -100,7 +106,7 @@ pub fn roots<R: Threads + Sync, S: Source, K: Sink>(
 {
     match read_words_alone(alloc, words, true) {
         Ok(request) => {
-            let form = request.mode.traits().form;
+            let form = request.form();
             let ending = work_alone(alloc, request, source).list_roots(rt, alloc);
             report(sink, form, ending)
         }
@@ -108,28 +114,47 @@ pub fn roots<R: Threads + Sync, S: Source, K: Sink>(
     }
 }
 
+/// Judges the text that the source gives after a script and a line whose one word is `=`: whether
+/// it is the full text of a run of the whole script, over a heap and a table as the words have it.
+/// The source gives at most 8,388,608 bytes. Words that don't name the mode `audit` are refused.
+pub fn audit_mode<S: Source, K: Sink>(
+    alloc: Global,
+    words: &[String],
+    source: &mut S,
+    sink: &mut K,
+) -> Outcome
+    ensures { AuditPromise S.seen K.seen (audit_of (request_of words.now))
+        (source.old, source.new) (sink.old, sink.new) result }
+{
+    match read_audit_words(alloc, words) {
+        Ok(request) => report_finding(sink, judge(alloc, &request.limits, source)),
+        Err(fault) => report_finding(sink, Finding::Refused(fault)),
+    }
+}
+
 /// Runs a script by a thread for each of its callers, over a heap of at most `heap` cells, 3 to
 /// 1,000,000, and a table of `blocks` blocks, 1 to 256, and writes what `solo` would write of its
-/// journal. A caller that finds no memory stops.
+/// journal, in full lines or plain ones. A caller that finds no memory stops.
 pub fn run<R: Threads + Wait + Sync, K: Sink, P: Pace>(
     rt: &R,
     alloc: Global,
     scripts: &Scripts,
     heap: u32,
     blocks: u32,
+    full: bool,
     sink: &mut K,
     pace: &P,
 ) -> Outcome
     requires heap { (LEAST_HEAP ≤ heap) × (heap ≤ HEAP) }
     requires blocks { (1 ≤ blocks) × (blocks ≤ BLOCKS) }
-    ensures { Together K.seen Lines
+    ensures { Together K.seen (lines_form full)
         (numbers_for (record { heap = heap; blocks = blocks }) scripts.now)
         scripts.now sink.old sink.new result }
 {
     // The scripts state that they are of few callers.
     let _callers = scripts.callers();
     let ending = run_callers(rt, alloc, scripts, &Limits::new(heap, blocks), pace);
-    report(sink, Form::Lines, ending)
+    report(sink, Form::lines(full), ending)
 }
 
 /// Runs the script of a load of 1 to 3,000 rounds as `run` does, and writes one line.

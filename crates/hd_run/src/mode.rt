@@ -1,6 +1,6 @@
 // The modes of the program.
 ghost use Rattle.std.specs.Prelude.{◌≡◌};
-ghost use Rattle.hd_run.specs.Modes.{mode_of, traits_of, runs_alone};
+ghost use Rattle.hd_run.specs.Modes.{mode_of, traits_of, runs_alone, form_by, lines_form};
 
 /// The modes of the program.
 #[derive(Clone, Copy)]
@@ -9,12 +9,15 @@ pub(crate) enum Mode {
     Run,
     Load,
     Roots,
+    Audit,
 }
 
-/// How a run is written: a line for each entry and one for its end, or one line for all.
+/// How a run is written: a line for each entry, plain or full, and one for its end, or one line for
+/// all.
 #[derive(Clone, Copy)]
 pub(crate) enum Form {
     Lines,
+    FullLines,
     Summary,
 }
 
@@ -27,7 +30,11 @@ pub(crate) struct Traits {
     pub(crate) threads: bool,
     /// It lists the roots of the world once the script was run.
     pub(crate) lists_roots: bool,
+    /// It judges a text against the script, and runs nothing.
+    pub(crate) judges: bool,
+    /// How it writes a run, and how where the words ask for slots.
     pub(crate) form: Form,
+    pub(crate) slots_form: Form,
 }
 
 impl Mode {
@@ -40,6 +47,7 @@ impl Mode {
             "run" => Some(Mode::Run),
             "load" => Some(Mode::Load),
             "roots" => Some(Mode::Roots),
+            "audit" => Some(Mode::Audit),
             _ => None,
         }
     }
@@ -48,18 +56,35 @@ impl Mode {
     pub(crate) fn traits(self) -> Traits
         ensures { result ≡ traits_of self }
     {
-        let (reads, threads, lists_roots, form) = match self {
-            Mode::Solo => (true, false, false, Form::Lines),
-            Mode::Run => (true, true, false, Form::Lines),
-            Mode::Load => (false, true, false, Form::Summary),
-            Mode::Roots => (true, false, true, Form::Lines),
+        let (reads, threads, lists_roots, judges) = match self {
+            Mode::Solo => (true, false, false, false),
+            Mode::Run => (true, true, false, false),
+            Mode::Load => (false, true, false, false),
+            Mode::Roots => (true, false, true, false),
+            Mode::Audit => (true, false, false, true),
+        };
+        let (form, slots_form) = match self {
+            Mode::Solo | Mode::Run => (Form::Lines, Form::FullLines),
+            Mode::Load => (Form::Summary, Form::Summary),
+            Mode::Roots | Mode::Audit => (Form::Lines, Form::Lines),
         };
         Traits {
             reads,
             threads,
             lists_roots,
+            judges,
             form,
+            slots_form,
         }
+    }
+}
+
+impl Form {
+    /// Lines, full or plain.
+    pub(crate) fn lines(full: bool) -> Form
+        ensures { result ≡ lines_form full }
+    {
+        if full { Form::FullLines } else { Form::Lines }
     }
 }
 
@@ -69,9 +94,16 @@ impl Traits {
         ensures { result ≡ runs_alone lists_roots self }
     {
         if lists_roots {
-            !self.threads && self.lists_roots
+            !self.threads && self.lists_roots && !self.judges
         } else {
-            !self.threads && !self.lists_roots
+            !self.threads && !self.lists_roots && !self.judges
         }
+    }
+
+    /// How it writes a run, where slots are asked for or not.
+    pub(crate) fn form_by(self, slots: bool) -> Form
+        ensures { result ≡ form_by slots self }
+    {
+        if slots { self.slots_form } else { self.form }
     }
 }

@@ -10,9 +10,10 @@ pub enum Kept {
     Shared(Closed),
 }
 
-/// How a call ended: its status, and what it keeps. The status is 0 after a whole run, 2 for words
-/// that are not valid, 3 for bytes that are no script, 4 for a fault of the source, 5 for one of
-/// the sink, and 6 where memory ran out.
+/// How a call ended: its status, and what it keeps. The status is 0 after a whole run, or where a
+/// text is that of a run, 2 for words that are not valid, 3 for bytes that are no script, 4 for a
+/// fault of the source, 5 for one of the sink, 6 where memory ran out, and 7 where a text is not
+/// that of a run.
 #[derive(Drop)]
 pub struct Outcome {
     pub status: u8,

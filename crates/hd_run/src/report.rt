@@ -1,17 +1,20 @@
-ghost use Rattle.std.specs.Prelude.{◌≡◌, ◌++◌};
-ghost use Rattle.hd_model.specs.Text.{lines_of};
-ghost use Rattle.hd_run.specs.Ending.{world_that};
+ghost use Rattle.std.specs.Prelude.{◌≡◌, ◌≤◌, ◌++◌, decimal, length};
+ghost use Rattle.hd_print.specs.EntryLines.{lines_by};
+ghost use Rattle.hd_model.specs.Text.{newline};
+ghost use Rattle.hd_run.specs.{Ending.world_that, Modes.lines_form};
 ghost use Rattle.hd_run.specs.Report.{Reports, Writes, HasFewCallers, HasSum, IsWritable};
 ghost use Rattle.hd_run.specs.Report.{text_for, stopped_text, ran_text, whole_text, fault_text};
+ghost use Rattle.hd_run.specs.Audit.{finding_text, ReportsFinding};
 
-use crate::Outcome;
+use crate::audit::Finding;
 use crate::ending::{Ending, Fault};
 use crate::mode::Form;
 use crate::root_list::RootList;
 use crate::summary::summary;
+use crate::{Kept, Outcome};
 use hd_io::{Failed, Sink, write_all};
 use hd_model::Journal;
-use hd_print::{Line, end_line, write_entries};
+use hd_print::{Line, end_line, write_entries, write_full};
 use hd_world::World;
 
 // The status where the sink failed.
@@ -19,7 +22,13 @@ const WRITE_FAULT: u8 = 5;
 
 const MEMORY: &str = "fault memory\n";
 
-const USAGE: &str = "usage: hdt solo|run|load|roots [--heap CELLS] [--blocks COUNT] [--rounds N]\n";
+const RIGHT: &str = "run yes\n";
+
+// The most bytes of words before a number.
+const LONGEST_WORDS: usize = 20;
+
+const USAGE: &str =
+    "usage: hdt solo|run|load|roots|audit [--heap CELLS] [--blocks COUNT] [--rounds N] [--slots]\n";
 
 /// Writes what an ending has to say, and returns its status and what it keeps.
 pub(crate) fn report<K: Sink>(sink: &mut K, form: Form, ending: Ending) -> Outcome
@@ -33,6 +42,20 @@ pub(crate) fn report<K: Sink>(sink: &mut K, form: Form, ending: Ending) -> Outco
     Outcome {
         status,
         kept: ending.kept(),
+    }
+}
+
+/// Writes what an audit found, and returns its status. Nothing is kept.
+pub(crate) fn report_finding<K: Sink>(sink: &mut K, finding: Finding) -> Outcome
+    ensures { ReportsFinding (K.seen sink.old) (K.seen sink.new) finding result }
+{
+    let status = match write_all(sink, finding_line(finding).as_bytes()) {
+        Ok(()) => finding.status(),
+        Err(Failed) => WRITE_FAULT,
+    };
+    Outcome {
+        status,
+        kept: Kept::Nothing,
     }
 }
 
@@ -54,7 +77,8 @@ fn write_stopped<K: Sink>(sink: &mut K, form: Form, journal: &Journal) -> Result
         result }
 {
     match form {
-        Form::Lines => write_lines(sink, journal, MEMORY.as_bytes()),
+        Form::Lines => write_lines(sink, journal, false, MEMORY.as_bytes()),
+        Form::FullLines => write_lines(sink, journal, true, MEMORY.as_bytes()),
         Form::Summary => write_all(sink, MEMORY.as_bytes()),
     }
 }
@@ -88,23 +112,58 @@ fn write_whole<K: Sink>(sink: &mut K, form: Form, world: &World) -> Result<(), F
     ensures { Writes (K.seen sink.old) (K.seen sink.new) (whole_text form world.now) result }
 {
     match form {
-        Form::Lines => {
-            let line = end_line(world.live(), world.objects(), world.collections());
-            write_lines(sink, world.journal(), line.as_bytes())
-        }
+        Form::Lines => write_world(sink, world, false),
+        Form::FullLines => write_world(sink, world, true),
         Form::Summary => write_all(sink, summary(world).as_bytes()),
     }
 }
 
-// The lines of a journal, and then a last one.
+// The lines of a world's journal, full or plain, and the line of its end.
+fn write_world<K: Sink>(sink: &mut K, world: &World, full: bool) -> Result<(), Failed>
+    requires { HasFewCallers world.now.journal }
+    ensures { Writes (K.seen sink.old) (K.seen sink.new) (whole_text (lines_form full) world.now)
+        result }
+{
+    let line = end_line(world.live(), world.objects(), world.collections());
+    write_lines(sink, world.journal(), full, line.as_bytes())
+}
+
+// The lines of a journal, full or plain, and then a last one.
 #[tactic(auto, using(hd_io::proofs::SinkPieces::appending))]
-fn write_lines<K: Sink>(sink: &mut K, journal: &Journal, last: &[u8]) -> Result<(), Failed>
+fn write_lines<K: Sink>(
+    sink: &mut K,
+    journal: &Journal,
+    full: bool,
+    last: &[u8],
+) -> Result<(), Failed>
     requires { HasFewCallers journal.now.entries }
     ensures { Writes (K.seen sink.old) (K.seen sink.new)
-        (lines_of journal.now.entries ++ last.now) result }
+        (lines_by full journal.now.entries ++ last.now) result }
 {
-    write_entries(journal, sink)?;
+    write_journal(sink, journal, full)?;
     write_all(sink, last)
+}
+
+fn write_journal<K: Sink>(sink: &mut K, journal: &Journal, full: bool) -> Result<(), Failed>
+    requires { HasFewCallers journal.now.entries }
+    ensures { Writes (K.seen sink.old) (K.seen sink.new) (lines_by full journal.now.entries)
+        result }
+{
+    if full {
+        write_full(journal, sink)
+    } else {
+        write_entries(journal, sink)
+    }
+}
+
+fn finding_line(finding: Finding) -> Line
+    ensures { result ≡ finding_text finding }
+{
+    match finding {
+        Finding::Refused(fault) => fault_line(fault),
+        Finding::Right => line_of(RIGHT),
+        Finding::WrongAt(line) => numbered_line("run no ", line),
+    }
 }
 
 fn fault_line(fault: Fault) -> Line
@@ -115,18 +174,27 @@ fn fault_line(fault: Fault) -> Line
         Fault::Unread => "fault read\n",
         Fault::OverSize => "fault size\n",
         Fault::NoMemory => MEMORY,
-        Fault::BadLine(number) => return bad_line(number),
+        Fault::BadLine(number) => return numbered_line("fault line ", number),
     };
+    line_of(text)
+}
+
+fn line_of(text: &str) -> Line
+    requires { length text.now ≤ Line.CAPACITY }
+    ensures { result ≡ text.now }
+{
     let mut line = Line::new();
     line.push_str(text);
     line
 }
 
-fn bad_line(number: u32) -> Line
-    ensures { result ≡ fault_text (Fault.BadLine number) }
+// Words, and then a number.
+fn numbered_line(words: &str, number: u32) -> Line
+    requires { length words.now ≤ LONGEST_WORDS }
+    ensures { result ≡ words.now ++ decimal number ++ newline }
 {
     let mut line = Line::new();
-    line.push_str("fault line ");
+    line.push_str(words);
     line.push_number(number);
     line.push_str("\n");
     line

@@ -1,28 +1,39 @@
 ghost use Rattle.std.specs.Prelude.{◌≡◌, true, false, Some, ◌^◌, ◌-◌, IfOk, IfErr, IsErrAnd, IfSome};
 ghost use Rattle.clap.specs.Words.{app_of, rule_of, found_of, kind_of, rows_of};
-ghost use Rattle.hd_run.specs.Modes.{traits_of, runs_alone};
-ghost use Rattle.hd_run.specs.Words.{request_of, if_alone, asked_by, number_rule, program};
+ghost use Rattle.hd_run.specs.Modes.{traits_of, runs_alone, form_of};
+ghost use Rattle.hd_run.specs.Words.{request_of, if_alone, audit_of, asked_by, number_rule};
+ghost use Rattle.hd_run.specs.Words.{flag_rule, numbered, program, is_given};
 ghost use Rattle.hd_run.specs.Words.{number_of, request_or_usage, IsRefusal};
 ghost use Rattle.hd_run.specs.Words.{IsFaultOfWords, IsInLimits, GivesNumbers, GivesNumber};
 
 use crate::ending::Fault;
 use crate::limits::{LEAST_HEAP, Limits};
-use crate::mode::Mode;
+use crate::mode::{Form, Mode};
 use clap::builder::ValueParser;
 use clap::error::ErrorKind;
-use clap::{Arg, ArgMatches, Command, Error};
+use clap::{Arg, ArgAction, ArgMatches, Command, Error};
 use hd_model::limits::{BLOCKS, HEAP, MOST_ROUNDS};
 use std::alloc::{AllocError, Global};
 
 // The rounds of a load where the words give no number.
 const ROUNDS: u32 = 100;
 
-/// What the words ask for: a mode, its limits, and the rounds of a load.
+/// What the words ask for: a mode, its limits, the rounds of a load, and whether lines have slots.
 #[derive(Drop)]
 pub(crate) struct Request {
     pub(crate) mode: Mode,
     pub(crate) limits: Limits,
     pub(crate) rounds: u32,
+    pub(crate) slots: bool,
+}
+
+impl Request {
+    /// How its run is written.
+    pub(crate) fn form(&self) -> Form
+        ensures { result ≡ form_of self.now }
+    {
+        self.mode.traits().form_by(self.slots)
+    }
 }
 
 /// What the words ask for, where they are valid.
@@ -57,6 +68,19 @@ pub(crate) fn read_words_alone(
     }
 }
 
+/// What the words ask for, where they are valid and name the mode that judges a text.
+pub(crate) fn read_audit_words(alloc: Global, words: &[String]) -> Result<Request, Fault>
+    ensures value { IfOk result (λ r. Some r ≡ audit_of (request_of words.now)) }
+    ensures fault { IfErr result (IsFaultOfWords (audit_of (request_of words.now))) }
+{
+    let request = read_words(alloc, words)?;
+    if request.mode.traits().judges {
+        Ok(request)
+    } else {
+        Err(Fault::Usage)
+    }
+}
+
 // What the words come to, by what the command finds in them. Memory ran out only where it ran out
 // in the command.
 fn request_or_fault(taken: Result<ArgMatches, Error>) -> Result<Request, Fault>
@@ -82,9 +106,16 @@ fn refusal(error: &Error) -> Fault
     }
 }
 
-// The command: a mode, and options with a number each.
+// The command: a mode, options with a number each, and a flag.
 fn command<'a>(alloc: Global) -> Result<Command<'a>, AllocError>
     ensures { IfOk result (λ c. app_of c ≡ program) }
+{
+    numbered(alloc)?.arg(flag(alloc, "slots"))
+}
+
+// The same without the flag.
+fn numbered<'a>(alloc: Global) -> Result<Command<'a>, AllocError>
+    ensures { IfOk result (λ c. app_of c ≡ numbered) }
 {
     Command::new(alloc, "hdt")
         .arg(Arg::new(alloc, "mode").required(true))?
@@ -103,6 +134,14 @@ fn number<'a>(alloc: Global, name: &'a str, least: u32, most: u32) -> Arg<'a>
         .value_parser(ValueParser::unsigned(u64::from(least), u64::from(most)))
 }
 
+// An option without a value.
+fn flag<'a>(alloc: Global, name: &'a str) -> Arg<'a>
+    ensures rule { rule_of result ≡ flag_rule name.entry.now }
+    ensures local { result.global ≡ false }
+{
+    Arg::new(alloc, name).long(name).action(ArgAction::SetTrue)
+}
+
 // What the matches ask for.
 fn asked_by(matches: &ArgMatches) -> Option<Request>
     requires { GivesNumbers (found_of matches.now) }
@@ -113,10 +152,12 @@ fn asked_by(matches: &ArgMatches) -> Option<Request>
     let heap = number_of(matches, "heap", HEAP);
     let blocks = number_of(matches, "blocks", BLOCKS);
     let rounds = number_of(matches, "rounds", ROUNDS);
+    let slots = is_given(matches, "slots");
     Some(Request {
         mode,
         limits: Limits::new(heap, blocks),
         rounds,
+        slots,
     })
 }
 
@@ -126,4 +167,14 @@ fn number_of(matches: &ArgMatches, name: &str, default: u32) -> u32
     ensures { result ≡ number_of (rows_of (found_of matches.now)) name.now default }
 {
     matches.get_one::<u32>(name).unwrap_or(default)
+}
+
+// Whether the words give a flag. The matches have a text for each flag, `true` or `false`.
+fn is_given(matches: &ArgMatches, name: &str) -> bool
+    ensures { result ≡ is_given (rows_of (found_of matches.now)) name.now }
+{
+    match matches.get_str(name) {
+        Some(text) => text == "true",
+        None => false,
+    }
 }

@@ -1,6 +1,6 @@
 use Rattle.hd_run.proofs.Basics.{BLOCKS, CALLERS, Cmd, HEAP, IsLoadScript, List, Numbers, RunCause, Summary, arith, false, generated_lists, load_numbers, numbers_for, refl, subst, true, ◌≤◌}
 use Rattle.hd_run.proofs.{RunEndings.run_callers, RunEndings.fault_writable, ThreadClaims.together}
-use Rattle.hd_run.proofs.LoadClaims.{load_is, load_sum, line_of, refused_line}
+use Rattle.hd_run.proofs.LoadClaims.{load_is, load_sum, line_of}
 use Rattle.hd_run.proofs.load.Given.{Over}
 use Rattle.hd_run.proofs.load.Goals.{After-run_callers-ending}
 use Rattle.hd_run.proofs.load.Goals as goal

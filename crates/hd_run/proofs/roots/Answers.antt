@@ -17,7 +17,7 @@ worked g c =
 
 pub report-requires : goal.report-requires
 report-requires g c =
-    rw c.traits-form.ensures (worked_writable g.S.Source.seen c.in-Ok.request
+    rw c.form-form.ensures (worked_writable g.S.Source.seen c.in-Ok.request
     (c.args.source.now, c.work_alone.new.source) c.list_roots-ending.result
     (worked g (goal.at.report-requires g c).After-list_roots-ending))
 
@@ -29,7 +29,7 @@ returns-in-Ok g c =
     (asked_promise g.S.Source.seen g.K.Sink.seen (c.args.source.now, c.work_alone.new.source)
     (c.args.sink.now, c.report.new.sink) c.report.result c.in-Ok.request c.list_roots-ending.result
     (worked g (goal.at.returns-in-Ok g c).After-list_roots-ending)
-    (rw c.traits-form.ensures at c.report.ensures))
+    (rw c.form-form.ensures at c.report.ensures))
 
 pub report-requires-in-Err : goal.report-requires-in-Err
 report-requires-in-Err g c = fault_writable _ c.in-Err.fault

@@ -1,5 +1,5 @@
-use Rattle.hd_run.proofs.Basics.{Form, List, Writes, memory_text, rules, stopped_text, subst, sym, ℕ, ◌++◌, ◌≡◌}
-use Rattle.hd_model.specs.Text.{lines_of}
+use Rattle.hd_run.proofs.Basics.{Form, false, true, List, Writes, memory_text, rules, stopped_text, subst, sym, ℕ, ◌++◌, ◌≡◌}
+use Rattle.hd_print.specs.EntryLines.{lines_by}
 use Rattle.hd_run.proofs.report.write_stopped.Goals as goal
 
 pub returns-in-Lines : goal.returns-in-Lines
@@ -9,8 +9,19 @@ returns-in-Lines g c =
     let new = g.K.Sink.seen c.write_lines.new.sink in
     let journal = c.args.journal.now.entries in
     subst (λ (f : Form). Writes old new (stopped_text f journal) c.write_lines.result) (sym c.in-Lines.is)
-    (subst (λ (t : List ℕ). Writes old new (lines_of journal ++ t) c.write_lines.result) text
+    (subst (λ (t : List ℕ). Writes old new (lines_by false journal ++ t) c.write_lines.result) text
     c.write_lines.ensures)
+
+pub returns-in-FullLines : goal.returns-in-FullLines
+returns-in-FullLines g c =
+    let text : c.as_bytes-in-FullLines.result.now ≡ memory_text = c.as_bytes-in-FullLines.ensures.value in
+    let old = g.K.Sink.seen c.args.sink.now in
+    let new = g.K.Sink.seen c.write_lines-in-FullLines.new.sink in
+    let journal = c.args.journal.now.entries in
+    let result = c.write_lines-in-FullLines.result in
+    subst (λ (f : Form). Writes old new (stopped_text f journal) result) (sym c.in-FullLines.is)
+    (subst (λ (t : List ℕ). Writes old new (lines_by true journal ++ t) result) text
+    c.write_lines-in-FullLines.ensures)
 
 pub returns-in-Summary : goal.returns-in-Summary
 returns-in-Summary g c =

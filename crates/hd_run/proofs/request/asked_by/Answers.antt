@@ -21,12 +21,24 @@ new-requires-clause-blocks c =
 
 pub returns-clause-value : goal.returns-clause-value
 returns-clause-value c =
-    rw (c.new.ensures, c.number_of-heap.ensures, c.number_of-blocks.ensures, c.number_of-rounds.ensures)
+    rw (
+      c.new.ensures,
+      c.number_of-heap.ensures,
+      c.number_of-blocks.ensures,
+      c.number_of-rounds.ensures,
+      c.is_given-slots.ensures,
+    )
     (asked_mode (found_of c.args.matches.now) c.in_ok-get_str.field-0.now (Some c.in_ok-mode.mode)
     (search rules)
     (search rules))
 
 pub returns-clause-limits : goal.returns-clause-limits
 returns-clause-limits c =
-    rw (c.new.ensures, c.number_of-heap.ensures, c.number_of-blocks.ensures, c.number_of-rounds.ensures)
+    rw (
+      c.new.ensures,
+      c.number_of-heap.ensures,
+      c.number_of-blocks.ensures,
+      c.number_of-rounds.ensures,
+      c.is_given-slots.ensures,
+    )
     (asked_in_limits (found_of c.args.matches.now) c.in_ok-mode.mode c.requires)

@@ -1,4 +1,4 @@
-use Rattle.hd_run.proofs.Basics.{IsReadyToRun, Numbers, ap, arith, subst, sym, ◌∙◌}
+use Rattle.hd_run.proofs.Basics.{IsReadyToRun, Numbers, ap, arith, subst, sym}
 use Rattle.hd_run.proofs.TurnSteps.{starts}
 use Rattle.hd_run.proofs.turns.Opened.open.Goals as goal
 
