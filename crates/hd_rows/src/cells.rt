@@ -1,3 +1,4 @@
+use crate::same::{same, same_at};
 use hd_cells::{CELLS, FIELDS, HEADER, Header, Region};
 use std::process::Abort;
 
@@ -7,7 +8,7 @@ fn put(rt: &impl Abort, region: &mut Region, objects: &[(u64, u32, bool, u32)]) 
     for (id, fields, registered, at) in objects {
         assert!(rt; *id > 0 && *fields <= FIELDS);
         assert!(rt; region.fill() + fields + HEADER as u32 <= CELLS as u32);
-        assert_eq!(rt; region.put_object(*id, *fields, *registered), *at);
+        same(rt, region.put_object(*id, *fields, *registered), *at);
     }
 }
 
@@ -18,7 +19,7 @@ fn shows(rt: &impl Abort, region: &Region, at: u32, has: (u64, &[u32], u64, bool
     for i in 0..region.fields(at) {
         assert!(rt; Some(&region.field(at, i)) == has.1.get(i as usize));
     }
-    assert_eq!(rt; (region.id(at), region.value(at)), (has.0, has.2));
+    same(rt, (region.id(at), region.value(at)), (has.0, has.2));
     assert!(rt; region.registered(at) == has.3);
 }
 
@@ -40,7 +41,7 @@ fn set_header(rt: &impl Abort, region: &mut Region, at: u32, v: u64, registered:
 // Walks from some places on: the first object that starts there or later.
 fn walks(rt: &impl Abort, region: &Region, table: &[(u32, Option<u32>)]) {
     for (from, found) in table {
-        assert_eq!(rt; region.walk(*from), *found, "from {from}");
+        same_at(rt, from, region.walk(*from), *found);
     }
 }
 
@@ -53,13 +54,13 @@ fn remove(rt: &impl Abort, region: &mut Region, at: u32) {
 // An object is at a place, and the next one at another.
 fn is_stored(rt: &impl Abort, region: &Region, at: u32, next: Option<u32>) {
     assert!(rt; region.is_object(at));
-    assert_eq!(rt; region.after(at), next);
+    same(rt, region.after(at), next);
 }
 
 #[test]
 fn four_objects_of_61_fields_leave_no_room(rt: HostRuntime) {
     let mut region = Region::empty();
-    assert_eq!(rt; region.fill(), 0);
+    same(&rt, region.fill(), 0);
     let table = [
         (1, 61, false, 0),
         (2, 61, true, 64),
@@ -67,7 +68,7 @@ fn four_objects_of_61_fields_leave_no_room(rt: HostRuntime) {
         (4, 61, true, 192),
     ];
     put(&rt, &mut region, &table);
-    assert_eq!(rt; region.fill(), 256);
+    same(&rt, region.fill(), 256);
     let found = [(0, Some(0)), (1, Some(64)), (129, Some(192)), (193, None)];
     walks(&rt, &region, &found);
 }
@@ -82,7 +83,7 @@ fn an_object_keeps_what_is_written(rt: HostRuntime) {
     set_header(&rt, &mut region, 3, u64::MAX, false);
     shows(&rt, &region, 3, (large, &[0, 515], u64::MAX, false));
     shows(&rt, &region, 0, (7, &[], 0, false));
-    assert_eq!(rt; region.fill(), 8);
+    same(&rt, region.fill(), 8);
 }
 
 #[test]
@@ -95,9 +96,9 @@ fn a_removed_object_is_a_gap_that_is_passed(rt: HostRuntime) {
     walks(&rt, &region, &[(0, Some(0)), (1, Some(9))]);
     is_stored(&rt, &region, 0, Some(9));
     is_stored(&rt, &region, 9, None);
-    assert_eq!(rt; region.fill(), 13);
+    same(&rt, region.fill(), 13);
     for at in [0, 3, 9, 253, 254, 300, u32::MAX] {
-        assert_eq!(rt; region.is_object(at), at == 0 || at == 9, "at {at}");
+        same_at(&rt, at, region.is_object(at), at == 0 || at == 9);
     }
 }
 
@@ -107,7 +108,7 @@ fn a_region_that_is_reset_is_as_a_new_one(rt: HostRuntime) {
     put(&rt, &mut region, &[(1, 2, true, 0)]);
     set_header(&rt, &mut region, 0, 7, true);
     region.reset();
-    assert_eq!(rt; (region.fill(), region.walk(0)), (0, None));
+    same(&rt, (region.fill(), region.walk(0)), (0, None));
     assert!(rt; !region.is_object(0));
     put(&rt, &mut region, &[(2, 3, false, 0)]);
     shows(&rt, &region, 0, (2, &[0, 0, 0], 0, false));
@@ -121,7 +122,7 @@ fn first_header(region: &Region) -> Option<Header> {
 #[test]
 fn the_first_header_is_that_of_the_first_object(rt: HostRuntime) {
     let mut region = Region::empty();
-    assert_eq!(rt; first_header(&region), None);
+    same(&rt, first_header(&region), None);
     for (id, at, fields, registered) in [(1, 0, 0, true), (2, 3, 61, false), (3, 67, 3, true)] {
         put(&rt, &mut region, &[(id, u32::from(fields), registered, at)]);
         let header = Header {
@@ -129,7 +130,7 @@ fn the_first_header_is_that_of_the_first_object(rt: HostRuntime) {
             fields,
             registered,
         };
-        assert_eq!(rt; first_header(&region), Some(header));
+        same(&rt, first_header(&region), Some(header));
         remove(&rt, &mut region, at);
     }
 }

@@ -2,10 +2,11 @@
 ghost use Rattle.std.specs.Prelude.{◌≡◌, ◌↔◌, ◌<◌, ℕ, IfOk, IfSome, IsNone};
 ghost use Rattle.hd_cwt.specs.WeakTable.{HasKey};
 
-use crate::table::{TABLE, block, put};
+use crate::same::{same, same_at};
+use crate::table::{TABLE, dependents};
 use hd_cwt::Cwt;
 use hd_model::limits::ROWS;
-use hd_model::{Id, Kind, Memory, Slot, Steps};
+use hd_model::{Id, Memory, Slot, Steps};
 use hd_seg::{Extra, Seg};
 use std::alloc::Global;
 use std::marker::Brand;
@@ -72,6 +73,14 @@ fn remove(rt: &impl Abort, table: &mut Cwt, key: Id)
     table.remove(key);
 }
 
+// Takes out the keys whose rows have no target.
+fn sweep(table: &mut Cwt, seg: &Seg)
+    requires { table.old.blocks ≡ TABLE }
+    ensures { table.new.blocks ≡ TABLE }
+{
+    table.sweep(seg);
+}
+
 // Does what a line says.
 fn obey(rt: &impl Abort, table: &mut Cwt, line: Line)
     requires { table.old.blocks ≡ TABLE }
@@ -94,7 +103,7 @@ fn play(rt: &impl Abort, table: &mut Cwt, lines: &[Line])
     for line in lines {
         obey(rt, table, *line);
         let (_, key, slot) = *line;
-        assert_eq!(rt; found(table, key), slot.map(Slot), "{}", key.0);
+        same_at(rt, key.0, found(table, key), slot.map(Slot));
     }
 }
 
@@ -120,13 +129,23 @@ fn filled(rt: &impl Abort, alloc: Global) -> Result<Cwt, Memory>
     Ok(table)
 }
 
-#[test]
-fn keys_of_one_bucket_are_told_apart(rt: HostRuntime) -> Result<(), Memory> {
-    let mut table = filled(&rt, rt.alloc())?;
+// All of these keys are in their slots.
+fn has_all(rt: &impl Abort, table: &Cwt) {
     for i in 0..300 {
-        assert_eq!(rt; found(&table, key(i)), Some(Slot(slot(i))));
+        same(rt, found(table, key(i)), Some(Slot(slot(i))));
     }
-    assert_eq!(rt; (table.idle(), table.held_count()), (None, 300));
+}
+
+// The least idle slot, and the number of slots that are held.
+fn counts(table: &Cwt) -> (Option<Slot>, u32) {
+    (table.idle(), table.held_count())
+}
+
+#[test]
+fn keys_of_one_bucket_stay_apart(rt: HostRuntime) -> Result<(), Memory> {
+    let mut table = filled(&rt, rt.alloc())?;
+    has_all(&rt, &table);
+    same(&rt, counts(&table), (None, 300));
     let lines = [
         (Act::Nothing, key(300), None),
         (Act::Remove, key(250), None),
@@ -137,19 +156,17 @@ fn keys_of_one_bucket_are_told_apart(rt: HostRuntime) -> Result<(), Memory> {
         (Act::Nothing, key(299), Some(slot(299))),
     ];
     play(&rt, &mut table, &lines);
-    assert_eq!(rt;
-        (table.idle(), table.held_count()),
-        (Some(Slot(slot(250))), 300)
-    );
+    same(&rt, counts(&table), (Some(Slot(slot(250))), 300));
     Ok(())
 }
 
 #[test]
 fn a_sweep_takes_keys_without_a_target(rt: HostRuntime) -> Result<(), Memory> {
-    let mut seg = Seg::open(rt.alloc(), TABLE)?;
-    let first = block(&rt, &mut seg, Kind::Dependent);
-    put(&rt, &mut seg, first, None, Extra::Secondary(None));
-    put(&rt, &mut seg, first + 2, Some(256), Extra::Secondary(None));
+    let rows = [
+        (0, None, Extra::Secondary(None)),
+        (2, Some(256), Extra::Secondary(None)),
+    ];
+    let seg = dependents(&rt, rt.alloc(), &rows)?;
     let mut table = Cwt::open(rt.alloc(), TABLE)?;
     // The row of the first has no target, and the second has no row.
     let lines = [
@@ -158,13 +175,13 @@ fn a_sweep_takes_keys_without_a_target(rt: HostRuntime) -> Result<(), Memory> {
         (Act::Add(66), Id(3), Some(66)),
     ];
     play(&rt, &mut table, &lines);
-    table.sweep(&seg);
+    sweep(&mut table, &seg);
     let lines = [
         (Act::Nothing, Id(1), None),
         (Act::Nothing, Id(2), None),
         (Act::Nothing, Id(3), Some(66)),
     ];
     play(&rt, &mut table, &lines);
-    assert_eq!(rt; (table.idle(), table.held_count()), (Some(Slot(64)), 3));
+    same(&rt, counts(&table), (Some(Slot(64)), 3));
     Ok(())
 }

@@ -1,6 +1,7 @@
 // Reads and writes that fail or move few bytes, input that is cut, and the limits of a script.
 use crate::collecting::host;
 use crate::row::{ROOM, Row, assert_rows, assert_run, runs, status_of};
+use crate::same::same;
 use hd_io::{MemorySink, MemorySource, StillSink, StillSource};
 use std::alloc::{AllocError, Global};
 use std::process::Abort;
@@ -97,8 +98,12 @@ where
 {
     let mut source = StillSource::open(rt.alloc(), input)?;
     let mut sink = StillSink::open(rt.alloc(), room)?;
-    assert_eq!(rt; status_of(rt, &["solo"], &mut source, &mut sink)?, status);
-    assert_eq!(rt; sink.written(), Some(text));
+    same(
+        rt,
+        status_of(rt, &["solo"], &mut source, &mut sink)?,
+        status,
+    );
+    same(rt, sink.written(), Some(text));
     Ok(())
 }
 

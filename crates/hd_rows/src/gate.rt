@@ -4,6 +4,7 @@ ghost use Rattle.hd_model.specs.Valid.{IsValid, IsValidMake};
 ghost use Rattle.hd_gate.specs.Shared.{IsCallerOf, AreAll, IsSameCaller};
 ghost use Rattle.std.specs.Thread.{IsSync};
 
+use crate::same::same;
 use hd_gate::{Alone, Caller, Callers, Closed, Shared};
 use hd_model::limits::{BLOCKS, CALLERS, HEAP};
 use hd_model::{Cmd, Entry, Id, Kind, Make, Memory, Refusal, Reply, Report};
@@ -102,7 +103,7 @@ fn play(rt: &impl Abort, alone: &mut Alone, lines: &[Line]) -> Result<(), Memory
     for line in lines {
         let (cmd, reply) = *line;
         assert!(rt; is_valid(cmd));
-        assert_eq!(rt; alone.call(0, cmd)?, reply);
+        same(rt, alone.call(0, cmd)?, reply);
     }
     Ok(())
 }
@@ -123,7 +124,7 @@ fn plays(
     let mut alone = open(alloc, heap, blocks, lines.len() as u32)?;
     play(rt, &mut alone, lines)?;
     let world = alone.finish();
-    assert_eq!(rt; (world.live(), world.objects()), end);
+    same(rt, (world.live(), world.objects()), end);
     Ok(())
 }
 
@@ -232,7 +233,7 @@ fn play_shared<R: Wait + Abort>(
     for line in lines {
         let (cmd, reply) = *line;
         assert!(rt; is_valid(cmd) && caller.room() > 0);
-        assert_eq!(rt; shared.call(rt, caller, cmd)?, reply);
+        same(rt, shared.call(rt, caller, cmd)?, reply);
     }
     Ok(())
 }
@@ -333,9 +334,10 @@ fn plays_shared<R: Threads + Wait + Abort + Sync>(
     play_all(rt, &shared, &mut callers, lines);
     let closed = shared.close(callers);
     let world = closed.world();
-    assert_eq!(rt;
+    same(
+        rt,
         (world.journal().len() as usize, world.live()),
-        (lines.len(), live)
+        (lines.len(), live),
     );
     Ok(())
 }
@@ -382,7 +384,11 @@ fn worked<R: AllocGlobal + Threads + Wait + Abort + Sync>(
     work_all(rt, &shared, &mut callers, rooms.len(), times, cmds);
     let closed = shared.close(callers);
     let world = closed.world();
-    assert_eq!(rt; (world.live(), world.objects(), world.collections()), end);
+    same(
+        rt,
+        (world.live(), world.objects(), world.collections()),
+        end,
+    );
     Ok(closed)
 }
 
@@ -390,7 +396,7 @@ fn worked<R: AllocGlobal + Threads + Wait + Abort + Sync>(
 fn two_callers_in_threads_leave_an_empty_table(rt: HostRuntime) -> Result<(), Fail> {
     let cmds = [STRONG.0, hfree(0), TRIM_STRONG];
     let closed = worked(&rt, &[1_502; 2], 500, &cmds, (0, 2, 0))?;
-    assert_eq!(rt; closed.world().journal().len(), 3_004);
+    same(&rt, closed.world().journal().len(), 3_004);
     Ok(())
 }
 
@@ -462,7 +468,7 @@ fn attached() -> [Cmd; 65] {
 fn sixteen_callers_share_the_keys_of_one_weak_table(rt: HostRuntime) -> Result<(), Fail> {
     let closed = worked(&rt, &[262; 16], 4, &attached(), (0, 16, 64))?;
     let journal = closed.world().journal();
-    assert_eq!(rt; journal.len(), 4_192);
+    same(&rt, journal.len(), 4_192);
     let mut seen = Seen {
         keys: [None; 16],
         values: [None; 16],

@@ -2,9 +2,11 @@ ghost use Rattle.std.specs.Prelude.{◌≡◌, ◌≤◌, true};
 ghost use Rattle.hd_model.specs.Heap.{has_object};
 
 use crate::checks::is_object_at;
+use crate::same::same;
 use hd_heap::{CondemnedObject, Heap, NewFault, Survey};
-use hd_model::limits::{OLDEST, REGION};
+use hd_model::limits::{FIELDS, OLDEST, REGION};
 use hd_model::{Addr, Id, Memory};
+use std::alloc::Global;
 use std::process::Abort;
 use std::test::Fail;
 
@@ -24,33 +26,120 @@ fn walked(heap: &Heap) -> [Option<Addr>; 3] {
     [first, second, third]
 }
 
+/// A new object. None of these helpers has a clause, so that no test carries what a call promises.
+pub(crate) fn new(
+    rt: &impl Abort,
+    heap: &mut Heap,
+    id: u64,
+    fields: u32,
+    registered: bool,
+) -> Result<Addr, NewFault> {
+    assert!(rt; id > 0 && fields <= FIELDS);
+    heap.new_object(Id(id), fields, registered)
+}
+
+// New objects: the identity of each, its fields, whether it is registered, and its address.
+fn make(
+    rt: &impl Abort,
+    heap: &mut Heap,
+    objects: &[(u64, u32, bool, u32)],
+) -> Result<(), NewFault> {
+    for (id, fields, registered, at) in objects {
+        same(rt, new(rt, heap, *id, *fields, *registered)?.0, *at);
+    }
+    Ok(())
+}
+
+// A heap of some words with these objects.
+fn heap_of(
+    rt: &impl Abort,
+    alloc: Global,
+    words: u32,
+    objects: &[(u64, u32, bool, u32)],
+) -> Result<Heap, Fail> {
+    let mut heap = Heap::open(alloc, words)?;
+    make(rt, &mut heap, objects)?;
+    Ok(heap)
+}
+
+// Four objects of 61 fields, which are a region's.
+const FOUR: [(u64, u32, bool, u32); 4] = [
+    (1, 61, false, 256),
+    (2, 61, true, 320),
+    (3, 61, false, 384),
+    (4, 61, false, 448),
+];
+
+// New objects of 61 fields with these identities, each with a value and a set card.
+fn fill_marked(rt: &impl Abort, heap: &mut Heap, from: u64, end: u64) -> Result<(), NewFault> {
+    for id in from..end {
+        let at = new(rt, heap, id, 61, true)?;
+        set_value(rt, heap, at, 7);
+        set_card(rt, heap, at, true);
+    }
+    Ok(())
+}
+
+// Removes an object.
+fn remove(rt: &impl Abort, heap: &mut Heap, at: Addr) {
+    assert!(rt; is_object_at(heap, at));
+    heap.remove(at);
+}
+
+// The words and the objects of a heap, and the regions in use.
+fn counts(heap: &Heap) -> (u32, u32, u32) {
+    (heap.used(), heap.count(), heap.regions())
+}
+
+// The object after another.
+fn next(heap: &Heap, after: Addr) -> Option<Addr> {
+    heap.next(Some(after))
+}
+
+// The next object in a set card that is older than `n`, and the next one that is not older.
+fn carded(heap: &Heap, after: Option<Addr>, n: u8) -> Option<Addr> {
+    heap.next_carded(after, n)
+}
+
+fn condemned(heap: &Heap, after: Option<Addr>, n: u8) -> Option<Addr> {
+    heap.next_condemned(after, n)
+}
+
+// Writes the value of an object.
+fn set_value(rt: &impl Abort, heap: &mut Heap, at: Addr, v: u64) {
+    assert!(rt; is_object_at(heap, at));
+    heap.set_value(at, v);
+}
+
+// An object is as a new one: its value is 0, it is not registered, and this field is null.
+fn is_new(rt: &impl Abort, heap: &Heap, at: Addr, id: u64, i: u32) {
+    assert!(rt; is_object_at(heap, at));
+    assert!(rt; i < heap.fields(at));
+    same(rt, (heap.id(at), heap.value(at)), (Id(id), 0));
+    same(rt, (heap.registered(at), heap.load(at, i)), (false, None));
+}
+
 #[test]
 fn a_fifth_object_of_61_fields_goes_to_a_second_region(rt: HostRuntime) -> Result<(), Fail> {
-    let mut heap = Heap::open(rt.alloc(), 320)?;
-    for (serial, place) in [(1, 256), (2, 320), (3, 384), (4, 448), (5, 512)] {
-        let at = heap.new_object(Id(serial), 61, false)?;
-        assert_eq!(rt; at.0, place);
-    }
-    assert_eq!(rt; (heap.used(), heap.count(), heap.regions()), (320, 5, 2));
-    let full = heap.new_object(Id(6), 0, false);
-    assert_eq!(rt; full, Err(NewFault::Full { used: 320, size: 3 }));
+    let mut heap = heap_of(&rt, rt.alloc(), 320, &FOUR)?;
+    make(&rt, &mut heap, &[(5, 61, false, 512)])?;
+    same(&rt, counts(&heap), (320, 5, 2));
+    let full = new(&rt, &mut heap, 6, 0, false);
+    same(&rt, full, Err(NewFault::Full { used: 320, size: 3 }));
     Ok(())
 }
 
 #[test]
 fn a_removed_object_leaves_a_gap_that_a_walk_passes(rt: HostRuntime) -> Result<(), Fail> {
-    let mut heap = Heap::open(rt.alloc(), 1_000)?;
-    let first = heap.new_object(Id(1), 0, false)?;
-    let second = heap.new_object(Id(2), 5, true)?;
-    let third = heap.new_object(Id(3), 1, false)?;
-    assert_eq!(rt; walked(&heap), [Some(first), Some(second), Some(third)]);
-    assert!(rt; is_object_at(&heap, second));
-    heap.remove(second);
-    assert_eq!(rt; walked(&heap), [Some(first), Some(third), None]);
-    assert_eq!(rt; heap.next(Some(second)), Some(third));
-    assert_eq!(rt; (heap.used(), heap.count(), heap.regions()), (7, 2, 1));
-    let fourth = heap.new_object(Id(4), 0, false)?;
-    assert_eq!(rt; [third.0, fourth.0], [267, 271]);
+    let objects = [(1, 0, false, 256), (2, 5, true, 259), (3, 1, false, 267)];
+    let mut heap = heap_of(&rt, rt.alloc(), 1_000, &objects)?;
+    let [first, second, third] = [Addr(256), Addr(259), Addr(267)];
+    same(&rt, walked(&heap), [Some(first), Some(second), Some(third)]);
+    remove(&rt, &mut heap, second);
+    same(&rt, walked(&heap), [Some(first), Some(third), None]);
+    same(&rt, next(&heap, second), Some(third));
+    same(&rt, counts(&heap), (7, 2, 1));
+    make(&rt, &mut heap, &[(4, 0, false, 271)])?;
     Ok(())
 }
 
@@ -97,84 +186,70 @@ fn give_up(rt: &impl Abort, heap: &mut Heap, last: Addr)
 
 #[test]
 fn a_card_is_set_by_a_younger_object_and_goes_with_its_last(rt: HostRuntime) -> Result<(), Fail> {
-    let mut heap = Heap::open(rt.alloc(), 1_000)?;
-    let first = heap.new_object(Id(1), 61, false)?;
-    let second = heap.new_object(Id(2), 1, false)?;
+    let objects = [(1, 61, false, 256), (2, 1, false, 320)];
+    let mut heap = heap_of(&rt, rt.alloc(), 1_000, &objects)?;
+    let [first, second, young, third] = [Addr(256), Addr(320), Addr(512), Addr(516)];
     age(&rt, &mut heap, first);
-    let young = heap.new_object(Id(3), 1, false)?;
-    assert_eq!(rt; young.0, 512);
+    make(&rt, &mut heap, &[(3, 1, false, 512)])?;
 
     store(&rt, &mut heap, first, 0, second);
     store(&rt, &mut heap, young, 0, first);
-    assert_eq!(rt; heap.next_carded(None, 0), None);
+    same(&rt, carded(&heap, None, 0), None);
     store(&rt, &mut heap, first, 60, young);
-    assert_eq!(rt; heap.next_carded(None, 0), Some(first));
-    assert_eq!(rt; heap.next_carded(Some(first), 0), None);
-    assert_eq!(rt; heap.next_carded(None, 1), None);
+    same(&rt, carded(&heap, None, 0), Some(first));
+    same(&rt, carded(&heap, Some(first), 0), None);
+    same(&rt, carded(&heap, None, 1), None);
     set_card(&rt, &mut heap, first, false);
-    assert_eq!(rt; heap.next_carded(None, 0), None);
+    same(&rt, carded(&heap, None, 0), None);
 
     set_card(&rt, &mut heap, second, true);
-    assert_eq!(rt; heap.next_carded(None, 0), Some(second));
-    assert!(rt; is_object_at(&heap, second));
-    heap.remove(second);
-    let third = heap.new_object(Id(4), 1, false)?;
+    same(&rt, carded(&heap, None, 0), Some(second));
+    remove(&rt, &mut heap, second);
+    make(&rt, &mut heap, &[(4, 1, false, 516)])?;
     age(&rt, &mut heap, third);
-    assert_eq!(rt; heap.next_carded(None, 0), None);
+    same(&rt, carded(&heap, None, 0), None);
     Ok(())
 }
 
 #[test]
 fn a_walk_of_condemned_objects_passes_an_older_region(rt: HostRuntime) -> Result<(), Fail> {
-    let mut heap = Heap::open(rt.alloc(), 1_000)?;
-    for serial in 1..5 {
-        let _ = heap.new_object(Id(serial), 61, false)?;
-    }
-    let old = heap.new_object(Id(5), 0, false)?;
+    let mut heap = heap_of(&rt, rt.alloc(), 1_000, &FOUR)?;
+    let [old, last] = [Addr(512), Addr(768)];
+    make(&rt, &mut heap, &[(5, 0, false, 512)])?;
     age(&rt, &mut heap, old);
-    let last = heap.new_object(Id(6), 0, false)?;
-    assert_eq!(rt; [old.0, last.0], [512, 768]);
+    make(&rt, &mut heap, &[(6, 0, false, 768)])?;
 
-    assert_eq!(rt; heap.next_condemned(None, 0), Some(Addr(256)));
-    assert_eq!(rt; heap.next_condemned(Some(Addr(256)), 0), Some(Addr(320)));
+    same(&rt, condemned(&heap, None, 0), Some(Addr(256)));
+    same(&rt, condemned(&heap, Some(Addr(256)), 0), Some(Addr(320)));
     for (n, next) in [(0, last), (1, old), (2, old)] {
-        assert_eq!(rt; heap.next_condemned(Some(Addr(448)), n), Some(next));
+        same(&rt, condemned(&heap, Some(Addr(448)), n), Some(next));
     }
-    assert_eq!(rt; heap.next_condemned(Some(last), 2), None);
+    same(&rt, condemned(&heap, Some(last), 2), None);
     Ok(())
 }
 
 #[test]
 fn a_region_that_is_held_again_has_no_old_cells(rt: HostRuntime) -> Result<(), Fail> {
-    let mut heap = Heap::open(rt.alloc(), 1_000)?;
-    let old = heap.new_object(Id(1), 2, true)?;
-    assert!(rt; is_object_at(&heap, old));
-    heap.set_value(old, 7);
+    let mut heap = heap_of(&rt, rt.alloc(), 1_000, &[(1, 2, true, 256)])?;
+    let old = Addr(256);
+    set_value(&rt, &mut heap, old, 7);
     store(&rt, &mut heap, old, 1, old);
     assert!(rt; is_object_at(&heap, old));
     give_up(&rt, &mut heap, old);
-    assert_eq!(rt; (heap.count(), heap.regions()), (0, 0));
+    same(&rt, counts(&heap), (0, 0, 0));
 
-    let new = heap.new_object(Id(2), 2, false)?;
-    assert_eq!(rt; new, old);
-    assert!(rt; is_object_at(&heap, new));
-    assert_eq!(rt; (heap.id(new), heap.value(new)), (Id(2), 0));
-    assert!(rt; 1 < heap.fields(new));
-    assert_eq!(rt; heap.load(new, 1), None);
+    make(&rt, &mut heap, &[(2, 2, false, 256)])?;
+    is_new(&rt, &heap, old, 2, 1);
     Ok(())
 }
 
 #[test]
 fn a_survey_lists_what_is_condemned(rt: HostRuntime) -> Result<(), Fail> {
-    let mut heap = Heap::open(rt.alloc(), 1_000)?;
-    for serial in 1..5 {
-        let _ = heap.new_object(Id(serial), 61, serial == 2)?;
-    }
-    let old = heap.new_object(Id(5), 0, true)?;
-    age(&rt, &mut heap, old);
-    let last = heap.new_object(Id(6), 2, false)?;
-    assert!(rt; is_object_at(&heap, Addr(384)));
-    heap.remove(Addr(384));
+    let mut heap = heap_of(&rt, rt.alloc(), 1_000, &FOUR)?;
+    make(&rt, &mut heap, &[(5, 0, true, 512)])?;
+    age(&rt, &mut heap, Addr(512));
+    make(&rt, &mut heap, &[(6, 2, false, 768)])?;
+    remove(&rt, &mut heap, Addr(384));
 
     let young = [
         (256, 61, false),
@@ -189,7 +264,6 @@ fn a_survey_lists_what_is_condemned(rt: HostRuntime) -> Result<(), Fail> {
         (512, 0, true),
         (768, 2, false),
     ];
-    assert_eq!(rt; last, Addr(768));
     check_survey(&rt, &heap, 0, &young, (197, 2))?;
     check_survey(&rt, &heap, 1, &all, (200, 3))?;
     check_survey(&rt, &heap, 2, &all, (200, 3))?;
@@ -210,8 +284,8 @@ fn check_survey(
     sums: (u32, u32),
 ) -> Result<(), Memory> {
     let survey = survey_of(heap, n)?;
-    assert_eq!(rt; (survey.cells, survey.regions), sums);
-    assert_eq!(rt; survey.objects.len(), objects.len());
+    same(rt, (survey.cells, survey.regions), sums);
+    same(rt, survey.objects.len(), objects.len());
     for i in 0..objects.len() {
         let (at, fields, registered) = objects[i];
         let wanted = CondemnedObject {
@@ -235,33 +309,27 @@ fn give_up_whole(heap: &mut Heap, at: Addr)
 
 #[test]
 fn a_region_that_is_given_up_takes_its_objects_and_cards(rt: HostRuntime) -> Result<(), Fail> {
-    let mut heap = Heap::open(rt.alloc(), 1_000)?;
-    for serial in 1..5 {
-        let at = heap.new_object(Id(serial), 61, true)?;
-        assert!(rt; is_object_at(&heap, at));
-        heap.set_value(at, 7);
-        set_card(&rt, &mut heap, at, true);
-    }
-    let first = Addr(256);
+    let mut heap = heap_of(&rt, rt.alloc(), 1_000, &[])?;
+    let [first, other] = [Addr(256), Addr(512)];
+    fill_marked(&rt, &mut heap, 1, 5)?;
     age(&rt, &mut heap, first);
-    let other = heap.new_object(Id(5), 1, false)?;
+    make(&rt, &mut heap, &[(5, 1, false, 512)])?;
     store(&rt, &mut heap, first, 60, other);
-    assert_eq!(rt; heap.next_carded(None, 0), Some(first));
+    same(&rt, carded(&heap, None, 0), Some(first));
     assert!(rt; is_object_at(&heap, first));
     give_up_whole(&mut heap, first);
-    assert_eq!(rt; (heap.used(), heap.count(), heap.regions()), (4, 1, 1));
-    assert_eq!(rt; walked(&heap), [Some(other), None, None]);
+    same(&rt, counts(&heap), (4, 1, 1));
+    same(&rt, walked(&heap), [Some(other), None, None]);
 
-    for serial in 6..9 {
-        let _ = heap.new_object(Id(serial), 61, false)?;
-    }
-    let again = heap.new_object(Id(9), 61, false)?;
-    assert_eq!(rt; again, first);
-    assert!(rt; is_object_at(&heap, again));
-    assert_eq!(rt; (heap.value(again), heap.registered(again)), (0, false));
-    assert!(rt; 60 < heap.fields(again));
-    assert_eq!(rt; heap.load(again, 60), None);
-    age(&rt, &mut heap, again);
-    assert_eq!(rt; heap.next_carded(None, 0), None);
+    let objects = [
+        (6, 61, false, 516),
+        (7, 61, false, 580),
+        (8, 61, false, 644),
+        (9, 61, false, 256),
+    ];
+    make(&rt, &mut heap, &objects)?;
+    is_new(&rt, &heap, first, 9, 60);
+    age(&rt, &mut heap, first);
+    same(&rt, carded(&heap, None, 0), None);
     Ok(())
 }

@@ -1,4 +1,5 @@
 // What no clause says: the calls succeed while memory lasts. Faults in mid-stream are reported.
+use crate::same::{same, same_at};
 use hd_io::{
     Failed, MemorySink, MemorySource, NoPace, Pace, ReadFault, Sink, Source, StdSink, StdSource,
     StillSink, StillSource, read_all, write_all,
@@ -28,8 +29,8 @@ fn reads<S: Source>(
     for (len, want, left) in table {
         let mut four = [0; 4];
         assert!(rt; 0 < *len && *len <= 4);
-        assert_eq!(rt; source.read(&mut four[..*len]), *want);
-        assert_eq!(rt; four, *left);
+        same(rt, source.read(&mut four[..*len]), *want);
+        same(rt, four, *left);
     }
 }
 
@@ -42,8 +43,8 @@ fn reads_all<S: Source>(
     want: Result<&[u8], ReadFault>,
 ) {
     match read_all(alloc, source, most) {
-        Ok(bytes) => assert_eq!(rt; Ok(bytes.as_slice()), want, "at {most}"),
-        Err(fault) => assert_eq!(rt; Err(fault), want, "at {most}"),
+        Ok(bytes) => same_at(rt, most, Ok(bytes.as_slice()), want),
+        Err(fault) => same_at(rt, most, Err(fault), want),
     }
 }
 
@@ -51,20 +52,20 @@ fn reads_all<S: Source>(
 fn writes<K: Sink>(rt: &impl Abort, sink: &mut K, table: &[(&[u8], Result<usize, Failed>)]) {
     for (piece, want) in table {
         assert!(rt; !piece.is_empty());
-        assert_eq!(rt; sink.write(piece), *want);
+        same(rt, sink.write(piece), *want);
     }
 }
 
 // Writes all of each piece.
 fn writes_all<K: Sink>(rt: &impl Abort, sink: &mut K, table: &[(&[u8], Result<(), Failed>)]) {
     for (piece, want) in table {
-        assert_eq!(rt; write_all(sink, piece), *want);
+        same(rt, write_all(sink, piece), *want);
     }
 }
 
 // What a sink in memory states.
 fn states(rt: &impl Abort, sink: &MemorySink, want: Option<&[u8]>) {
-    assert_eq!(rt; sink.written(), want);
+    same(rt, sink.written(), want);
 }
 
 #[test]
@@ -176,9 +177,9 @@ fn a_source_that_never_fails_gives_all(rt: HostRuntime) -> Result<(), Fail> {
 fn a_sink_that_never_fails_takes_all(rt: HostRuntime) -> Result<(), Fail> {
     let mut sink = StillSink::open(rt.alloc(), 4)?;
     writes_all(&rt, &mut sink, &[(b"abc", Ok(()))]);
-    assert_eq!(rt; sink.written(), Some(b"abc".as_slice()));
+    same(&rt, sink.written(), Some(b"abc".as_slice()));
     writes(&rt, &mut sink, &[(b"de", Ok(2))]);
-    assert_eq!(rt; sink.written(), None);
+    same(&rt, sink.written(), None);
     Ok(())
 }
 
@@ -192,7 +193,7 @@ fn readers_and_writers_of_std_serve(rt: HostRuntime) -> Result<(), Fail> {
     let mut bytes = Vec::new(alloc);
     let mut sink = StdSink::over(&mut bytes);
     writes_all(&rt, &mut sink, &[(b"ab", Ok(())), (b"cd", Ok(()))]);
-    assert_eq!(rt; bytes.as_slice(), b"abcd".as_slice());
+    same(&rt, bytes.as_slice(), b"abcd".as_slice());
     Ok(())
 }
 
@@ -201,7 +202,7 @@ fn a_writer_that_takes_no_more_is_a_fault(rt: HostRuntime) -> Result<(), Fail> {
     let mut room = [0; 3];
     let mut sink = StdSink::over(room.as_mut_slice());
     writes_all(&rt, &mut sink, &[(b"abcd", Err(Failed))]);
-    assert_eq!(rt; room.as_slice(), b"abc".as_slice());
+    same(&rt, room.as_slice(), b"abc".as_slice());
     Ok(())
 }
 
@@ -230,7 +231,7 @@ fn a_failed_read_is_not_tried_again(rt: HostRuntime) {
         &mut source,
         &[(2, Err(Failed), [0; 4]), (2, Ok(1), [0; 4])],
     );
-    assert_eq!(rt; reader.calls, 2);
+    same(&rt, reader.calls, 2);
 }
 
 // A writer whose first call fails, whose second takes nothing, and whose later ones take all. It
@@ -265,7 +266,7 @@ fn a_failed_write_is_not_tried_again(rt: HostRuntime) {
         (b"ab", Ok(2)),
     ];
     writes(&rt, &mut sink, &table);
-    assert_eq!(rt; writer.calls, 3);
+    same(&rt, writer.calls, 3);
 }
 
 // How many commands a caller at this pace has come to.
@@ -280,5 +281,5 @@ fn commands_begun<P: Pace>(pace: &P, commands: u64) -> u64 {
 
 #[test]
 fn no_pace_holds_nobody_back(rt: HostRuntime) {
-    assert_eq!(rt; commands_begun(&NoPace, 3), 3);
+    same(&rt, commands_begun(&NoPace, 3), 3);
 }

@@ -127,7 +127,7 @@ fn handles_that_hold() -> [Row; 3] {
 }
 
 #[test]
-fn the_nearest_anchor_is_told(rt: HostRuntime) -> Result<(), Fail> {
+fn the_nearest_anchor_is_returned(rt: HostRuntime) -> Result<(), Fail> {
     assert_rows(&rt, &chains_from_anchors())?;
     assert_rows(&rt, &chosen_chains())?;
     assert_rows(&rt, &turns_of_chains())

@@ -5,6 +5,8 @@
 #[cfg(test)]
 mod ages;
 #[cfg(test)]
+mod audit;
+#[cfg(test)]
 mod cells;
 #[cfg(test)]
 mod checks;
@@ -50,6 +52,8 @@ mod row;
 mod rows;
 #[cfg(test)]
 mod run;
+#[cfg(test)]
+mod same;
 #[cfg(test)]
 mod script;
 #[cfg(test)]

@@ -106,6 +106,28 @@ fn mark(rt: &impl Abort, heap: &Heap, marks: &mut Marks, objects: &[u32], pins: 
     }
 }
 
+// Objects that are pinned, or else promoted; and what is promoted and what is pinned then.
+type Step<'a> = (&'a [u32], bool, &'a [u32], &'a [u32]);
+
+// Pins and promotes objects of a heap, of which a generation is collected.
+fn assert_marks(
+    rt: &impl Abort,
+    alloc: Global,
+    heap: &Heap,
+    n: u8,
+    steps: &[Step],
+) -> Result<(), Memory>
+    requires { HasClosedFields (object_at heap.now) }
+{
+    assert!(rt; n <= OLDEST);
+    let mut marks = Marks::start(alloc, heap, n)?;
+    for (objects, pins, promoted, pinned) in steps {
+        mark(rt, heap, &mut marks, objects, *pins);
+        shows(rt, heap, &marks, promoted, pinned);
+    }
+    Ok(())
+}
+
 #[test]
 fn what_fields_of_condemned_objects_lead_to_is_promoted(rt: HostRuntime) -> Result<(), Fail> {
     // A cycle with a tail, a diamond, a chain through other regions, and an older object's field.
@@ -131,11 +153,9 @@ fn what_fields_of_condemned_objects_lead_to_is_promoted(rt: HostRuntime) -> Resu
         (1, &[3], &[3, 4, 8, 9, 10, 11]),
     ];
     for (n, roots, promoted) in cases {
-        let mut marks = Marks::start(rt.alloc(), &heap, n)?;
-        mark(&rt, &heap, &mut marks, roots, false);
-        mark(&rt, &heap, &mut marks, roots, false);
         let older: &[u32] = if n == 0 { &[4, 5, 6, 7] } else { &[] };
-        shows(&rt, &heap, &marks, promoted, older);
+        let step = (roots, false, promoted, older);
+        assert_marks(&rt, rt.alloc(), &heap, n, &[step, step])?;
     }
     Ok(())
 }
@@ -143,17 +163,11 @@ fn what_fields_of_condemned_objects_lead_to_is_promoted(rt: HostRuntime) -> Resu
 #[test]
 fn a_pinned_object_is_not_promoted_for_that(rt: HostRuntime) -> Result<(), Fail> {
     let heap = graph(&rt, rt.alloc(), &[(0, 0, 1)])?;
-    let mut marks = Marks::start(rt.alloc(), &heap, 0)?;
-    mark(&rt, &heap, &mut marks, &[0, 11, 5], true);
-    shows(&rt, &heap, &marks, &[4, 5, 6, 7], &[0, 4, 5, 6, 7, 11]);
-    mark(&rt, &heap, &mut marks, &[0], false);
-    shows(
-        &rt,
-        &heap,
-        &marks,
-        &[0, 1, 4, 5, 6, 7],
-        &[0, 4, 5, 6, 7, 11],
-    );
+    let steps: [Step; 2] = [
+        (&[0, 11, 5], true, &[4, 5, 6, 7], &[0, 4, 5, 6, 7, 11]),
+        (&[0], false, &[0, 1, 4, 5, 6, 7], &[0, 4, 5, 6, 7, 11]),
+    ];
+    assert_marks(&rt, rt.alloc(), &heap, 0, &steps)?;
     Ok(())
 }
 

@@ -1,3 +1,4 @@
+use crate::same::{same, same_at};
 use hd_mask::{bit, count, lowest, take_lowest};
 
 // Rows 0, 2, 3, 40 and 63.
@@ -15,7 +16,7 @@ fn lowest_is_the_least_set_row(rt: HostRuntime) {
         (0xffff_ffff_ffff_ffff, Some(0)),
     ];
     for (mask, want) in rows {
-        assert_eq!(rt; lowest(mask), want, "at {mask:x}");
+        same_at(&rt, mask, lowest(mask), want);
     }
 }
 
@@ -23,15 +24,15 @@ fn lowest_is_the_least_set_row(rt: HostRuntime) {
 fn count_is_the_number_of_set_rows(rt: HostRuntime) {
     let rows = [(0, 0), (1, 1), (SOME_ROWS, 5), (0xffff_ffff_ffff_ffff, 64)];
     for (mask, want) in rows {
-        assert_eq!(rt; count(mask), want, "at {mask:x}");
+        same_at(&rt, mask, count(mask), want);
     }
 }
 
 #[test]
 fn bit_is_the_mask_of_one_row(rt: HostRuntime) {
-    assert_eq!(rt; bit(0), 1);
-    assert_eq!(rt; bit(5), 32);
-    assert_eq!(rt; bit(63), 0x8000_0000_0000_0000);
+    same(&rt, bit(0), 1);
+    same(&rt, bit(5), 32);
+    same(&rt, bit(63), 0x8000_0000_0000_0000);
 }
 
 #[test]
@@ -49,6 +50,6 @@ fn take_lowest_parts_the_rows(rt: HostRuntime) {
         (all, 64, (all, 0)),
     ];
     for (mask, n, want) in rows {
-        assert_eq!(rt; take_lowest(mask, n), want, "{n} of {mask:x}");
+        same_at(&rt, n, take_lowest(mask, n), want);
     }
 }

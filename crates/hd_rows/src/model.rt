@@ -1,3 +1,4 @@
+use crate::same::same;
 use hd_model::{Cmd, Entry, Grown, Journal, Kind, Make, Refusal, Reply, Strength};
 use std::test::Fail;
 
@@ -17,13 +18,13 @@ fn a_journal_keeps_entries_in_their_order(rt: HostRuntime) -> Result<(), Fail> {
     let clear = entry(0, Cmd::Clear { d: 15 }, Reply::Done);
     let mut journal = Journal::open(rt.alloc(), 3)?;
     assert!(rt; journal.is_empty());
-    assert_eq!(rt; journal.spare(), 3);
+    same(&rt, journal.spare(), 3);
     journal.push(read);
     journal.push(clear);
-    assert_eq!(rt; (journal.len(), journal.spare()), (2, 1));
+    same(&rt, (journal.len(), journal.spare()), (2, 1));
     assert!(rt; !journal.is_empty());
-    assert_eq!(rt; journal.entry(0), read);
-    assert_eq!(rt; journal.entry(1), clear);
+    same(&rt, journal.entry(0), read);
+    same(&rt, journal.entry(1), clear);
     Ok(())
 }
 
@@ -39,7 +40,7 @@ fn a_made_handle_has_its_kind(rt: HostRuntime) {
         (Make::Dependent(2), Kind::Dependent),
     ];
     for (make, want) in rows {
-        assert_eq!(rt; make.kind(), want);
+        same(&rt, make.kind(), want);
     }
 }
 
@@ -47,11 +48,11 @@ fn a_made_handle_has_its_kind(rt: HostRuntime) {
 fn kinds_with_extra_data_come_last(rt: HostRuntime) {
     let mut number = 0;
     for kind in Kind::ALL {
-        assert_eq!(rt; kind.number(), number);
-        assert_eq!(rt; kind.paired(), number > 3);
+        same(&rt, kind.number(), number);
+        same(&rt, kind.paired(), number > 3);
         number += 1;
     }
-    assert_eq!(rt; number, 7);
+    same(&rt, number, 7);
 }
 
 // Each command, and whether it may take memory.
@@ -168,6 +169,6 @@ const COMMANDS: [(Cmd, bool); 38] = [
 #[test]
 fn only_new_collect_and_gcroot_take_memory(rt: HostRuntime) {
     for (cmd, takes_memory) in COMMANDS {
-        assert_eq!(rt; cmd.takes_memory(), takes_memory);
+        same(&rt, cmd.takes_memory(), takes_memory);
     }
 }

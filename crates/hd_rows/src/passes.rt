@@ -3,7 +3,8 @@ ghost use Rattle.hd_model.specs.Marking.{IsSettled};
 ghost use Rattle.hd_model.specs.Heap.{objects_of};
 ghost use Rattle.hd_rows.specs.Toy.{toy_basis, is_in};
 
-use crate::table::{TABLE, block, is_young, lower, names_objects, put};
+use crate::same::same;
+use crate::table::{TABLE, block, is_young, lower, names_objects, open, put, put_all};
 use crate::toy::Toy;
 use hd_ages::AgeMap;
 use hd_dep::{clear, rescan};
@@ -79,47 +80,40 @@ fn followed(rt: &impl Abort, seg: &mut Seg, ages: &AgeMap, toy: &mut Toy) -> u32
 
 #[test]
 fn a_pass_goes_over_the_clumps_up_to_its_generation(rt: HostRuntime) -> Result<(), Fail> {
-    let mut seg = Seg::open(rt.alloc(), TABLE)?;
-    let mut ages = AgeMap::open(rt.alloc(), TABLE)?;
-    let mut toy = Toy::open(rt.alloc(), 16, 1)?;
+    let (mut seg, mut ages, mut toy) = open(rt.alloc(), 1)?;
     let first = block(&rt, &mut seg, Kind::Pinned);
-    for (row, target) in [(15, Some(1)), (16, Some(2)), (31, None), (47, Some(3))] {
-        put(&rt, &mut seg, first + row, target, Extra::Nothing);
-    }
+    let rows = [
+        (15, Some(1), Extra::Nothing),
+        (16, Some(2), Extra::Nothing),
+        (31, None, Extra::Nothing),
+        (47, Some(3), Extra::Nothing),
+    ];
+    put_all(&rt, &mut seg, first, &rows);
     lower(&mut ages, 1, 0, 0);
     lower(&mut ages, 1, 1, 1);
-    assert_eq!(rt; passed(&rt, &mut seg, &ages, &mut toy, Task::Pinned), 2);
-    assert_eq!(rt; toy.masks(), (0b110, 0b110));
+    same(&rt, passed(&rt, &mut seg, &ages, &mut toy, Task::Pinned), 2);
+    same(&rt, toy.masks(), (0b110, 0b110));
     Ok(())
 }
 
 #[test]
 fn a_handle_holds_by_its_strength_and_by_its_count(rt: HostRuntime) -> Result<(), Fail> {
-    let mut seg = Seg::open(rt.alloc(), TABLE)?;
-    let mut ages = AgeMap::open(rt.alloc(), TABLE)?;
-    let mut toy = Toy::open(rt.alloc(), 16, 2)?;
+    let (mut seg, mut ages, mut toy) = open(rt.alloc(), 2)?;
     let variable = block(&rt, &mut seg, Kind::Variable);
     let strengths = [
-        Strength::Short,
-        Strength::Long,
-        Strength::Strong,
-        Strength::Pinned,
+        (0, Some(0), Extra::Strength(Strength::Short)),
+        (1, Some(1), Extra::Strength(Strength::Long)),
+        (2, Some(2), Extra::Strength(Strength::Strong)),
+        (3, Some(3), Extra::Strength(Strength::Pinned)),
     ];
-    for (row, strength) in strengths.iter().enumerate() {
-        let target = Some(row as u32);
-        let extra = Extra::Strength(*strength);
-        put(&rt, &mut seg, variable + row as u32, target, extra);
-    }
+    put_all(&rt, &mut seg, variable, &strengths);
     let counted = block(&rt, &mut seg, Kind::Counted);
-    for count in 0..3 {
-        put(
-            &rt,
-            &mut seg,
-            counted + count,
-            Some(4 + count),
-            Extra::Count(count),
-        );
-    }
+    let counts = [
+        (0, Some(4), Extra::Count(0)),
+        (1, Some(5), Extra::Count(1)),
+        (2, Some(6), Extra::Count(2)),
+    ];
+    put_all(&rt, &mut seg, counted, &counts);
     for (task, answer) in [
         (Task::VariableRoots, 2),
         (Task::CountedRoots, 2),
@@ -128,9 +122,9 @@ fn a_handle_holds_by_its_strength_and_by_its_count(rt: HostRuntime) -> Result<()
         (Task::ClearCounted, 1),
         (Task::ClearCounted, 0),
     ] {
-        assert_eq!(rt; passed(&rt, &mut seg, &ages, &mut toy, task), answer);
+        same(&rt, passed(&rt, &mut seg, &ages, &mut toy, task), answer);
     }
-    assert_eq!(rt; toy.masks(), (0b110_1100, 0b1000));
+    same(&rt, toy.masks(), (0b110_1100, 0b1000));
     Ok(())
 }
 
@@ -163,9 +157,7 @@ fn chain(rt: &impl Abort, seg: &mut Seg, third: u32, rising: bool)
 // Dependent handles join 13 objects in a row, from object 0 on, which a strong handle references.
 // Where the slots fall, each pass but the last promotes one object.
 fn follows(rt: &impl Abort, alloc: Global, rising: bool) -> Result<(), Fail> {
-    let mut seg = Seg::open(alloc, TABLE)?;
-    let mut ages = AgeMap::open(alloc, TABLE)?;
-    let mut toy = Toy::open(alloc, 16, 0)?;
+    let (mut seg, mut ages, mut toy) = open(alloc, 0)?;
     make_young(&mut ages);
     let strong = block(rt, &mut seg, Kind::Strong);
     put(rt, &mut seg, strong, Some(0), Extra::Nothing);
@@ -175,9 +167,9 @@ fn follows(rt: &impl Abort, alloc: Global, rising: bool) -> Result<(), Fail> {
     let lost = block(rt, &mut seg, Kind::Dependent);
     let attached = Extra::Secondary(Some(Addr(1)));
     put(rt, &mut seg, lost, Some(14), attached);
-    assert_eq!(rt; passed(rt, &mut seg, &ages, &mut toy, Task::Strong), 1);
-    assert_eq!(rt; followed(rt, &mut seg, &ages, &mut toy), 1);
-    assert_eq!(rt; toy.masks(), (0b1_1111_1111_1111, 0));
+    same(rt, passed(rt, &mut seg, &ages, &mut toy, Task::Strong), 1);
+    same(rt, followed(rt, &mut seg, &ages, &mut toy), 1);
+    same(rt, toy.masks(), (0b1_1111_1111_1111, 0));
     let cleared = Row {
         target: None,
         extra: Extra::Secondary(None),

@@ -1,3 +1,6 @@
+ghost use Rattle.std.specs.Prelude.{◌≡◌};
+
+use crate::same::same;
 use hd_model::{Kind, Slot};
 use hd_pool::Pool;
 use std::process::Abort;
@@ -7,10 +10,10 @@ use std::test::Fail;
 fn take_all(rt: &impl Abort, pool: &mut Pool, kind: Kind, runs: &[(u32, u32)]) {
     for (first, end) in runs {
         for slot in *first..*end {
-            assert_eq!(rt; pool.take(kind), Some(Slot(slot)));
+            same(rt, pool.take(kind), Some(Slot(slot)));
         }
     }
-    assert_eq!(rt; pool.take(kind), None);
+    same(rt, pool.take(kind), None);
 }
 
 #[test]
@@ -37,21 +40,40 @@ fn a_slot_that_is_put_back_comes_again(rt: HostRuntime) -> Result<(), Fail> {
     Ok(())
 }
 
+// The least block of a kind whose slots are all free, if there is one.
+fn is_whole(rt: &impl Abort, pool: &Pool, kind: Kind, block: Option<u32>) {
+    same(rt, pool.whole(kind), block);
+}
+
+// The same while a slot of the kind is taken.
+#[tactic(auto, using(hd_pool::proofs::SetMembers::pooled))]
+fn is_whole_meanwhile(
+    rt: &impl Abort,
+    pool: &mut Pool,
+    kind: Kind,
+    block: Option<u32>,
+) -> Result<(), Fail>
+    ensures { pool.new.blocks ≡ pool.old.blocks }
+{
+    let slot = pool.take(kind).ok_or("no slot")?;
+    is_whole(rt, pool, kind, block);
+    pool.put(slot);
+    Ok(())
+}
+
 #[test]
 #[tactic(auto, using(hd_pool::proofs::SetMembers::pooled))]
 fn the_least_whole_block_goes_and_may_come_again(rt: HostRuntime) -> Result<(), Fail> {
     let mut pool = Pool::open(rt.alloc(), 3)?;
-    assert_eq!(rt; pool.whole(Kind::Long), None);
+    is_whole(&rt, &pool, Kind::Long, None);
     pool.add_block(1, Kind::Long);
     pool.add_block(2, Kind::Short);
     pool.add_block(3, Kind::Long);
-    let slot = pool.take(Kind::Long).ok_or("no slot")?;
-    assert_eq!(rt; pool.whole(Kind::Long), Some(3));
-    pool.put(slot);
+    is_whole_meanwhile(&rt, &mut pool, Kind::Long, Some(3))?;
     let block = pool.whole(Kind::Long).ok_or("no block")?;
-    assert_eq!(rt; block, 1);
+    same(&rt, block, 1);
     pool.drop_block(block);
-    assert_eq!(rt; pool.whole(Kind::Long), Some(3));
+    is_whole(&rt, &pool, Kind::Long, Some(3));
     pool.add_block(block, Kind::Strong);
     take_all(&rt, &mut pool, Kind::Strong, &[(64, 128)]);
     take_all(&rt, &mut pool, Kind::Long, &[(192, 256)]);

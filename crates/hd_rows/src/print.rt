@@ -1,6 +1,7 @@
 // The texts as a user reads them, and that the calls succeed.
 ghost use Rattle.std.specs.Prelude.{◌≡◌, ◌<◌, All, IfOk};
 
+use crate::same::{same, same_at};
 use hd_io::{Failed, MemorySink};
 use hd_model::{Cmd, Entry, Grown, Id, Journal, Make, Memory, Refusal, Reply, Report};
 use hd_print::{Line, command_line, end_line, entry_line, load_line, write_entries};
@@ -27,8 +28,8 @@ fn twelfth_line(reply: Reply) -> Line {
 
 // A line is this text.
 fn is(rt: &impl Abort, line: &Line, want: &str) {
-    assert_eq!(rt; line.as_bytes(), want.as_bytes(), "{want}");
-    assert_eq!(rt; line.len(), want.len(), "{want}");
+    same_at(rt, want, line.as_bytes(), want.as_bytes());
+    same_at(rt, want, line.len(), want.len());
 }
 
 const REPORT: Report = Report {
@@ -111,7 +112,7 @@ fn a_line_is_made_of_texts_and_numbers(rt: HostRuntime) {
     assert!(rt; line.is_empty());
     line.push_str("row ");
     line.push_number(255u8);
-    assert_eq!(rt; line.as_bytes(), "row 255".as_bytes());
+    same(&rt, line.as_bytes(), "row 255".as_bytes());
     assert!(rt; !line.is_empty());
 }
 
@@ -137,8 +138,8 @@ fn writes(
 ) -> Result<(), Fail> {
     let journal = two_callers(alloc)?;
     let mut sink = MemorySink::open(alloc, 1000, fails)?;
-    assert_eq!(rt; write_entries(&journal, &mut sink), came);
-    assert_eq!(rt; sink.written(), Some(want.as_bytes()));
+    same(rt, write_entries(&journal, &mut sink), came);
+    same(rt, sink.written(), Some(want.as_bytes()));
     Ok(())
 }
 

@@ -6,6 +6,7 @@ ghost use Rattle.hd_model.specs.Marking.{IsKeeping};
 ghost use Rattle.hd_rows.specs.Mirror.{mirrored};
 
 use crate::checks::{are_alone, is_closed, is_object_at};
+use crate::same::same;
 use hd_final::Final;
 use hd_heap::Heap;
 use hd_mark::Marks;
@@ -53,6 +54,24 @@ fn revive(
     Ok(queue.revive(heap, &mut marks, n))
 }
 
+// A queue into which this number of a heap's objects is resurrected.
+fn queue_of(
+    rt: &impl Abort,
+    alloc: Global,
+    heap: &Heap,
+    n: u8,
+    keeps_first: bool,
+    count: u32,
+) -> Result<Final, Memory>
+    ensures { IfOk result (λ queue. (a : Addr) → Contains queue.waiting a →
+        has_object heap.now a ≡ true) }
+{
+    let mut queue = Final::open(alloc)?;
+    let resurrected = revive(rt, alloc, heap, &mut queue, n, keeps_first)?;
+    same(rt, resurrected, count);
+    Ok(queue)
+}
+
 // Promotes the first object of a heap.
 fn promote_first<M: Marker>(heap: &Heap, marker: &mut M)
     requires settled { M.settled marker.old }
@@ -82,25 +101,29 @@ fn settle(heap: &mut Heap, queue: &Final, from: u32)
 
 // Takes all queued objects, which have these identities, in this order, and are registered or not.
 fn take_all(rt: &impl Abort, heap: &Heap, queue: &mut Final, ids: &[(u64, bool)]) {
-    assert_eq!(rt; queue.len() as usize, ids.len());
+    same(rt, queue.len() as usize, ids.len());
     for (id, registered) in ids {
         let Some(at) = queue.pop() else {
             panic!(rt; "nothing is queued in place of {id}");
         };
         assert!(rt; is_object_at(heap, at));
-        assert_eq!(rt; (heap.id(at), heap.registered(at)), (Id(*id), *registered));
+        same(
+            rt,
+            (heap.id(at), heap.registered(at)),
+            (Id(*id), *registered),
+        );
     }
-    assert_eq!(rt; queue.pop(), None);
+    same(rt, queue.pop(), None);
 }
 
 #[test]
 fn an_empty_queue_gives_nothing_whatever_its_room(rt: HostRuntime) -> Result<(), Fail> {
     let mut queue = Final::open(rt.alloc())?;
-    assert_eq!(rt; queue.pop(), None);
+    same(&rt, queue.pop(), None);
     for room in [3, 1000, 2] {
         queue.reserve(room)?;
-        assert_eq!(rt; queue.len(), 0);
-        assert_eq!(rt; queue.pop(), None);
+        same(&rt, queue.len(), 0);
+        same(&rt, queue.pop(), None);
     }
     Ok(())
 }
@@ -113,11 +136,7 @@ fn registered_objects_that_are_not_promoted_join_by_identity(rt: HostRuntime) ->
         (true, 2, &[(1, true), (2, true)]),
     ];
     for (keeps_first, count, joined) in cases {
-        let mut queue = Final::open(rt.alloc())?;
-        assert_eq!(rt;
-            revive(&rt, rt.alloc(), &heap, &mut queue, 2, keeps_first)?,
-            count
-        );
+        let mut queue = queue_of(&rt, rt.alloc(), &heap, 2, keeps_first, count)?;
         take_all(&rt, &heap, &mut queue, joined);
     }
     Ok(())
@@ -128,11 +147,7 @@ fn older_objects_do_not_join(rt: HostRuntime) -> Result<(), Fail> {
     let mut heap = heap_of(rt.alloc(), &[true, true, false])?;
     age(&mut heap);
     for (n, count) in [(0, 0), (1, 2), (2, 2)] {
-        let mut queue = Final::open(rt.alloc())?;
-        assert_eq!(rt;
-            revive(&rt, rt.alloc(), &heap, &mut queue, n, false)?,
-            count
-        );
+        let _queue = queue_of(&rt, rt.alloc(), &heap, n, false, count)?;
     }
     Ok(())
 }
@@ -140,8 +155,7 @@ fn older_objects_do_not_join(rt: HostRuntime) -> Result<(), Fail> {
 #[test]
 fn settling_spares_those_before_a_place(rt: HostRuntime) -> Result<(), Fail> {
     let mut heap = heap_of(rt.alloc(), &[true, true, true])?;
-    let mut queue = Final::open(rt.alloc())?;
-    assert_eq!(rt; revive(&rt, rt.alloc(), &heap, &mut queue, 2, false)?, 3);
+    let mut queue = queue_of(&rt, rt.alloc(), &heap, 2, false, 3)?;
     settle(&mut heap, &queue, 3);
     settle(&mut heap, &queue, 1);
     take_all(&rt, &heap, &mut queue, &[(1, true), (2, false), (3, false)]);
@@ -190,12 +204,11 @@ impl<'h> Forward for Mirror<'h> {
 #[test]
 fn each_queued_object_goes_to_its_new_address(rt: HostRuntime) -> Result<(), Fail> {
     let heap = heap_of(rt.alloc(), &[true, true])?;
-    let mut queue = Final::open(rt.alloc())?;
-    assert_eq!(rt; revive(&rt, rt.alloc(), &heap, &mut queue, 2, false)?, 2);
-    assert_eq!(rt; queue.len(), 2);
+    let mut queue = queue_of(&rt, rt.alloc(), &heap, 2, false, 2)?;
+    same(&rt, queue.len(), 2);
     let before = (queue.at(0), queue.at(1));
     queue.relocate(&Mirror::of(&heap));
-    assert_eq!(rt; queue.at(0).0, u32::MAX - before.0.0);
-    assert_eq!(rt; queue.at(1).0, u32::MAX - before.1.0);
+    same(&rt, queue.at(0).0, u32::MAX - before.0.0);
+    same(&rt, queue.at(1).0, u32::MAX - before.1.0);
     Ok(())
 }

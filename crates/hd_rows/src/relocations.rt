@@ -2,7 +2,7 @@ ghost use Rattle.std.specs.Prelude.{◌≡◌, ◌*◌, ◌<◌, length};
 ghost use Rattle.hd_model.specs.Table.{row_at};
 ghost use Rattle.hd_rows.specs.Toy.{is_below, turned};
 
-use crate::table::{TABLE, block, lower, names_objects, put};
+use crate::table::{TABLE, block, lower, names_objects, open, put_all};
 use crate::toy::{Toy, Turned};
 use hd_ages::AgeMap;
 use hd_model::limits::CLUMPS;
@@ -58,19 +58,16 @@ fn shows(rt: &impl Abort, seg: &Seg, rows: &[(u32, Option<u32>, Extra)]) {
 
 #[test]
 fn a_relocation_goes_over_the_clumps_up_to_its_generation(rt: HostRuntime) -> Result<(), Fail> {
-    let mut seg = Seg::open(rt.alloc(), TABLE)?;
-    let mut ages = AgeMap::open(rt.alloc(), TABLE)?;
-    let toy = Toy::open(rt.alloc(), 16, 1)?;
+    let (mut seg, mut ages, toy) = open(rt.alloc(), 1)?;
     let first = block(&rt, &mut seg, Kind::Strong);
-    for (row, target) in [
-        (0, Some(0)),
-        (1, None),
-        (15, Some(7)),
-        (31, Some(2)),
-        (32, Some(3)),
-    ] {
-        put(&rt, &mut seg, first + row, target, Extra::Nothing);
-    }
+    let rows = [
+        (0, Some(0), Extra::Nothing),
+        (1, None, Extra::Nothing),
+        (15, Some(7), Extra::Nothing),
+        (31, Some(2), Extra::Nothing),
+        (32, Some(3), Extra::Nothing),
+    ];
+    put_all(&rt, &mut seg, first, &rows);
     lower(&mut ages, 1, 0, 0);
     lower(&mut ages, 1, 1, 1);
     turn(&rt, &mut seg, &ages, &toy, Kind::Strong);
@@ -90,24 +87,18 @@ fn a_relocation_goes_over_the_clumps_up_to_its_generation(rt: HostRuntime) -> Re
 
 #[test]
 fn a_relocation_gives_rows_of_its_kind_alone_new_names(rt: HostRuntime) -> Result<(), Fail> {
-    let mut seg = Seg::open(rt.alloc(), TABLE)?;
-    let mut ages = AgeMap::open(rt.alloc(), TABLE)?;
-    let toy = Toy::open(rt.alloc(), 16, 1)?;
+    let (mut seg, mut ages, toy) = open(rt.alloc(), 1)?;
     for block in 1..TABLE + 1 {
         lower(&mut ages, block, 0, 0);
     }
     let weak = block(&rt, &mut seg, Kind::Short);
-    put(&rt, &mut seg, weak, Some(4), Extra::Nothing);
+    put_all(&rt, &mut seg, weak, &[(0, Some(4), Extra::Nothing)]);
     let dependent = block(&rt, &mut seg, Kind::Dependent);
-    let both = Extra::Secondary(Some(Addr(6)));
-    put(&rt, &mut seg, dependent, Some(5), both);
-    put(
-        &rt,
-        &mut seg,
-        dependent + 1,
-        Some(5),
-        Extra::Secondary(None),
-    );
+    let rows = [
+        (0, Some(5), Extra::Secondary(Some(Addr(6)))),
+        (1, Some(5), Extra::Secondary(None)),
+    ];
+    put_all(&rt, &mut seg, dependent, &rows);
     turn(&rt, &mut seg, &ages, &toy, Kind::Dependent);
     shows(
         &rt,

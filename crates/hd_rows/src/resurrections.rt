@@ -3,6 +3,7 @@ ghost use Rattle.hd_model.specs.Heap.{HasIdentities, has_object, object_at};
 ghost use Rattle.hd_model.specs.Names.{HasClosedFields};
 
 use crate::checks::{are_alone, is_closed, is_object_at};
+use crate::same::same;
 use hd_final::Final;
 use hd_heap::Heap;
 use hd_mark::Marks;
@@ -38,18 +39,26 @@ fn led(rt: &impl Abort, alloc: Global, from: Addr, to: Addr) -> Result<Heap, Mem
     Ok(heap)
 }
 
+// These objects of a heap are resurrected, in this order.
+fn resurrects(rt: &impl Abort, alloc: Global, heap: &Heap, queued: (Addr, Addr)) -> Result<(), Fail>
+    requires fields { HasClosedFields (object_at heap.now) }
+    requires identities { HasIdentities heap.now }
+{
+    let mut fin = Final::open(alloc)?;
+    fin.reserve(heap.count())?;
+    let mut marks = Marks::start(alloc, heap, 0)?;
+    same(rt, fin.revive(heap, &mut marks, 0), 2);
+    assert!(rt; fin.len() == 2);
+    same(rt, (fin.at(0), fin.at(1)), queued);
+    Ok(())
+}
+
 #[test]
 fn a_registered_object_joins_though_another_one_leads_to_it(rt: HostRuntime) -> Result<(), Fail> {
     let (first, second) = (Addr(REGION), Addr(REGION + 4));
     for (from, to) in [(first, second), (second, first), (first, first)] {
         let heap = led(&rt, rt.alloc(), from, to)?;
-        let mut fin = Final::open(rt.alloc())?;
-        fin.reserve(heap.count())?;
-        let mut marks = Marks::start(rt.alloc(), &heap, 0)?;
-        assert_eq!(rt; fin.revive(&heap, &mut marks, 0), 2);
-        assert!(rt; fin.len() == 2);
-        assert_eq!(rt; fin.at(0), second);
-        assert_eq!(rt; fin.at(1), first);
+        resurrects(&rt, rt.alloc(), &heap, (second, first))?;
     }
     Ok(())
 }

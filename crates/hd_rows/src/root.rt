@@ -7,14 +7,15 @@ ghost use Rattle.hd_model.specs.Table.{row_at};
 ghost use Rattle.hd_rows.specs.Roots.{NamesIn};
 
 use crate::checks::{is_closed, is_object_at};
-use crate::heap::store;
-use crate::table::{TABLE, block, put, secondary_in};
+use crate::heap::{new, store};
+use crate::same::same;
+use crate::table::{TABLE, dependents, secondary_in};
 use hd_heap::Heap;
 use hd_model::limits::ROWS;
-use hd_model::{Addr, Id, Kind, Slot};
+use hd_model::{Addr, Slot};
 use hd_root::search;
 use hd_seg::{Extra, Row, Seg};
-use std::alloc::Global;
+use std::alloc::{AllocError, Global};
 use std::process::Abort;
 use std::test::Fail;
 
@@ -65,15 +66,59 @@ fn rows_name_objects(heap: &Heap, seg: &Seg) -> bool
     true
 }
 
-// The chain that a search finds, or nothing.
-fn chain(
+// Field `.1` of object `.0` references object `.2`. Objects are numbered from 0.
+type Edge = (usize, u32, usize);
+
+// Anchors, a goal, and the chain that a search finds, or nothing where it is empty.
+type Chain = (&'static [usize], usize, &'static [usize]);
+
+// New objects with these identities and numbers of fields.
+fn objects_in(
+    rt: &impl Abort,
+    alloc: Global,
+    heap: &mut Heap,
+    objects: &[(u64, u32)],
+) -> Result<Vec<Addr>, Fail> {
+    let mut made = Vec::new(alloc);
+    for (id, fields) in objects {
+        made.push(new(rt, heap, *id, *fields, false)?)?;
+    }
+    Ok(made)
+}
+
+// Stores references.
+fn store_all(rt: &impl Abort, heap: &mut Heap, objects: &[Addr], edges: &[Edge]) {
+    for (from, i, to) in edges {
+        assert!(rt; *from < objects.len() && *to < objects.len());
+        store(rt, heap, objects[*from], *i, objects[*to]);
+    }
+}
+
+// The addresses of objects.
+fn addresses(
+    rt: &impl Abort,
+    alloc: Global,
+    objects: &[Addr],
+    numbers: &[usize],
+) -> Result<Vec<Addr>, AllocError> {
+    let mut found = Vec::new(alloc);
+    for k in numbers {
+        assert!(rt; *k < objects.len());
+        found.push(objects[*k])?;
+    }
+    Ok(found)
+}
+
+// A search finds this chain.
+fn finds(
     rt: &impl Abort,
     alloc: Global,
     heap: &Heap,
     seg: &Seg,
     anchors: &[Addr],
     goal: Addr,
-) -> Result<Vec<Addr>, Fail>
+    want: &[Addr],
+) -> Result<(), Fail>
     requires { seg.now.blocks ≡ TABLE }
 {
     assert!(rt; is_closed(heap));
@@ -85,86 +130,87 @@ fn chain(
             path.push(chain.at(i))?;
         }
     }
-    Ok(path)
+    same(rt, path.as_slice(), want);
+    Ok(())
 }
 
-// A dependent handle in a slot of a block of its kind.
-fn attach(rt: &impl Abort, seg: &mut Seg, slot: u32, target: Addr, secondary: Addr)
-    requires { seg.old.blocks ≡ TABLE }
-    ensures { seg.new.blocks ≡ seg.old.blocks }
+// Searches find these chains.
+fn finds_all(
+    rt: &impl Abort,
+    alloc: Global,
+    heap: &Heap,
+    seg: &Seg,
+    objects: &[Addr],
+    chains: &[Chain],
+) -> Result<(), Fail>
+    requires { seg.now.blocks ≡ TABLE }
 {
-    let extra = Extra::Secondary(Some(secondary));
-    put(rt, seg, slot, Some(target.0), extra);
+    for (anchors, goal, want) in chains {
+        assert!(rt; *goal < objects.len());
+        let anchors = addresses(rt, alloc, objects, anchors)?;
+        let want = addresses(rt, alloc, objects, want)?;
+        finds(rt, alloc, heap, seg, &anchors, objects[*goal], &want)?;
+    }
+    Ok(())
+}
+
+// Searches in a heap of these objects and edges, and a table of these dependent handles, find these
+// chains.
+fn assert_chains(
+    rt: &impl Abort,
+    alloc: Global,
+    objects: &[(u64, u32)],
+    edges: &[Edge],
+    rows: &[(u32, Option<u32>, Extra)],
+    chains: &[Chain],
+) -> Result<(), Fail> {
+    let mut heap = Heap::open(alloc, 320)?;
+    let objects = objects_in(rt, alloc, &mut heap, objects)?;
+    store_all(rt, &mut heap, &objects, edges);
+    let seg = dependents(rt, alloc, rows)?;
+    finds_all(rt, alloc, &heap, &seg, &objects, chains)
 }
 
 #[test]
 fn the_least_of_two_anchors_at_equal_length_begins_the_chain(rt: HostRuntime) -> Result<(), Fail> {
-    let seg = Seg::open(rt.alloc(), TABLE)?;
-    let mut heap = Heap::open(rt.alloc(), 320)?;
-    let later = heap.new_object(Id(9), 1, false)?;
-    let first = heap.new_object(Id(4), 1, false)?;
-    let far = heap.new_object(Id(2), 1, false)?;
-    let middle = heap.new_object(Id(3), 1, false)?;
-    let goal = heap.new_object(Id(5), 0, false)?;
-    store(&rt, &mut heap, later, 0, goal);
-    store(&rt, &mut heap, first, 0, goal);
-    store(&rt, &mut heap, far, 0, middle);
-    store(&rt, &mut heap, middle, 0, goal);
-    let anchors = [later, far, first, later];
-    let path = chain(&rt, rt.alloc(), &heap, &seg, &anchors, goal)?;
-    assert_eq!(rt; path.as_slice(), [first, goal].as_slice());
-    let path = chain(&rt, rt.alloc(), &heap, &seg, &[far], goal)?;
-    assert_eq!(rt; path.as_slice(), [far, middle, goal].as_slice());
-    Ok(())
+    let objects = [(9, 1), (4, 1), (2, 1), (3, 1), (5, 0)];
+    let edges = [(0, 0, 4), (1, 0, 4), (2, 0, 3), (3, 0, 4)];
+    let chains: [Chain; 2] = [(&[0, 2, 1, 0], 4, &[1, 4]), (&[2], 4, &[2, 3, 4])];
+    assert_chains(&rt, rt.alloc(), &objects, &edges, &[], &chains)
 }
 
 #[test]
 fn a_cycle_is_passed_once(rt: HostRuntime) -> Result<(), Fail> {
-    let seg = Seg::open(rt.alloc(), TABLE)?;
-    let mut heap = Heap::open(rt.alloc(), 320)?;
-    let one = heap.new_object(Id(1), 2, false)?;
-    let two = heap.new_object(Id(2), 2, false)?;
-    let other = heap.new_object(Id(3), 0, false)?;
-    store(&rt, &mut heap, one, 0, one);
-    store(&rt, &mut heap, one, 1, two);
-    store(&rt, &mut heap, two, 1, one);
-    let path = chain(&rt, rt.alloc(), &heap, &seg, &[one], two)?;
-    assert_eq!(rt; path.as_slice(), [one, two].as_slice());
-    let path = chain(&rt, rt.alloc(), &heap, &seg, &[one], other)?;
-    assert_eq!(rt; path.len(), 0);
-    let path = chain(&rt, rt.alloc(), &heap, &seg, &[], one)?;
-    assert_eq!(rt; path.len(), 0);
-    Ok(())
+    let objects = [(1, 2), (2, 2), (3, 0)];
+    let edges = [(0, 0, 0), (0, 1, 1), (1, 1, 0)];
+    let chains: [Chain; 3] = [(&[0], 1, &[0, 1]), (&[0], 2, &[]), (&[], 0, &[])];
+    assert_chains(&rt, rt.alloc(), &objects, &edges, &[], &chains)
 }
 
 #[test]
 fn an_object_that_is_its_own_anchor_is_the_chain(rt: HostRuntime) -> Result<(), Fail> {
-    let seg = Seg::open(rt.alloc(), TABLE)?;
-    let mut heap = Heap::open(rt.alloc(), 320)?;
-    let low = heap.new_object(Id(1), 1, false)?;
-    let goal = heap.new_object(Id(2), 0, false)?;
-    store(&rt, &mut heap, low, 0, goal);
-    let path = chain(&rt, rt.alloc(), &heap, &seg, &[low, goal], goal)?;
-    assert_eq!(rt; path.as_slice(), [goal].as_slice());
-    Ok(())
+    let chains: [Chain; 1] = [(&[0, 1], 1, &[1])];
+    assert_chains(
+        &rt,
+        rt.alloc(),
+        &[(1, 1), (2, 0)],
+        &[(0, 0, 1)],
+        &[],
+        &chains,
+    )
 }
 
 #[test]
 fn dependent_rows_are_edges_of_a_chain(rt: HostRuntime) -> Result<(), Fail> {
-    let mut seg = Seg::open(rt.alloc(), TABLE)?;
-    let mut heap = Heap::open(rt.alloc(), 320)?;
-    let key = heap.new_object(Id(1), 0, false)?;
-    let value = heap.new_object(Id(2), 0, false)?;
-    let beside = heap.new_object(Id(3), 0, false)?;
-    let goal = heap.new_object(Id(4), 0, false)?;
-    let first = block(&rt, &mut seg, Kind::Dependent);
-    attach(&rt, &mut seg, first, key, beside);
-    attach(&rt, &mut seg, first + 17, key, value);
-    attach(&rt, &mut seg, first + 63, value, goal);
-    put(&rt, &mut seg, first + 1, None, Extra::Secondary(None));
-    let path = chain(&rt, rt.alloc(), &heap, &seg, &[key], goal)?;
-    assert_eq!(rt; path.as_slice(), [key, value, goal].as_slice());
-    let path = chain(&rt, rt.alloc(), &heap, &seg, &[beside], goal)?;
-    assert_eq!(rt; path.len(), 0);
-    Ok(())
+    let objects = [(1, 0), (2, 0), (3, 0), (4, 0)];
+    // An object without fields has three words.
+    let [key, value, beside, goal] = [256, 259, 262, 265];
+    let rows = [
+        (0, Some(key), Extra::Secondary(Some(Addr(beside)))),
+        (1, None, Extra::Secondary(None)),
+        (17, Some(key), Extra::Secondary(Some(Addr(value)))),
+        (63, Some(value), Extra::Secondary(Some(Addr(goal)))),
+    ];
+    let chains: [Chain; 2] = [(&[0], 3, &[0, 1, 3]), (&[2], 3, &[])];
+    assert_chains(&rt, rt.alloc(), &objects, &[], &rows, &chains)
 }

@@ -1,6 +1,7 @@
 ghost use Rattle.std.specs.Prelude.{◌≡◌, ◌*◌, length, IfOk};
 ghost use Rattle.hd_plan.specs.Plan.{HasNoEmptyRegion};
 
+use crate::same::same;
 use crate::state::{State, collected, due, first_root, handle, new, open, set};
 use hd_model::limits::{CLUMPS, FIELDS};
 use hd_model::{Kind, Memory};
@@ -23,10 +24,10 @@ fn eighty(rt: &impl Abort, alloc: Global) -> Result<State, Memory>
 #[test]
 fn a_full_collection_leaves_few_regions(rt: HostRuntime) -> Result<(), Fail> {
     let mut s = eighty(&rt, rt.alloc())?;
-    assert_eq!(rt; s.heap.regions(), 20);
+    same(&rt, s.heap.regions(), 20);
     let report = collected(&rt, rt.alloc(), &mut s, 2)?;
-    assert_eq!(rt; report.kept, 20);
-    assert_eq!(rt; report.removed, 60);
+    same(&rt, report.kept, 20);
+    same(&rt, report.removed, 60);
     assert!(rt; s.heap.regions() <= 9);
     Ok(())
 }
@@ -50,15 +51,15 @@ fn handles_of_older_objects_are_not_visited(rt: HostRuntime) -> Result<(), Fail>
     let alloc = rt.alloc();
     let mut s = open(alloc)?;
     let _ = new(&rt, &mut s, 1, 2, true);
-    assert_eq!(rt; steps_of(&rt, alloc, &mut s, 0)?, 0);
-    assert_eq!(rt; steps_of(&rt, alloc, &mut s, 1)?, 0);
+    same(&rt, steps_of(&rt, alloc, &mut s, 0)?, 0);
+    same(&rt, steps_of(&rt, alloc, &mut s, 1)?, 0);
     let old = first_root(&rt, &s);
     let slot = handle(&rt, &mut s, Kind::Strong, old);
-    assert_eq!(rt; steps_of(&rt, alloc, &mut s, 0)?, 0);
+    same(&rt, steps_of(&rt, alloc, &mut s, 0)?, 0);
     let young = new(&rt, &mut s, 2, 2, false);
     set(&rt, &mut s, slot, Some(young));
-    assert_eq!(rt; steps_of(&rt, alloc, &mut s, 0)?, 2);
-    assert_eq!(rt; steps_of(&rt, alloc, &mut s, 0)?, 0);
-    assert_eq!(rt; steps_of(&rt, alloc, &mut s, 1)?, 2);
+    same(&rt, steps_of(&rt, alloc, &mut s, 0)?, 2);
+    same(&rt, steps_of(&rt, alloc, &mut s, 0)?, 0);
+    same(&rt, steps_of(&rt, alloc, &mut s, 1)?, 2);
     Ok(())
 }

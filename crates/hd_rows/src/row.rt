@@ -1,4 +1,5 @@
 // Runs of the whole program, and what must come of them.
+use crate::same::same_at;
 use hd_io::{MemorySink, MemorySource, NoPace, Sink, Source};
 use hd_run::top;
 use std::alloc::{AllocError, Global};
@@ -75,8 +76,8 @@ where
     R: Abort + AllocGlobal + Threads + Wait + Sync,
 {
     let status = status_of(rt, row.words, source, sink)?;
-    assert_eq!(rt; sink.written(), Some(text), "the text of {}", row.input);
-    assert_eq!(rt; status, row.status, "the status of {}", row.input);
+    same_at(rt, row.input, sink.written(), Some(text));
+    same_at(rt, row.input, status, row.status);
     Ok(())
 }
 

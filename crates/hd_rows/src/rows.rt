@@ -2,6 +2,10 @@
 use crate::row::{Row, assert_rows, runs};
 use std::test::Fail;
 
+// What is written where the words are not valid.
+const USAGE: &str =
+    "usage: hdt solo|run|load|roots|audit [--heap CELLS] [--blocks COUNT] [--rounds N] [--slots]\n";
+
 // A script without a line, one whose last line lacks its end, and one of two callers.
 fn scripts_and_callers() -> [Row; 3] {
     [
@@ -138,17 +142,16 @@ fn lines_without_a_reading() -> [Row; 4] {
 
 // Words that are refused, and reads and writes that fail.
 fn words_and_streams_that_fail() -> [Row; 5] {
-    let usage = "usage: hdt solo|run|load|roots [--heap CELLS] [--blocks COUNT] [--rounds N]\n";
     [
         Row {
             words: &[],
-            ..runs("new r0 0\n", 2, usage)
+            ..runs("new r0 0\n", 2, USAGE)
         },
         Row {
             words: &["walk"],
             // Nothing is read, so a read that would fail does not show.
             read_fails: &[1],
-            ..runs("new r0 0\n", 2, usage)
+            ..runs("new r0 0\n", 2, USAGE)
         },
         Row {
             read_fails: &[2],

@@ -1,14 +1,17 @@
 // What no clause says: that calls succeed while memory lasts, and the texts as a user reads them.
+use crate::same::same;
+use crate::script::read;
 use hd_io::{MemorySink, MemorySource, NoPace, Pace};
 use hd_run::{Kept, Outcome, load, run, solo, top};
-use hd_script::{Scripts, parse};
+use hd_script::Scripts;
 use std::alloc::{AllocError, Global};
 use std::sync::Wait;
 use std::sync::atomic::{AtomicU64, Ordering};
 use std::test::Fail;
 use std::thread::Threads;
 
-const USAGE: &str = "usage: hdt solo|run|load|roots [--heap CELLS] [--blocks COUNT] [--rounds N]\n";
+const USAGE: &str =
+    "usage: hdt solo|run|load|roots|audit [--heap CELLS] [--blocks COUNT] [--rounds N] [--slots]\n";
 
 const SCRIPT: &str = "caller 1; sget r0 0; hpick h0 0; hget r1 h0; hpick h1 1; hget r2 h1
 caller 0; new r0 0; sput 0 r0; hnew h0 strong r0; hput 0 h0; hnew h1 long r0; hput 1 h1; hfree h1";
@@ -270,7 +273,11 @@ fn solo_takes_a_script_of_the_largest_size(rt: HostRuntime) -> Result<(), Fail> 
         let bytes = comment(alloc, len)?;
         let mut source = MemorySource::open(alloc, &bytes, &[])?;
         let mut sink = MemorySink::open(alloc, 64, &[])?;
-        assert_eq!(rt; solo_status(alloc, &words, &mut source, &mut sink), status);
+        same(
+            &rt,
+            solo_status(alloc, &words, &mut source, &mut sink),
+            status,
+        );
     }
     Ok(())
 }
@@ -308,7 +315,7 @@ fn the_second_line_is_not_written(rt: HostRuntime) -> Result<(), Fail> {
     let script = twice(alloc, "hnew h0 strong r0;hfree h0;", 1_000)?;
     let came = call(&rt, alloc, &["hdt", "run"], &script, &[], &[2])?;
     assert!(rt; came.ends(5, 4_000, " 1 ok\n"));
-    assert_eq!(rt; came.written.len(), 7);
+    same(&rt, came.written.len(), 7);
     Ok(())
 }
 
@@ -338,7 +345,7 @@ fn a_table_of_one_block_takes_64_handles(rt: HostRuntime) -> Result<(), Fail> {
             &[],
             &[],
         )?;
-        assert_eq!(rt; came.status, 0);
+        same(&rt, came.status, 0);
         let last = "0 64 ok\n0 65 tablefull 1\nend handles 64 objects 0 collections 0\n";
         assert!(rt; came.written.ends_with(last.as_bytes()));
     }
@@ -394,7 +401,7 @@ fn run_status<R: Threads + Wait + Sync>(
     sink: &mut MemorySink,
     pace: &Meeting,
 ) -> u8 {
-    run(rt, alloc, scripts, 1_000, 8, sink, pace).status
+    run(rt, alloc, scripts, 1_000, 8, false, sink, pace).status
 }
 
 fn load_status<R: Threads + Wait + Sync>(
@@ -409,10 +416,14 @@ fn load_status<R: Threads + Wait + Sync>(
 #[test]
 fn two_callers_meet(rt: HostRuntime) -> Result<(), Fail> {
     let alloc = rt.alloc();
-    let scripts = parse(alloc, b"new r0 0\nread r0\ncaller 1\nnew r0 0\nread r0\n")?;
+    let scripts = read(
+        &rt,
+        alloc,
+        b"new r0 0\nread r0\ncaller 1\nnew r0 0\nread r0\n",
+    )?;
     let mut sink = MemorySink::open(alloc, ROOM, &[])?;
     let pace = Meeting::of(2);
-    assert_eq!(rt; run_status(&rt, alloc, &scripts, &mut sink, &pace), 0);
+    same(&rt, run_status(&rt, alloc, &scripts, &mut sink, &pace), 0);
     assert!(rt; pace.took_place());
     Ok(())
 }
@@ -422,7 +433,7 @@ fn the_callers_of_a_load_meet(rt: HostRuntime) -> Result<(), Fail> {
     let alloc = rt.alloc();
     let mut sink = MemorySink::open(alloc, ROOM, &[])?;
     let pace = Meeting::of(4);
-    assert_eq!(rt; load_status(&rt, alloc, &mut sink, &pace), 0);
+    same(&rt, load_status(&rt, alloc, &mut sink, &pace), 0);
     assert!(rt; pace.took_place());
     Ok(())
 }

@@ -1,3 +1,4 @@
+use crate::same::{same, same_at};
 use hd_model::{Cmd, Kind, Make, Memory, Strength};
 use hd_script::{
     ScriptFault, Scripts, faults_come_first, generate, lines_make_the_bytes,
@@ -7,8 +8,8 @@ use std::alloc::{AllocError, Global};
 use std::process::Abort;
 use std::test::Fail;
 
-// Reads a script. It has no clause, so that no test carries what `parse` promises.
-fn read(rt: &impl Abort, alloc: Global, text: &[u8]) -> Result<Scripts, ScriptFault> {
+/// Reads a script. It has no clause, so that no test carries what `parse` promises.
+pub(crate) fn read(rt: &impl Abort, alloc: Global, text: &[u8]) -> Result<Scripts, ScriptFault> {
     assert!(rt; text.len() < 1_000_000);
     parse(alloc, text)
 }
@@ -36,7 +37,7 @@ fn have(rt: &impl Abort, alloc: Global, scripts: &Scripts, lists: &[&[Cmd]]) -> 
             return Ok(());
         };
         let found = commands(alloc, scripts, caller)?;
-        assert_eq!(rt; found.as_slice(), *want, "caller {caller}");
+        same_at(rt, caller, found.as_slice(), *want);
     }
     Ok(())
 }
@@ -58,7 +59,7 @@ fn have_lines(rt: &impl Abort, alloc: Global, table: &[(&str, Cmd)]) -> Result<(
     for (text, want) in table {
         let scripts = read(rt, alloc, text.as_bytes())?;
         have(rt, alloc, &scripts, &[&[*want]])?;
-        assert_eq!(rt; counts(&scripts), (1, 1), "{text}");
+        same_at(rt, text, counts(&scripts), (1, 1));
     }
     Ok(())
 }
@@ -190,17 +191,17 @@ fn other_lines_have_no_reading(rt: HostRuntime) {
     ];
     for text in table {
         let found = read(&rt, rt.alloc(), text.as_bytes()).err();
-        assert_eq!(rt; found, Some(ScriptFault::Line(1)), "{text}");
+        same_at(&rt, text, found, Some(ScriptFault::Line(1)));
     }
 }
 
 #[test]
 fn lines_without_words_are_skipped(rt: HostRuntime) -> Result<(), Fail> {
     for text in [b"".as_slice(), b"\n\r\n \t\r\n# read r1\xff\x00\r\r\n#\r"] {
-        assert_eq!(rt; counts(&read(&rt, rt.alloc(), text)?), (1, 0));
+        same(&rt, counts(&read(&rt, rt.alloc(), text)?), (1, 0));
     }
     let fault = read(&rt, rt.alloc(), b"\n\r\n# a comment\nread").err();
-    assert_eq!(rt; fault, Some(ScriptFault::Line(4)));
+    same(&rt, fault, Some(ScriptFault::Line(4)));
     Ok(())
 }
 
@@ -208,7 +209,7 @@ fn lines_without_words_are_skipped(rt: HostRuntime) -> Result<(), Fail> {
 fn a_last_line_needs_no_end(rt: HostRuntime) -> Result<(), Fail> {
     let misspelt = b"new r0 0\nhnew h0 strong r0\nhgett r0 h0\n";
     let fault = read(&rt, rt.alloc(), misspelt).err();
-    assert_eq!(rt; fault, Some(ScriptFault::Line(3)));
+    same(&rt, fault, Some(ScriptFault::Line(3)));
     have_lines(&rt, rt.alloc(), &[("new r0 0", new(0, 0, false))])
 }
 
@@ -233,11 +234,11 @@ fn the_largest_values_are_read(rt: HostRuntime) -> Result<(), Fail> {
 fn commands_follow_their_caller(rt: HostRuntime) -> Result<(), Fail> {
     let text = b"read r9\ncaller 3\nread r1\ncaller 0\nread r2\n\ncaller 3\nread r3\ncaller 01\n";
     let scripts = read(&rt, rt.alloc(), text)?;
-    assert_eq!(rt; counts(&scripts), (4, 4));
+    same(&rt, counts(&scripts), (4, 4));
     let first = [Cmd::Read { o: 9 }, Cmd::Read { o: 2 }];
     let last = [Cmd::Read { o: 1 }, Cmd::Read { o: 3 }];
     have(&rt, rt.alloc(), &scripts, &[&first, &[], &[], &last])?;
-    assert_eq!(rt; counts(&read(&rt, rt.alloc(), b"caller 015")?), (16, 0));
+    same(&rt, counts(&read(&rt, rt.alloc(), b"caller 015")?), (16, 0));
     Ok(())
 }
 
@@ -249,13 +250,13 @@ fn reads(alloc: Global, count: usize) -> Result<Vec<u8>, AllocError> {
 #[test]
 fn a_command_too_many_is_a_fault(rt: HostRuntime) -> Result<(), Fail> {
     let mut text = reads(rt.alloc(), 100_000)?;
-    assert_eq!(rt; text.len(), 800_000);
+    same(&rt, text.len(), 800_000);
     let all = read(&rt, rt.alloc(), &text)?;
-    assert_eq!(rt; counts(&all), (1, 100_000));
-    assert_eq!(rt; commands(rt.alloc(), &all, 0)?.len(), 100_000);
+    same(&rt, counts(&all), (1, 100_000));
+    same(&rt, commands(rt.alloc(), &all, 0)?.len(), 100_000);
     text.extend_from_slice(b"# a comment\ncaller 1\nread r1\nhgett r1 h1\n")?;
     let fault = read(&rt, rt.alloc(), &text).err();
-    assert_eq!(rt; fault, Some(ScriptFault::Line(100_003)));
+    same(&rt, fault, Some(ScriptFault::Line(100_003)));
     Ok(())
 }
 
@@ -288,21 +289,21 @@ fn load(rt: &impl Abort, alloc: Global, rounds: u32) -> Result<Scripts, Memory> 
 #[test]
 fn each_caller_of_a_load_has_its_rounds(rt: HostRuntime) -> Result<(), Fail> {
     let scripts = load(&rt, rt.alloc(), 17)?;
-    assert_eq!(rt; counts(&scripts), (4, 548));
+    same(&rt, counts(&scripts), (4, 548));
     for caller in [0u8, 1, 2, 3] {
         let text = rounds_of(rt.alloc(), caller)?;
         let want = commands(rt.alloc(), &read(&rt, rt.alloc(), &text)?, 0)?;
         let found = commands(rt.alloc(), &scripts, u32::from(caller))?;
         assert!(rt; want.len() == 25 && found.len() == 137);
-        assert_eq!(rt; &found[..8], &want[..8], "caller {caller}");
-        assert_eq!(rt; &found[120..], &want[8..], "caller {caller}");
+        same_at(&rt, caller, &found[..8], &want[..8]);
+        same_at(&rt, caller, &found[120..], &want[8..]);
     }
     Ok(())
 }
 
 #[test]
 fn the_longest_load_is_within_the_limit(rt: HostRuntime) -> Result<(), Fail> {
-    assert_eq!(rt; counts(&load(&rt, rt.alloc(), 3_000)?), (4, 96_748));
+    same(&rt, counts(&load(&rt, rt.alloc(), 3_000)?), (4, 96_748));
     Ok(())
 }
 

@@ -1,6 +1,6 @@
 // Tables for tests, and whether they meet what a pass asks of them.
 
-ghost use Rattle.std.specs.Prelude.{◌≡◌, ℕ, ◌*◌, ◌<◌, ◌≤◌, true, false, length, slice_index, Some};
+ghost use Rattle.std.specs.Prelude.{◌≡◌, ℕ, ◌*◌, ◌<◌, ◌≤◌, true, false, length, slice_index, Some, IfOk};
 ghost use Rattle.std.specs.Option.{ForSome};
 ghost use Rattle.hd_model.specs.State.{secondary_of};
 ghost use Rattle.hd_model.specs.Heap.{objects_of};
@@ -12,12 +12,25 @@ ghost use Rattle.hd_rows.specs.Toy.{NamesBelow, fits_by, toy_basis};
 use crate::toy::Toy;
 use hd_ages::AgeMap;
 use hd_model::limits::{BLOCKS, CLUMPS, ROWS};
-use hd_model::{Addr, Grown, Kind, Slot};
+use hd_model::{Addr, Grown, Kind, Memory, Slot};
 use hd_seg::{BlockKind, Extra, Row, Seg};
+use std::alloc::Global;
 use std::process::Abort;
 
 /// The blocks of a table.
 pub(crate) const TABLE: u32 = 12;
+
+/// A table without handles, its ages, and 16 objects for a collection of generation `n`.
+pub(crate) fn open(alloc: Global, n: u8) -> Result<(Seg, AgeMap, Toy), Memory>
+    ensures blocks { IfOk result (λ made. made.0.blocks ≡ TABLE) }
+    ensures ages { IfOk result (λ made. length made.1 ≡ CLUMPS * TABLE) }
+    ensures toy { IfOk result (λ made. length made.2.marks.items ≡ 16) }
+{
+    let seg = Seg::open(alloc, TABLE)?;
+    let ages = AgeMap::open(alloc, TABLE)?;
+    let toy = Toy::open(alloc, 16, n)?;
+    Ok((seg, ages, toy))
+}
 
 /// Gives a kind a block, and returns its first slot.
 pub(crate) fn block(rt: &impl Abort, seg: &mut Seg, kind: Kind) -> u32
@@ -56,6 +69,37 @@ pub(crate) fn put(rt: &impl Abort, seg: &mut Seg, slot: u32, target: Option<u32>
     assert!(rt; is_of_kind(seg.block_kind(slot / ROWS), extra));
     let target = target.map(Addr);
     seg.put_row(Slot(slot), Row { target, extra });
+}
+
+/// Puts handles into slots of a block of their kind, counted from its first one on.
+pub(crate) fn put_all(
+    rt: &impl Abort,
+    seg: &mut Seg,
+    first: u32,
+    rows: &[(u32, Option<u32>, Extra)],
+)
+    requires blocks { seg.old.blocks ≡ TABLE }
+    requires few { first ≤ BLOCKS * ROWS }
+    ensures { seg.new.blocks ≡ TABLE }
+{
+    for (row, target, extra) in rows {
+        assert!(rt; *row < ROWS);
+        put(rt, seg, first + *row, *target, *extra);
+    }
+}
+
+/// A table with dependent handles in a block, counted from its first slot on.
+pub(crate) fn dependents(
+    rt: &impl Abort,
+    alloc: Global,
+    rows: &[(u32, Option<u32>, Extra)],
+) -> Result<Seg, Memory>
+    ensures { IfOk result (λ seg. seg.blocks ≡ TABLE) }
+{
+    let mut seg = Seg::open(alloc, TABLE)?;
+    let first = block(rt, &mut seg, Kind::Dependent);
+    put_all(rt, &mut seg, first, rows);
+    Ok(seg)
 }
 
 // Whether a reference is null or the number of an object.

@@ -3,6 +3,7 @@ ghost use Rattle.std.specs.Prelude.{◌≡◌, ◌<◌, ◌≤◌};
 ghost use Rattle.hd_model.specs.declared.limits.TheConstants.{HEAP, BLOCKS};
 ghost use Rattle.hd_model.specs.Valid.{IsValid};
 
+use crate::same::{same, same_at};
 use hd_model::{Cmd, Entry, Id, Memory, Refusal, Reply, Report};
 use hd_script::parse;
 use hd_world::World;
@@ -75,7 +76,7 @@ fn play<R: Abort + AllocGlobal>(rt: &R, world: &mut World, lines: &[Line]) -> Re
         let cmd = command(rt, text);
         assert!(rt; caller < 2);
         assert!(rt; world.spare() >= 1);
-        assert_eq!(rt; apply(world, caller, cmd)?.reply, reply, "{text}");
+        same_at(rt, text, apply(world, caller, cmd)?.reply, reply);
     }
     Ok(())
 }
@@ -102,7 +103,7 @@ fn assert_world<R: Abort + AllocGlobal>(
     }
     let (objects, live) = (world.objects(), world.live());
     let (collections, spare) = (world.collections(), world.spare());
-    assert_eq!(rt; (objects, live, collections, spare), counts);
+    same(rt, (objects, live, collections, spare), counts);
     Ok(())
 }
 
