@@ -33,6 +33,14 @@ class Trial:
         subprocess.run(["gcc", "-Wall", "-O2", "-shared", "-fPIC", "-o", self.shim, HERE / "shim.c"], check=True)
         self.counts = os.path.join(self.folder.name, "counts")
 
+    def judged(self, script):
+        """A script, the line that divides, and the full text that the program prints for it."""
+        given = script.read_bytes()
+        text = subprocess.run([self.program, "solo", "--slots"], input=given, capture_output=True, check=True).stdout
+        path = Path(self.folder.name, f"{script.stem}.audit")
+        path.write_bytes(given + b"=\n" + text)
+        return path
+
     def run(self, words, script, **asked):
         with open(self.counts, "wb") as file:
             file.write(bytes(40))
@@ -49,10 +57,10 @@ class Trial:
 
 
 class Case:
-    """A mode with its words and its script, and the text that it has where nothing fails."""
+    """A mode with its words and its script, and the text and the status that it has where nothing fails."""
 
-    def __init__(self, words, script, text):
-        self.words, self.script, self.text = words, script, text
+    def __init__(self, words, script, text, status=0):
+        self.words, self.script, self.text, self.status = words, script, text, status
         self.mode = words[0]
         self.lines = text.splitlines(keepends=True)
         # The commands of each caller, by the lines of the script.
@@ -112,8 +120,8 @@ def plain(line):
     return re.sub(rb"objects \d+", b"objects", line) if LAST.match(line) else line
 
 
-def cases():
-    """The modes, each with its scripts."""
+def cases(trial):
+    """The modes, each with its scripts. What is judged is two examples, and the full text of a script."""
     examples = TOP / "examples"
     text = lambda script: Path(f"{script}.stdout").read_bytes()
     host, finals, callers = examples / "host.hdt", examples / "resurrection.hdt", HERE / "four_callers.hdt"
@@ -128,6 +136,11 @@ def cases():
         Case(["roots"], host, text(host) + Path(f"{host}.roots").read_bytes()),
         Case(["run"], callers, text(callers)),
         Case(["load", "--rounds", "16"], None, load),
+        Case(["audit"], examples / "freed_between.audit", b"run yes\n"),
+        Case(["audit"], examples / "slot_twice.audit", b"run no 4\n", 7),
+        Case(["audit"], trial.judged(host), b"run yes\n"),
+        Case(["audit"], trial.judged(weak), b"run yes\n"),
+        Case(["audit"], trial.judged(leak), b"run yes\n"),
     ]
 
 

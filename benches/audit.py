@@ -1,0 +1,75 @@
+#!/usr/bin/env python3
+"""Times how long `audit` takes for texts of 100,000 lines with a collection every 100, over 10,000 live objects.
+
+    audit.py PROGRAM
+"""
+import resource
+import subprocess
+import sys
+
+LINES = 100_000
+LIVE = 10_000
+EVERY = 100
+
+
+def handles():
+    """Each object has a strong handle."""
+    for _ in range(LIVE):
+        yield from ("new r0 2", "hnew h0 strong r0")
+
+
+def chain():
+    """Each object references the one before, and a register the last."""
+    for _ in range(LIVE):
+        yield from ("copy r1 r0", "new r0 2", "set r0 0 r1")
+
+
+def dependents():
+    """Half of the objects have a strong handle, and the others are kept by a dependent handle of one of them each."""
+    for _ in range(LIVE // 2):
+        yield from ("new r0 2", "hnew h0 strong r0", "new r1 2", "hnew h1 dep r0 r1")
+
+
+def entries():
+    """The same by entries of the weak table, whose keys are looked up later."""
+    for _ in range(LIVE // 2):
+        yield from ("new r0 2", "hnew h0 strong r0", "new r1 2", "cadd r0 r1")
+
+
+def script(make):
+    """The objects, and then fields that are stored and garbage that is made, with a collection in each hundred lines."""
+    made, number = make(), 0
+    for line in range(1, LINES + 1):
+        if line % EVERY == 0:
+            yield "collect 2"
+            continue
+        command = next(made, None)
+        if command is None:
+            command = ("new r2 1", "set r2 0 r0", "set r0 1 r2", "gen r2")[number % 4]
+            number += 1
+        yield command
+
+
+def seconds(words, given):
+    """What was printed, and the processor's time."""
+    before = resource.getrusage(resource.RUSAGE_CHILDREN)
+    ran = subprocess.run(words, input=given, capture_output=True, text=True, check=False)
+    after = resource.getrusage(resource.RUSAGE_CHILDREN)
+    if ran.returncode != 0:
+        sys.exit(f"{words}: status {ran.returncode}, {ran.stdout[-100:]}")
+    return ran.stdout, after.ru_utime + after.ru_stime - before.ru_utime - before.ru_stime
+
+
+def main(words):
+    if len(words) != 1:
+        sys.exit(__doc__)
+    for make in (handles, chain, dependents, entries):
+        lines = "\n".join(script(make)) + "\n"
+        text, solo = seconds([words[0], "solo", "--slots"], lines)
+        verdict, audit = seconds([words[0], "audit"], lines + "=\n" + text)
+        live = text.splitlines()[-1]
+        print(f"{make.__name__}: solo {solo:.2f} s, audit {audit:.2f} s, {verdict.strip()}, {live}", flush=True)
+
+
+if __name__ == "__main__":
+    main(sys.argv[1:])
