@@ -15,11 +15,11 @@ use Rattle.hd_model.specs.declared.data.Refusal.{Refusal}
 use Rattle.hd_model.specs.declared.data.Refusal.TheVariants as refusal
 use Rattle.hd_model.specs.declared.data.Reply.TheVariants as reply
 use Rattle.hd_model.specs.declared.data.Slot.{Slot}
-use Rattle.hd_model.specs.Command.{Outcome, answer_place, answers, refuses}
-use Rattle.hd_model.specs.Places.{IsFreePlace, MayAnswer}
+use Rattle.hd_model.specs.Command.{Outcome, reply_place, reply_with, refuses}
+use Rattle.hd_model.specs.Places.{IsFreePlace, MayReturn}
 use Rattle.hd_model.specs.Role.{pins}
 use Rattle.hd_model.specs.State.{Handle, State, handle_at, handle_register_of, with_place}
-use Rattle.hd_model.specs.Step.{AnswersPlace, IsOutcome, answers_place, pinned_by, pinned_target}
+use Rattle.hd_model.specs.Step.{RepliesPlace, IsOutcome, replies_place, pinned_by, pinned_target}
 use Rattle.hd_model.proofs.ReadAfterWrite.{get_inserted, get_beside}
 use Rattle.hd_audit.specs.declared.choice.Choice.{Choice}
 use Rattle.hd_audit.specs.Judge.{Judge}
@@ -40,7 +40,7 @@ ok_of (Err refused) = None
 
 -- what `addr` comes to with an address, by what is pinned
 abbrev of_pinned : State → ℕ → Result Id Refusal → Outcome
-of_pinned s p (Ok id) = answers (reply.Place p) (with_place s id p)
+of_pinned s p (Ok id) = reply_with (reply.Place p) (with_place s id p)
 of_pinned s p (Err refused) = refuses refused s
 
 module _ (s : State) where
@@ -58,14 +58,14 @@ module _ (s : State) where
 
   module _ (p : ℕ) where
     by_target : (o : Option Id)
-        → option_map_or (λ id. answers (reply.Place p) (with_place s id p)) o (refuses refusal.Null s)
+        → option_map_or (λ id. reply_with (reply.Place p) (with_place s id p)) o (refuses refusal.Null s)
         ≡ of_pinned s p (pin_target o)
     by_target None = refl
     by_target (Some id) = refl
 
     by_pins : (b : Bool) (o : Option Id)
         → (if b
-        then option_map_or (λ id. answers (reply.Place p) (with_place s id p)) o (refuses refusal.Null s)
+        then option_map_or (λ id. reply_with (reply.Place p) (with_place s id p)) o (refuses refusal.Null s)
         else refuses refusal.WrongKind s)
         ≡ of_pinned s p (if b then pin_target o else Err refusal.WrongKind)
     by_pins true o = by_target o
@@ -74,7 +74,7 @@ module _ (s : State) where
     by_live : (o : Option (Handle Id))
         → option_map_or
         (λ (handle : Handle Id). if pins handle
-        then option_map_or (λ id. answers (reply.Place p) (with_place s id p)) handle.target
+        then option_map_or (λ id. reply_with (reply.Place p) (with_place s id p)) handle.target
         (refuses refusal.Null s)
         else refuses refusal.WrongKind s)
         o (refuses refusal.NotLive s)
@@ -86,7 +86,7 @@ module _ (s : State) where
         → option_map_or
         (λ slot. option_map_or
         (λ (handle : Handle Id). if pins handle
-        then option_map_or (λ id. answers (reply.Place p) (with_place s id p)) handle.target
+        then option_map_or (λ id. reply_with (reply.Place p) (with_place s id p)) handle.target
         (refuses refusal.Null s)
         else refuses refusal.WrongKind s)
         (handle_at s slot) (refuses refusal.NotLive s))
@@ -95,7 +95,7 @@ module _ (s : State) where
     by_slot None = refl
     by_slot (Some slot) = by_live (handle_at s slot)
 
-  whole : (caller h p : ℕ) → answer_place s caller h p ≡ of_pinned s p (pinned_in s caller h)
+  whole : (caller h p : ℕ) → reply_place s caller h p ≡ of_pinned s p (pinned_in s caller h)
   whole caller h p = by_slot p (handle_register_of s caller h)
 
   target_pins : (b : Bool) (o : Option Id)
@@ -119,11 +119,11 @@ module _ (s : State) where
 module _ (caller h : ℕ) (choice : Choice) (old : Judge) where
   -- the outcome of another entry of the way
   outcome_of : (e : Entry) (after : State) (found : Result Id Refusal) → e.caller ≡ caller
-      → pinned_in old.state caller h ≡ found → (is : AnswersPlace old.state e after h)
+      → pinned_in old.state caller h ≡ found → (is : RepliesPlace old.state e after h)
       → IsOutcome e (of_pinned old.state is.place found) after
   outcome_of e after found by pinned is =
       subst (λ w. IsOutcome e w after)
-      (ap (λ k. answer_place old.state k h is.place) by ∙ whole old.state caller h is.place
+      (ap (λ k. reply_place old.state k h is.place) by ∙ whole old.state caller h is.place
       ∙ ap (of_pinned old.state is.place) pinned) is.outcome
 
   its_target : (e : Entry) (id : Id) → e.caller ≡ caller → pinned_in old.state caller h ≡ Ok id
@@ -132,7 +132,7 @@ module _ (caller h : ℕ) (choice : Choice) (old : Judge) where
       ap (λ k. pinned_target old.state k h) by ∙ target old.state caller h ∙ ap ok_of pinned
 
   pub place_refused : (refused : Refusal) → pinned_in old.state caller h ≡ Err refused
-      → WayComesTo caller (answers_place h) choice old old (Some (Err refused))
+      → WayComesTo caller (replies_place h) choice old old (Some (Err refused))
   place_refused refused pinned = λ c.
       let mine = whole old.state caller h 0 ∙ ap (of_pinned old.state 0) pinned in
       record {
@@ -154,14 +154,14 @@ module _ (caller h : ℕ) (choice : Choice) (old : Judge) where
       }
 
   at_place : (c : Cmd) (new : Judge) (id : Id) (p : ℕ) → pinned_in old.state caller h ≡ Ok id
-      → MayAnswer old.state id p → new.state ≡ with_place old.state id p
-      → AnswersPlace old.state
+      → MayReturn old.state id p → new.state ≡ with_place old.state id p
+      → RepliesPlace old.state
       (entry_by caller c (record { reply = reply.Place p; slot = None; grown = Zero })) new.state h
   at_place c new id p pinned may after =
       let mine = whole old.state caller h p ∙ ap (of_pinned old.state p) pinned in
       record {
         place = p;
-        may = λ other is. subst (λ x. MayAnswer old.state x p)
+        may = λ other is. subst (λ x. MayReturn old.state x p)
             (same_Some id other (sym (target old.state caller h ∙ ap ok_of pinned) ∙ is)) may;
         outcome = record {
           reply = ap (λ (w : Outcome). w.reply) (sym mine);
@@ -173,7 +173,7 @@ module _ (caller h : ℕ) (choice : Choice) (old : Judge) where
 
   only_place : (c : Cmd) (id : Id) (p : ℕ) → pinned_in old.state caller h ≡ Ok id
       → (e : Entry) (after : State)
-      → (is : AnswersPlace old.state e after h) → e.caller ≡ caller → e.cmd ≡ c → is.place ≡ p
+      → (is : RepliesPlace old.state e after h) → e.caller ≡ caller → e.cmd ≡ c → is.place ≡ p
       → e ≡ entry_by caller c (record { reply = reply.Place p; slot = None; grown = Zero })
   only_place c id p pinned e after is by of same =
       let outcome = outcome_of e after (Ok id) by pinned is in
@@ -181,13 +181,13 @@ module _ (caller h : ℕ) (choice : Choice) (old : Judge) where
       outcome.grown (outcome.reply ∙ ap reply.Place same)
 
   may_of : (id : Id) (e : Entry) (after : State) → pinned_in old.state caller h ≡ Ok id → e.caller ≡ caller
-      → (is : AnswersPlace old.state e after h) → MayAnswer old.state id is.place
+      → (is : RepliesPlace old.state e after h) → MayReturn old.state id is.place
   may_of id e after pinned by is = is.may id (its_target e id by pinned)
 
   -- the object has a pinned address
   pub place_again : (id : Id) (own : ℕ) → pinned_in old.state caller h ≡ Ok id
       → get old.state.places id.0 ≡ Some own
-      → WayComesTo caller (answers_place h) choice old old
+      → WayComesTo caller (replies_place h) choice old old
       (Some (Ok (record { reply = reply.Place own; slot = None; grown = Zero })))
   place_again id own pinned has = λ c. record {
     does = at_place c old id own pinned
@@ -204,7 +204,7 @@ module _ (caller h : ℕ) (choice : Choice) (old : Judge) where
   pub place_given : (new : Judge) (id : Id) → pinned_in old.state caller h ≡ Ok id
       → get old.state.places id.0 ≡ None → IsFreePlace old.state id choice.place
       → new ≡ record old { state = with_place old.state id choice.place }
-      → WayComesTo caller (answers_place h) choice old new
+      → WayComesTo caller (replies_place h) choice old new
       (Some (Ok (record { reply = reply.Place choice.place; slot = None; grown = Zero })))
   place_given new id pinned none free after = λ c. record {
     does = at_place c new id choice.place pinned

@@ -3,7 +3,7 @@ use Rattle.std.proofs.Common.{Err, MatchOption, None, Ok, Option, Some, refl, su
 use Rattle.std.proofs.lemmas.Option.{none-some, same_Some}
 use Rattle.std.specs.Option.{option_map_or}
 use Rattle.hd_model.specs.Anchors.{AnchorOf, EdgeOf, IsShortest, IsUnrooted}
-use Rattle.hd_model.specs.Command.{answers, refuses}
+use Rattle.hd_model.specs.Command.{reply_with, refuses}
 use Rattle.hd_model.specs.State.{register_of}
 use Rattle.hd_model.specs.declared.data.Grown.TheVariants.{Zero}
 use Rattle.hd_model.specs.declared.data.Id.{Id}
@@ -21,7 +21,7 @@ module _ (j : Judge) (caller r : ℕ) where
     is_root = λ goal e. absurd (none-some goal (sym was ∙ e));
     comes =
         subst
-        (λ (o : Option Id). ComesTo (option_map_or (λ _. answers reply.Unrooted j.state) o
+        (λ (o : Option Id). ComesTo (option_map_or (λ _. reply_with reply.Unrooted j.state) o
         (refuses refusal.Null j.state)) j j (Err refusal.Null)) (sym was) (refl, refl);
   }
 
@@ -43,7 +43,7 @@ module _ (j : Judge) (caller r : ℕ) where
       });
       comes =
           subst
-          (λ (o : Option Id). ComesTo (option_map_or (λ _. answers (reply.Chain from edges) j.state) o
+          (λ (o : Option Id). ComesTo (option_map_or (λ _. reply_with (reply.Chain from edges) j.state) o
           (refuses refusal.Null j.state)) j j (Ok made)) (sym was) (is, refl);
     }
 
@@ -58,7 +58,7 @@ module _ (j : Judge) (caller r : ℕ) where
       );
       comes =
           subst
-          (λ (o : Option Id). ComesTo (option_map_or (λ _. answers reply.Unrooted j.state) o
+          (λ (o : Option Id). ComesTo (option_map_or (λ _. reply_with reply.Unrooted j.state) o
           (refuses refusal.Null j.state)) j j (Ok made)) (sym was) (is, refl);
     }
 

@@ -17,11 +17,11 @@ use Rattle.hd_model.specs.declared.data.Kind.TheVariants as kind
 use Rattle.hd_model.specs.declared.data.Reply.TheVariants as reply
 use Rattle.hd_model.specs.declared.data.Refusal.TheVariants as refusal
 use Rattle.hd_model.specs.Anchors.{ReturnsRoot}
-use Rattle.hd_model.specs.Command.{Outcome, add_entry, adding_key, answers, idle_slot, in_idle, in_new, is_refused, loaded, on_field, on_handle, on_handle_of, on_object, refuses, slot_of_key, take_first}
-use Rattle.hd_model.specs.Places.{IsFreePlace, MayAnswer}
+use Rattle.hd_model.specs.Command.{Outcome, add_entry, adding_key, reply_with, idle_slot, in_idle, in_new, is_refused, loaded, on_field, on_handle, on_handle_of, on_object, refuses, slot_of_key, take_first}
+use Rattle.hd_model.specs.Places.{IsFreePlace, MayReturn}
 use Rattle.hd_model.specs.Role.{pins}
 use Rattle.hd_model.specs.State.{Handle, IsAllFree, IsFree, Numbers, State, block_of, count_of, first_slot, handle_at, handle_register_of, object_by_id, register_of, total_size, use_of}
-use Rattle.hd_model.specs.Step.{AnswersPlace, FindsTableFull, IsOutcome, MayGive, Step, TakesWay, Way, adds_entry, answers_place, answers_root, collects, decided, gives_back, makes_handle, makes_object, pinned_by, pinned_target, way_of, way_of_adding}
+use Rattle.hd_model.specs.Step.{RepliesPlace, FindsTableFull, IsOutcome, MayGive, Step, TakesWay, Way, adds_entry, replies_place, replies_root, collects, decided, gives_back, makes_handle, makes_object, pinned_by, pinned_target, way_of, way_of_adding}
 use Rattle.hd_model.specs.UserLaws.{HasPlacesApart}
 use Rattle.hd_model.specs.WellFormed.{IsWellFormed}
 use Rattle.hd_model.specs.Kinds.{is_kind, kind_of}
@@ -53,7 +53,7 @@ record IsPlain (o : Outcome) : Type 0 where
   slot : IsLowSlot o.slot
   reply : place_of o.reply ≡ None
 
-plain : (r : Reply) (s : State) → place_of r ≡ None → IsPlain (answers r s)
+plain : (r : Reply) (s : State) → place_of r ≡ None → IsPlain (reply_with r s)
 plain r s is = record { slot = tt; reply = is }
 
 is_there : {A : Type 0} (x : Option A) (d : A) → IsSome x → x ≡ Some (unwrap_or x d)
@@ -102,10 +102,10 @@ module _ (n : Numbers) (s : State) (w : IsWellFormed n s) (few : n.blocks ≤ 25
   refused : (r : Refusal) → IsPlain (refuses r s)
   refused r = plain (reply.Refused r) s refl
 
-  done : (t : State) → IsPlain (answers reply.Done t)
+  done : (t : State) → IsPlain (reply_with reply.Done t)
   done t = plain reply.Done t refl
 
-  load : (v : Option Id) (t : State) → IsPlain (answers (loaded v) t)
+  load : (v : Option Id) (t : State) → IsPlain (reply_with (loaded v) t)
   load v t = plain (loaded v) t (loaded_is v)
 
   taken : (caller d : ℕ) (queue : List Id) → IsPlain (take_first s caller d queue)
@@ -143,10 +143,10 @@ module _ (n : Numbers) (s : State) (w : IsWellFormed n s) (few : n.blocks ≤ 25
     IsPlainWay (makes_object d fields fin) = Unit {0}
     IsPlainWay (makes_handle d make t) = Unit {0}
     IsPlainWay (collects k) = Unit {0}
-    IsPlainWay (answers_place h) = Unit {0}
+    IsPlainWay (replies_place h) = Unit {0}
     IsPlainWay (gives_back wanted) = Unit {0}
     IsPlainWay (adds_entry v key) = Unit {0}
-    IsPlainWay (answers_root r) = Unit {0}
+    IsPlainWay (replies_root r) = Unit {0}
 
     added_in : (v : ℕ) (key : Id) (slot : Slot) → idle_slot s ≡ Some slot
         → IsPlain (add_entry s caller v slot key)
@@ -235,7 +235,7 @@ module _ (n : Numbers) (s : State) (w : IsWellFormed n s) (few : n.blocks ≤ 25
   of_full wanted e t full = of_plain e _ t (refused _) full.refused
 
   module _ (apart : HasPlacesApart s) where
-    may_low : (id : Id) (p : ℕ) → MayAnswer s id p → p < 2 ^ 32
+    may_low : (id : Id) (p : ℕ) → MayReturn s id p → p < 2 ^ 32
     may_low id p may = by (get s.places id.0) refl may
       where
         by : (o : Option ℕ) → get s.places id.0 ≡ o
@@ -259,7 +259,7 @@ module _ (n : Numbers) (s : State) (w : IsWellFormed n s) (few : n.blocks ≤ 25
         ap (option_and_then (λ x. pinned_by (handle_at s x))) f ∙ ap pinned_by g
         ∙ ap (λ b. cond b handle.target None) same ∙ target
 
-    of_place : (e : Entry) (t : State) (h : ℕ) → AnswersPlace s e t h → HasLow e
+    of_place : (e : Entry) (t : State) (h : ℕ) → RepliesPlace s e t h → HasLow e
     of_place e t h a =
         let Low : Outcome → Type 0 = λ o. IsOutcome e o t → HasLow e in
         let lost : (r : Refusal) → Low (refuses r s) = λ r. of_plain e _ t (refused r) in
@@ -287,7 +287,7 @@ module _ (n : Numbers) (s : State) (w : IsWellFormed n s) (few : n.blocks ≤ 25
       grown = subst IsLowGrowth (sym is.grown) tt;
       place = no_place e.reply (ap place_of is.reply);
     }
-    of_way e t (answers_place h) low is = of_place e t h is
+    of_way e t (replies_place h) low is = of_place e t h is
     of_way e t (gives_back wanted) low is =
         ⊎_elim (λ g. record {
           slot = subst IsLowSlot (sym g.slot) tt;
@@ -297,7 +297,7 @@ module _ (n : Numbers) (s : State) (w : IsWellFormed n s) (few : n.blocks ≤ 25
     of_way e t (adds_entry v key) low is =
         ⊎_elim (λ a. of_given kind.Dependent e a.slot a.given a.may a.reply)
         (of_full kind.Dependent e t) is
-    of_way e t (answers_root r) low is =
+    of_way e t (replies_root r) low is =
         of_plain e _ t (on_object_cases IsPlain s e.caller r _ (λ _. refused _)
         (λ goal named. plain is.found s (root_is goal is.found (is.is_root goal named)))) is.outcome
 

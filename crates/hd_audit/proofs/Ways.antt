@@ -13,9 +13,9 @@ use Rattle.hd_model.specs.declared.data.Reply.{Reply}
 use Rattle.hd_model.specs.declared.data.Reply.TheVariants as reply
 use Rattle.hd_model.specs.declared.data.Report.{Report}
 use Rattle.hd_model.specs.Collect.{CollectsState}
-use Rattle.hd_model.specs.Command.{Outcome, answer_root, refuses, answers}
+use Rattle.hd_model.specs.Command.{Outcome, reply_root, refuses, reply_with}
 use Rattle.hd_model.specs.State.{State, register_of}
-use Rattle.hd_model.specs.Step.{IsOutcome, Step, TakesWay, answers_root, collects, way_of}
+use Rattle.hd_model.specs.Step.{IsOutcome, Step, TakesWay, replies_root, collects, way_of}
 use Rattle.hd_model.specs.Anchors.{ReturnsRoot}
 use Rattle.hd_model.proofs.Collections.{one_collection}
 use Rattle.hd_model.proofs.AnchorChains.{one_root}
@@ -57,7 +57,7 @@ module _ (caller : ℕ) (choice : Choice) (old new : Judge) where
   }
 
   abbrev by_option : Option Id → Reply → Outcome
-  by_option o x = option_map_or (λ _. answers x old.state) o (refuses refusal.Null old.state)
+  by_option o x = option_map_or (λ _. reply_with x old.state) o (refuses refusal.Null old.state)
 
   root_same : (r : ℕ) (o : Option Id) (found other : Reply)
       → ((goal : Id) → o ≡ Some goal → ReturnsRoot old.state goal found)
@@ -65,10 +65,10 @@ module _ (caller : ℕ) (choice : Choice) (old new : Judge) where
       → ◌≡◌ {A = Outcome} (by_option o other) (by_option o found)
   root_same r None found other a b = refl
   root_same r (Some goal) found other a b =
-      ap (λ x. answers x old.state) (one_root old.state goal other found (b goal refl) (a goal refl))
+      ap (λ x. reply_with x old.state) (one_root old.state goal other found (b goal refl) (a goal refl))
 
   pub root_goes : (r : ℕ) (result : Result Made Refusal) → new ≡ old → ComesToRoot old caller r result
-      → WayComesTo caller (answers_root r) choice old new (Some result)
+      → WayComesTo caller (replies_root r) choice old new (Some result)
   root_goes r result same comes = λ c. record {
     does = record {
       found = comes.found;
@@ -87,10 +87,10 @@ module _ (caller : ℕ) (choice : Choice) (old new : Judge) where
         subst (λ k. (goal : Id) → register_of old.state k r ≡ Some goal
         → ReturnsRoot old.state goal is.found) by
         is.is_root in
-        let mine : answer_root old.state e.caller r is.found ≡ answer_root old.state caller r comes.found =
-        ap (λ k. answer_root old.state k r is.found) by
+        let mine : reply_root old.state e.caller r is.found ≡ reply_root old.state caller r comes.found =
+        ap (λ k. reply_root old.state k r is.found) by
         ∙ root_same r (register_of old.state caller r) comes.found is.found comes.is_root asked in
-        outcome_entry e after c (answer_root old.state caller r comes.found) (made_of result) by of
+        outcome_entry e after c (reply_root old.state caller r comes.found) (made_of result) by of
         (subst (λ w. IsOutcome e w after) mine is.outcome) comes.comes.0;
   }
 

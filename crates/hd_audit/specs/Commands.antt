@@ -10,7 +10,7 @@ use Rattle.hd_model.specs.declared.command.Cmd.TheVariants as cmd
 use Rattle.hd_model.specs.declared.limits.TheConstants.{FIELDS, REGISTERS}
 use Rattle.hd_model.specs.Kinds.{is_kind}
 use Rattle.hd_model.specs.Role.{pins}
-use Rattle.hd_model.specs.Command.{Outcome, answer_root, answers, on_object}
+use Rattle.hd_model.specs.Command.{Outcome, reply_root, reply_with, on_object}
 use Rattle.hd_model.specs.Anchors.{ReturnsRoot}
 use Rattle.hd_model.specs.Step.{Step, TakesWay, Way}
 use Rattle.hd_model.specs.Valid.{IsValid}
@@ -47,12 +47,12 @@ Edits old id edit new = Becomes old (with_object old.state id (edited edit (obje
 -- a change of the object in a register
 abbrev pub edits : State → ℕ → ℕ → Edit → Outcome
 edits s caller o edit =
-    on_object s caller o (λ id. answers reply.Done (with_object s id (edited edit (object_by_id s id))))
+    on_object s caller o (λ id. reply_with reply.Done (with_object s id (edited edit (object_by_id s id))))
 
 -- another extra of a live handle, and a reply
 abbrev pub with_extra : State → Slot → Handle Id → Extra → Reply → Outcome
 with_extra s slot handle extra replied =
-    answers replied (with_handle s slot (record handle { extra = extra_of extra }))
+    reply_with replied (with_handle s slot (record handle { extra = extra_of extra }))
 
 -- a caller of the run, and a register that it has
 abbrev pub MayUse : Judge → ℕ → ℕ → Type 0
@@ -199,4 +199,4 @@ Grows j kind (Back block) = ⊥
 pub record ComesToRoot (j : Judge) (caller r : ℕ) (result : Result Made Refusal) : Type 0 where
   pub found : Reply
   pub is_root : (goal : Id) → register_of j.state caller r ≡ Some goal → ReturnsRoot j.state goal found
-  pub comes : ComesTo (answer_root j.state caller r found) j j result
+  pub comes : ComesTo (reply_root j.state caller r found) j j result

@@ -3,7 +3,7 @@ ghost use Rattle.std.specs.Prelude.{◌≡◌, ℕ, ◌+◌, ◌<◌, ◌≤◌,
 ghost use Rattle.hd_model.specs.declared.data.Refusal.TheVariants as refusal;
 ghost use Rattle.hd_model.specs.State.{register_of, given_of, first_slot, IsFree, IsAllFree};
 ghost use Rattle.hd_model.specs.Command.{extra_by};
-ghost use Rattle.hd_model.specs.Step.{MayGive, IsLeastUnused, blocks_needed, with_growth, makes_handle, gives_back, answers_place};
+ghost use Rattle.hd_model.specs.Step.{MayGive, IsLeastUnused, blocks_needed, with_growth, makes_handle, gives_back, replies_place};
 ghost use Rattle.hd_model.specs.{WellFormed.IsWellFormed, Valid.IsValidMake, UserLaws.HasPlacesApart};
 ghost use Rattle.hd_model.specs.Kinds.{is_paired};
 ghost use Rattle.hd_audit.specs.View.{extra_of};
@@ -211,7 +211,7 @@ fn pinned_in(machine: &Machine, caller: u32, h: u8) -> Result<Id, Refusal>
 }
 
 /// `addr hS`.
-pub(crate) fn answer_place(
+pub(crate) fn reply_place(
     machine: &mut Machine,
     caller: u32,
     h: u8,
@@ -221,7 +221,7 @@ pub(crate) fn answer_place(
     requires register { h < REGISTERS }
     requires formed { IsWellFormed machine.old.numbers machine.old.state }
     requires apart { HasPlacesApart machine.old.state }
-    ensures { let way = answers_place h in
+    ensures { let way = replies_place h in
         IfOk result (WayComesTo caller way choice.now machine.old machine.new) }
 {
     let id = match pinned_in(machine, caller, h) {

@@ -2,7 +2,7 @@
 ghost use Rattle.std.specs.Prelude.{◌≡◌, replicate, None, Some, IfOk, MatchResult};
 ghost use Rattle.hd_model.specs.declared.data.Refusal.TheVariants as refusal;
 ghost use Rattle.hd_model.specs.State.{register_of, identity_of, with_register};
-ghost use Rattle.hd_model.specs.Command.{answers, loaded, new_object, set_field, get_field, read_value, copy_register, put_static, get_static, read_generation, take_queued};
+ghost use Rattle.hd_model.specs.Command.{reply_with, loaded, new_object, set_field, get_field, read_value, copy_register, put_static, get_static, read_generation, take_queued};
 ghost use Rattle.hd_model.specs.WellFormed.{IsWellFormed};
 ghost use Rattle.hd_audit.specs.Commands.{ComesTo, Does, MayMake, MayUse, MayUseBoth, edits};
 
@@ -65,7 +65,7 @@ impl Machine {
     pub(crate) fn assign(&mut self, caller: u32, d: u8, v: Option<Id>, reply: Reply) -> Made
         requires { MayUse self.old caller d }
         ensures { let after = with_register self.old.state caller d v in
-            Does (answers reply after) self.old self.new result }
+            Does (reply_with reply after) self.old self.new result }
     {
         self.set_register(caller, d, v);
         Made::of(reply)
@@ -75,7 +75,7 @@ impl Machine {
     pub(crate) fn load(&mut self, caller: u32, d: u8, v: Option<Id>) -> Made
         requires { MayUse self.old caller d }
         ensures { let after = with_register self.old.state caller d v in
-            Does (answers (loaded v) after) self.old self.new result }
+            Does (reply_with (loaded v) after) self.old self.new result }
     {
         self.assign(caller, d, v, loaded(v))
     }

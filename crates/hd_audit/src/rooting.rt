@@ -198,7 +198,7 @@ fn root_of(machine: &Machine, goal: Id) -> Result<Option<Origin>, Memory>
 
 impl Machine {
     /// `gcroot rS`.
-    pub(crate) fn answer_root(&self, caller: u32, s: u8) -> Result<Result<Made, Refusal>, Memory>
+    pub(crate) fn reply_root(&self, caller: u32, s: u8) -> Result<Result<Made, Refusal>, Memory>
         requires caller { caller < self.now.numbers.callers }
         requires register { s < REGISTERS }
         requires formed { IsWellFormed self.now.numbers self.now.state }

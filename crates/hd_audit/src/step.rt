@@ -75,12 +75,12 @@ fn make(
         Cmd::HNew { d, make, t } => Ok(making::make_handle(machine, caller, d, make, t, choice)),
         Cmd::CAdd { k, v } => entries::add_entry(machine, caller, k, v, choice),
         Cmd::Trim { kind } => Ok(making::trim(machine, kind, choice)),
-        Cmd::AddrOf { s } => making::answer_place(machine, caller, s, choice),
+        Cmd::AddrOf { s } => making::reply_place(machine, caller, s, choice),
         Cmd::Collect { n } => {
             let report = machine.collect(n)?;
             Ok(Some(Ok(Made::of(Reply::Report(report)))))
         }
-        Cmd::GcRoot { s } => Ok(Some(machine.answer_root(caller, s)?)),
+        Cmd::GcRoot { s } => Ok(Some(machine.reply_root(caller, s)?)),
         Cmd::New { d, fields, fin } => Ok(Some(machine.make_object(caller, d, fields, fin)?)),
         Cmd::CRemove { k } => Ok(Some(machine.remove_entry(caller, k)?)),
         _ => unreachable!(),

@@ -8,12 +8,12 @@ abbrev pub answer : ℕ → Option ℕ
 answer zero = None
 answer (suc x) = Some (suc x)
 
-pub answer_none : (x : ℕ) → x ≡ 0 → answer x ≡ None
-answer_none x e = ap answer e
+pub found_none : (x : ℕ) → x ≡ 0 → answer x ≡ None
+found_none x e = ap answer e
 
-pub answer_some : (x : ℕ) → x ≢ 0 → answer x ≡ Some x
-answer_some zero e = absurd (e refl)
-answer_some (suc x) e = refl
+pub found_some : (x : ℕ) → x ≢ 0 → answer x ≡ Some x
+found_some zero e = absurd (e refl)
+found_some (suc x) e = refl
 
 ending_is : (x : ℕ) → found_or missed x ≡ ending (answer x)
 ending_is zero = refl

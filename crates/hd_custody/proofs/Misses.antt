@@ -320,15 +320,15 @@ module _ (k : ℕ) where
   ]
 
   -- what comes after a load of the kind
-  Answered : ℕ → ℕ → List Did → Type 0
-  Answered n b ts =
+  ComesAfter : ℕ → ℕ → List Did → Type 0
+  ComesAfter n b ts =
       (m : ℕ) × (get_elem? ts (suc n) ≡ some (BLOCKS + b, m, 0)) × ((m ≡ 0)
       ⊎ ((y : ℕ) × (y ≢ k + 1) × (get_elem? ts (suc (suc n)) ≡ some (b, y, y))))
 
   on_one : (c : ℕ) (g : Gave) (ts : List Did) (n b : ℕ) → 0 < c → b ≤ BLOCKS → IsGiven k g
-      → ((j : ℕ) → get_elem? ts j ≡ some (b, k + 1, k + 1) → Answered j b ts)
-      → get_elem? (on_block k c g ++ ts) n ≡ some (b, k + 1, k + 1) → Answered n b (on_block k c g ++ ts)
-  unfolding Answered
+      → ((j : ℕ) → get_elem? ts j ≡ some (b, k + 1, k + 1) → ComesAfter j b ts)
+      → get_elem? (on_block k c g ++ ts) n ≡ some (b, k + 1, k + 1) → ComesAfter n b (on_block k c g ++ ts)
+  unfolding ComesAfter
   on_one c (another y) ts zero b real low given on at =
       absurd (given (ap (λ (t : Did). t.1) (some-injective (c, y, y) (b, k + 1, k + 1) at)))
   on_one c (another y) ts (suc n) b real low given on at = on n at
@@ -356,17 +356,17 @@ module _ (k : ℕ) where
 
   on_all : (gs : List Gave) (c n b : ℕ) → 0 < c → b ≤ BLOCKS
       → ((n : ℕ) (g : Gave) → get_elem? gs n ≡ some g → IsGiven k g)
-      → get_elem? (on_blocks k c gs) n ≡ some (b, k + 1, k + 1) → Answered n b (on_blocks k c gs)
+      → get_elem? (on_blocks k c gs) n ≡ some (b, k + 1, k + 1) → ComesAfter n b (on_blocks k c gs)
   on_all [] c n b real low given at = absurd (some-ne-none (b, k + 1, k + 1) (sym at))
   on_all (g ∷ gs) c n b real low given at =
       on_one c g (on_blocks k (c + 1) gs) n b real low (given 0 g refl)
       (λ j here. on_all gs (c + 1) j b (omega arith) low (λ i. given (suc i)) here) at
 
   past_cache : (c s : ℕ) (ts : List Did) (b : ℕ)
-      → ((j : ℕ) → get_elem? ts j ≡ some (b, k + 1, k + 1) → Answered j b ts)
+      → ((j : ℕ) → get_elem? ts j ≡ some (b, k + 1, k + 1) → ComesAfter j b ts)
       → (n : ℕ) → get_elem? (on_cache k c s ++ ts) n ≡ some (b, k + 1, k + 1)
-      → Answered n b (on_cache k c s ++ ts)
-  unfolding on_cache Answered
+      → ComesAfter n b (on_cache k c s ++ ts)
+  unfolding on_cache ComesAfter
   past_cache zero s ts b on n at = on n at
   past_cache (suc c) s ts b on zero at =
       let e = ap (λ (t : Did). t.2) (some-injective (probe_word k s, 0, 0) (b, k + 1, k + 1) at) in
@@ -374,7 +374,7 @@ module _ (k : ℕ) where
   past_cache (suc c) s ts b on (suc n) at = past_cache c (s + 1) ts b on n at
 
   pub found_none : (blocks : ℕ) (trace : List Did) → WholeMiss k blocks trace → FoundNone k blocks trace
-  unfolding Answered
+  unfolding ComesAfter
   found_none blocks trace whole =
       let all = on_cache k CACHE 0 ++ on_blocks k 1 whole.gave in
       subst (FoundNone k blocks) (sym whole.steps) (record {

@@ -210,10 +210,10 @@ impl<W: Held> Custody<W> {
     {
         // Read for the proof alone: it states the number of blocks.
         let _blocks = self.blocks;
-        self.let_go(&mut seat.caller, kind.number(), slot.0 as u64);
+        self.release_of_kind(&mut seat.caller, kind.number(), slot.0 as u64);
     }
 
-    fn let_go(&self, caller: &mut Caller<W>, kind: u32, slot: u64)
+    fn release_of_kind(&self, caller: &mut Caller<W>, kind: u32, slot: u64)
         requires seat { caller.old.table ≡ self.now.table }
         requires kind { kind < KINDS }
         requires slot { (ROWS ≤ slot) × HasAs (slot, kind + 1) caller.old.view.held }

@@ -1,4 +1,4 @@
--- Where the handles that wait for a target stand among all in the order of their targets.
+-- The indexes of the handles that wait for a target, among all in the order of their targets.
 use Rattle.hd_dep.proofs.Basics.{Addr, Bool, Grows, IsNonDecreasingBy, Leads, List, Some, Waiting, Waits, ap, arith, cases_eq, cases_lt, get_or, get_or_from_slice_get, inl, inr, length, slice_get, slice_get-get_or, slice_get_within, subst, sym, target_of, true, waiting_row, ℕ, ⊎_elim, ◌-◌, ◌<◌, ◌∙◌, ◌≡◌, ◌≤◌, ◌⊎◌}
 
 module _ (E : Addr → Addr → Type 0) (rows : List Waiting) (x : Addr) (p : Addr → Bool) where

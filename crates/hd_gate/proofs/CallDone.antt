@@ -18,7 +18,7 @@ module _ (old new : CallerView) (before after : ℕ) (command : Cmd) where
     step = d.step;
     caller_is = d.caller_is;
     command_is = d.command_is;
-    answer_is = d.answer_is;
+    reply_is = d.reply_is;
     part = d.part;
     room = less;
     looked_for = d.looked_for;

@@ -128,7 +128,7 @@ module _ (number : ℕ) (command : Cmd) (offer : Option Slot) (u w : WorldView) 
     step = subst (λ (n : Numbers). Step n u.state e w.state) sized stepped.applied.step;
     caller_is = stepped.applied.command.0;
     command_is = stepped.applied.command.1;
-    answer_is = refl;
+    reply_is = refl;
     part = part ∙ part_after;
     room = omega (arith, room, room_after);
     looked_for = looked_for;

@@ -377,7 +377,7 @@ module _ {u w : WorldView} {p : FreeSlots} (tied : IsTied u.numbers u.state p) (
     entry = e;
     caller_is = did.applied.command.0;
     command_is = did.applied.command.1;
-    answer_is = refl;
+    reply_is = refl;
     journal = did.applied.journal;
     step = record {
       step = did.applied.step;

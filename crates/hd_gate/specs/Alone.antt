@@ -12,7 +12,7 @@ pub record HasCalled (old new : WorldView) (caller : ℕ) (command : Cmd) (answe
   pub entry : Entry
   pub caller_is : entry.caller ≡ caller
   pub command_is : entry.cmd ≡ command
-  pub answer_is : entry.reply ≡ answer
+  pub reply_is : entry.reply ≡ answer
   pub journal : new.journal ≡ old.journal ++ entry ∷ []
   pub step : SoloStep old.numbers old.state entry new.state
   pub numbers : new.numbers ≡ old.numbers

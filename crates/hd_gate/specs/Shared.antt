@@ -138,7 +138,7 @@ pub record HasDone (old new : CallerView) (command : Cmd) (answer : Reply) : Typ
   pub step : Step old.numbers found.state entry after
   pub caller_is : entry.caller ≡ old.number
   pub command_is : entry.cmd ≡ command
-  pub answer_is : entry.reply ≡ answer
+  pub reply_is : entry.reply ≡ answer
   pub part : new.part ≡ old.part ++ entry ∷ []
   pub room : new.room + 1 ≡ old.room
   pub looked_for : LookedFor (asks_of found.state old.number command) old.numbers.blocks

@@ -35,7 +35,7 @@ pub(crate) fn change_of(cmd: Cmd) -> Change
         | Class::StoresTarget { .. }
         | Class::StoresSecondary { .. }
         | Class::Collects(_)
-        | Class::AnswersPlace { .. }
+        | Class::RepliesPlace { .. }
         | Class::LooksUp { .. }
         | Class::Searches { .. }
         | Class::Plain => Change::Keeps,

@@ -131,7 +131,7 @@ fn free<R: Wait>(
     let entry = step_surely(&mut world, number, cmd, None);
     let freed = freed(&world, entry.slot);
     custody.leave(seat, world);
-    let_go(custody, seat, freed);
+    release_freed(custody, seat, freed);
     entry.reply
 }
 
@@ -206,7 +206,7 @@ fn freed(world: &Boxed, slot: Option<Slot>) -> Option<(Slot, Kind)>
 }
 
 // Lets a freed slot go, if there is one.
-fn let_go(custody: &Custody<Boxed>, seat: &mut Seat<Boxed>, freed: Option<(Slot, Kind)>)
+fn release_freed(custody: &Custody<Boxed>, seat: &mut Seat<Boxed>, freed: Option<(Slot, Kind)>)
     requires seat { seat.old.table ≡ custody.now.table }
     requires slot { IfSome freed (λ f. HasAs (f.0.0, kind_number f.1 + 1) seat.old.view.held) }
     ensures table { seat.new.table ≡ seat.old.table }

@@ -356,7 +356,7 @@ log_kept m j k a is on =
       on.1 ∙ ap (λ (xs : List Addr). xs ++ on.0) first.1 ∙ append_assoc (log_of m) first.0 on.0,
     )
 
--- ---- for the answers
+-- ---- for the proofs of the calls
 
 pub promoted_grows : (m j : MarksOf) (q : Addr → Bool) (a : Addr) → j ≡ pushed m a → IsSettledMarks m
     → Grows (YoungEdge j) (λ x. Contains j.unscanned x) (promoted_in j) q

@@ -5,8 +5,8 @@ use Rattle.hd_model.specs.declared.data.Refusal.TheVariants as refusal
 use Rattle.hd_model.specs.declared.data.Reply.TheVariants as reply
 use Rattle.hd_model.specs.declared.command.Cmd.TheVariants as cmd
 use Rattle.hd_model.specs.State.{State, register_of}
-use Rattle.hd_model.specs.Command.{answers, refuses}
-use Rattle.hd_model.specs.Step.{IsOutcome, AnswersRoot}
+use Rattle.hd_model.specs.Command.{reply_with, refuses}
+use Rattle.hd_model.specs.Step.{IsOutcome, RepliesRoot}
 use Rattle.hd_model.specs.Leads.{Leads}
 use Rattle.hd_model.specs.Scene.{scene_of}
 use Rattle.hd_model.specs.Reach.{IsReached}
@@ -25,14 +25,14 @@ use Rattle.hd_model.proofs.UseChains.{led_chain, chain_led, reached_use, to_be_f
 
 asks_root : (s t : State) (e : Entry) (o : Option Id) (found : Reply)
     → ((goal : Id) → o ≡ Some goal → ReturnsRoot s goal found)
-    → IsOutcome e (option_map_or (λ _. answers found s) o (refuses refusal.Null s)) t
+    → IsOutcome e (option_map_or (λ _. reply_with found s) o (refuses refusal.Null s)) t
     → MatchOption o (e.reply ≡ reply.Refused refusal.Null) (λ goal. ReturnsRoot s goal e.reply)
 asks_root s t e None found is_root is = is.reply
 asks_root s t e (Some goal) found is_root is = subst (ReturnsRoot s goal) (sym is.reply) (is_root goal refl)
 
 pub gcroot_returns_the_root : GcRootReturnsTheRoot
 gcroot_returns_the_root n s t e r step is =
-    let a : AnswersRoot s e t r = step_of n s e t (cmd.GcRoot r) step is in
+    let a : RepliesRoot s e t r = step_of n s e t (cmd.GcRoot r) step is in
     record {
       reply = asks_root s t e (register_of s e.caller r) a.found a.is_root a.outcome;
       same = a.outcome.after ∙ root_after s (register_of s e.caller r) a.found;

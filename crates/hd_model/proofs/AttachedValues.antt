@@ -1,5 +1,5 @@
 -- What the weak table has for a key is what the run attached to it.
-use Rattle.hd_model.proofs.Basics.{AddIsRefusedWhereAttached, Bool, Chain, Cmd, DoesCollect, Entry, FinMap, FindReturnsWhatIsAttached, Id, IsOnKey, IsSome, IsSomeAnd, IsWellFormed, List, None, NullKeysAreRefused, Numbers, Option, Outcome, RemoveReturnsWhetherAttached, Reply, Slot, Some, State, Step, StepOf, TakesWay, WeakEntry, adding_key, adds, and_from, answers, ap, attached, attached_by, cases_Bool, cases_eq, cond-true, eq-eqb, false, finds, get, get-empty, idle_slot, if◌then◌else◌, in_idle, in_new, inl, inr, insert, is_done, is_target, le_trans, link, loaded, nat_cmp, ne_eqb, none-some, on_object, option_map, option_map_or, refl, refuses, register_of, removes, same_Some, scene_of, slot_of_key, start_of, stay, subst, swept, sym, touched_by, true, true≢false, value_at, way_of_adding, with_register, with_weak, ℕ, ⊎_elim, ◌&&◌, ◌/◌, ◌==◌, ◌^◌, ◌∙◌, ◌≡◌, ◌≢◌, ◌⊎◌}
+use Rattle.hd_model.proofs.Basics.{AddIsRefusedWhereAttached, Bool, Chain, Cmd, DoesCollect, Entry, FinMap, FindReturnsWhatIsAttached, Id, IsOnKey, IsSome, IsSomeAnd, IsWellFormed, List, None, NullKeysAreRefused, Numbers, Option, Outcome, RemoveReturnsWhetherAttached, Reply, Slot, Some, State, Step, StepOf, TakesWay, WeakEntry, adding_key, adds, and_from, reply_with, ap, attached, attached_by, cases_Bool, cases_eq, cond-true, eq-eqb, false, finds, get, get-empty, idle_slot, if◌then◌else◌, in_idle, in_new, inl, inr, insert, is_done, is_target, le_trans, link, loaded, nat_cmp, ne_eqb, none-some, on_object, option_map, option_map_or, refl, refuses, register_of, removes, same_Some, scene_of, slot_of_key, start_of, stay, subst, swept, sym, touched_by, true, true≢false, value_at, way_of_adding, with_register, with_weak, ℕ, ⊎_elim, ◌&&◌, ◌/◌, ◌==◌, ◌^◌, ◌∙◌, ◌≡◌, ◌≢◌, ◌⊎◌}
 use Rattle.hd_model.specs.Command.{is_refused}
 use Rattle.hd_model.proofs.ReadAfterWrite.{get_inserted, get_beside, inserted_from}
 use Rattle.hd_model.proofs.{WholeScenes.whole_scene, Reports.gone, WellFormedCollection.was_entry, Outcomes.option_cases, StateReadBack.step_of, StateReadBack.on_object_is}
@@ -240,9 +240,9 @@ module _ (n : Numbers) (s : State) (w : IsWellFormed n s) (key : Id) where
 
   find_replies : (d : ℕ) (caller : ℕ) (found : Option Slot) → slot_of_key s key ≡ found
       → (o : Option (Option Id)) → Holds s.weak key o
-      → (option_map_or (λ slot. answers (loaded (value_at s slot)) (with_register s caller d
+      → (option_map_or (λ slot. reply_with (loaded (value_at s slot)) (with_register s caller d
       (value_at s slot)))
-      found (answers reply.Absent (with_register s caller d None))).reply
+      found (reply_with reply.Absent (with_register s caller d None))).reply
       ≡ option_map_or loaded o reply.Absent
   find_replies d caller (Some slot) is (Some v) had = ap loaded (found_value slot is v had)
   find_replies d caller (Some slot) is None had = not_found slot is had
@@ -251,8 +251,8 @@ module _ (n : Numbers) (s : State) (w : IsWellFormed n s) (key : Id) where
 
   remove_replies : (found : Option Slot) → slot_of_key s key ≡ found → (o : Option (Option Id))
       → Holds s.weak key o
-      → (option_map_or (λ slot. answers reply.Done (with_weak s slot None)) found
-      (answers reply.Absent s)).reply
+      → (option_map_or (λ slot. reply_with reply.Done (with_weak s slot None)) found
+      (reply_with reply.Absent s)).reply
       ≡ option_map_or (λ _. reply.Done) o reply.Absent
   remove_replies (Some slot) is (Some v) had = refl
   remove_replies (Some slot) is None had = not_found slot is had

@@ -1,5 +1,5 @@
 -- What each command does where it is not refused, one case for each way.
-use Rattle.hd_model.proofs.Basics.{Adding, AddsEntry, AnswersPlace, Back, Bool, Cmd, DoesCollect, Entry, Extra, FitsKind, GivesBack, Grown, Handle, Id, IsAllFree, IsOutcome, IsSome, Kind, List, Make, MakesHandle, MayAnswer, MayGive, None, Numbers, Object, One, Option, Outcome, Refusal, Slot, Some, State, Step, StepOf, Strength, TakesWay, Two, Zero, [], adding_key, adding_of, answers, ap, board_of, cond, count, count_of, false, field_of, fresh_object, get, handle_at, handle_register_of, identity_of, idle_slot, in_idle, in_new, inl, inr, is_kind, is_some, kind_of, last_serial, length, loaded, made_handle, object_by_id, on_handle, on_handle_of, option_and_then, pinned_by, pins, refl, refuses, register_of, secondary, secondary_of, set, set_registered, slot_of_key, static_of, strength, subst, sym, take_first, true, value_at, way_of_adding, with_board, with_entry, with_growth, with_handle, with_handle_register, with_object, with_place, with_queue, with_register, with_serial, with_static, with_weak, without_handle, without_secondary, without_use, ℕ, ⊎_elim, ◌&&◌, ◌+◌, ◌-◌, ◌<◌, ◌==◌, ◌^◌, ◌∙◌, ◌∷◌, ◌≡◌, ◌⊎◌}
+use Rattle.hd_model.proofs.Basics.{Adding, AddsEntry, RepliesPlace, Back, Bool, Cmd, DoesCollect, Entry, Extra, FitsKind, GivesBack, Grown, Handle, Id, IsAllFree, IsOutcome, IsSome, Kind, List, Make, MakesHandle, MayReturn, MayGive, None, Numbers, Object, One, Option, Outcome, Refusal, Slot, Some, State, Step, StepOf, Strength, TakesWay, Two, Zero, [], adding_key, adding_of, reply_with, ap, board_of, cond, count, count_of, false, field_of, fresh_object, get, handle_at, handle_register_of, identity_of, idle_slot, in_idle, in_new, inl, inr, is_kind, is_some, kind_of, last_serial, length, loaded, made_handle, object_by_id, on_handle, on_handle_of, option_and_then, pinned_by, pins, refl, refuses, register_of, secondary, secondary_of, set, set_registered, slot_of_key, static_of, strength, subst, sym, take_first, true, value_at, way_of_adding, with_board, with_entry, with_growth, with_handle, with_handle_register, with_object, with_place, with_queue, with_register, with_serial, with_static, with_weak, without_handle, without_secondary, without_use, ℕ, ⊎_elim, ◌&&◌, ◌+◌, ◌-◌, ◌<◌, ◌==◌, ◌^◌, ◌∙◌, ◌∷◌, ◌≡◌, ◌⊎◌}
 use Rattle.hd_model.specs.Command.{is_refused}
 use Rattle.hd_model.specs.Anchors.{ReturnsRoot}
 use Rattle.hd_model.proofs.KindTests.{same_kind}
@@ -114,8 +114,8 @@ pub data Effect (n : Numbers) (s : State) (e : Entry) : Cmd → State → Type 0
       → Effect n s e (cmd.HPut k h) (with_board s k (handle_register_of s e.caller h))
   picks_board : {d k : ℕ} → e.reply ≡ reply.Done
       → Effect n s e (cmd.HPick d k) (with_handle_register s e.caller d (board_of s k))
-  answers_place : {h : ℕ} (slot : Slot) (handle : Handle Id) (id : Id) (p : ℕ)
-      → Finds s e.caller h slot handle → handle.target ≡ Some id → MayAnswer s id p → e.reply ≡ reply.Place p
+  replies_place : {h : ℕ} (slot : Slot) (handle : Handle Id) (id : Id) (p : ℕ)
+      → Finds s e.caller h slot handle → handle.target ≡ Some id → MayReturn s id p → e.reply ≡ reply.Place p
       → Effect n s e (cmd.AddrOf h) (with_place s id p)
   gives_back : {given : Kind} (block : ℕ) → IsAllFree s given block → e.reply ≡ reply.Value 1
       → Effect n s e (cmd.Trim given) (without_use s block)
@@ -131,7 +131,7 @@ pub data Effect (n : Numbers) (s : State) (e : Entry) : Cmd → State → Type 0
       → e.reply ≡ reply.Done → Effect n s e (cmd.CRemove k) (with_weak s slot None)
   removes_none : {k : ℕ} (key : Id) → register_of s e.caller k ≡ Some key → HasNoKey s key
       → e.reply ≡ reply.Absent → Effect n s e (cmd.CRemove k) s
-  answers_root : {r : ℕ} (goal : Id) → register_of s e.caller r ≡ Some goal → ReturnsRoot s goal e.reply
+  replies_root : {r : ℕ} (goal : Id) → register_of s e.caller r ≡ Some goal → ReturnsRoot s goal e.reply
       → Effect n s e (cmd.GcRoot r) s
   gives_none : {given : Kind} → e.reply ≡ reply.Value 0 → Effect n s e (cmd.Trim given) s
 
@@ -176,12 +176,12 @@ module _ (n : Numbers) (s : State) (e : Entry) (t : State) where
   takes_it d [] is = comes _ _ (λ p _. finds_none p)
   takes_it d (id ∷ rest) is = comes _ _ (λ p _. takes_first id rest is p)
 
-  answers_it : (h : ℕ) → AnswersPlace s e t h → Effect n s e (cmd.AddrOf h) t
-  answers_it h a =
+  replies_it : (h : ℕ) → RepliesPlace s e t h → Effect n s e (cmd.AddrOf h) t
+  replies_it h a =
       on_handle_cases (Comes (cmd.AddrOf h)) s e.caller h _ (λ _. refuses_it _ _) (λ _ _ _. refuses_it _ _)
       (λ slot handle f g. test_cases (Comes (cmd.AddrOf h)) (pins handle) _ _
       (λ same. option_cases (Comes (cmd.AddrOf h)) _ handle.target _ (λ _. refuses_it _ _)
-      (λ id target. comes _ _ (λ p _. answers_place slot handle id a.place
+      (λ id target. comes _ _ (λ p _. replies_place slot handle id a.place
       (record { names = f; live = g }) target (a.may id (found slot handle id f g same target)) p)))
       (λ _. refuses_it _ _)) a.outcome
     where
@@ -240,10 +240,10 @@ module _ (n : Numbers) (s : State) (e : Entry) (t : State) where
       (λ _ _. refuses_it _ _))
 
   finds_it : (d k : ℕ) (key : Id) (slot : Slot) → HasKey s key slot.0 → register_of s e.caller k ≡ Some key
-      → Comes (cmd.CFind d k) (answers (loaded (value_at s slot)) (with_register s e.caller d
+      → Comes (cmd.CFind d k) (reply_with (loaded (value_at s slot)) (with_register s e.caller d
       (value_at s slot)))
   finds_it d k key slot has f =
-      subst (λ x. Comes (cmd.CFind d k) (answers (loaded x) (with_register s e.caller d x)))
+      subst (λ x. Comes (cmd.CFind d k) (reply_with (loaded x) (with_register s e.caller d x)))
       (sym (value_is s slot has.entry has.held)) (comes _ _ (λ p _. finds_value key slot has f p))
 
   command_effect : (c : Cmd) → StepOf n s e t c → Effect n s e c t
@@ -293,7 +293,7 @@ module _ (n : Numbers) (s : State) (e : Entry) (t : State) where
       (λ p q. frees_handle slot handle f p q)) h
   command_effect (cmd.HPut k r) h = comes _ _ (λ p _. puts_board p) h
   command_effect (cmd.HPick d k) h = comes _ _ (λ p _. picks_board p) h
-  command_effect (cmd.AddrOf r) h = answers_it r h
+  command_effect (cmd.AddrOf r) h = replies_it r h
   command_effect (cmd.HUp r) h = works_on _ r _ _
       (λ slot handle f same. comes _ _ (λ p _. raises_count slot handle f same p)) h
   command_effect (cmd.HDown r) h =
@@ -316,7 +316,7 @@ module _ (n : Numbers) (s : State) (e : Entry) (t : State) where
       (λ slot is. comes _ _ (λ p _. removes_entry key slot (key_found s key slot is) f p))) h
   command_effect (cmd.GcRoot r) h =
       on_object_cases (Comes (cmd.GcRoot r)) s e.caller r _ (λ _. refuses_it _ _)
-      (λ goal f. comes _ _ (λ p _. answers_root goal f
+      (λ goal f. comes _ _ (λ p _. replies_root goal f
       (subst (ReturnsRoot s goal) (sym p) (h.is_root goal f))))
       h.outcome
 

@@ -1,5 +1,5 @@
 -- What a handle has is read back, and a freed slot is not live.
-use Rattle.hd_model.proofs.Basics.{AnswersCount, Bool, Cmd, CountIsReadBack, Entry, Extra, FitsKind, FreedIsNotLive, GivesCount, GivesSecondary, GivesStrength, GivesTarget, Handle, Id, IsDoneOn, IsOutcome, IsSome, IsSomeAnd, IsWellFormed, Kind, Make, MakesIn, None, Numbers, Option, Outcome, Refusal, Reply, SecondaryIsReadBack, Slot, Some, State, Step, StepOf, Strength, StrengthIsKept, TargetIsReadBack, WritesCount, WritesSecondary, WritesStrength, WritesTarget, ap, cond, count, count_of, false, get, handle_at, handle_register_of, if◌then◌else◌, inl, inr, insert, is_attaching, is_kind, is_lost, is_refused, loaded, loses, lowered_answer, made_handle, none-some, on_handle, on_handle_of, option_and_then, option_map, option_map_or, refl, refuses, register_of, role, same_Some, secondary, secondary_of, strength, subst, sym, touched_by, true, true≢false, with_count, with_handle, without_secondary, ℕ, ⊎_elim, ◌&&◌, ◌+◌, ◌-◌, ◌==◌, ◌∙◌, ◌≡◌, ◌⊎◌}
+use Rattle.hd_model.proofs.Basics.{ReturnsCount, Bool, Cmd, CountIsReadBack, Entry, Extra, FitsKind, FreedIsNotLive, GivesCount, GivesSecondary, GivesStrength, GivesTarget, Handle, Id, IsDoneOn, IsOutcome, IsSome, IsSomeAnd, IsWellFormed, Kind, Make, MakesIn, None, Numbers, Option, Outcome, Refusal, Reply, SecondaryIsReadBack, Slot, Some, State, Step, StepOf, Strength, StrengthIsKept, TargetIsReadBack, WritesCount, WritesSecondary, WritesStrength, WritesTarget, ap, cond, count, count_of, false, get, handle_at, handle_register_of, if◌then◌else◌, inl, inr, insert, is_attaching, is_kind, is_lost, is_refused, loaded, loses, lowering_reply, made_handle, none-some, on_handle, on_handle_of, option_and_then, option_map, option_map_or, refl, refuses, register_of, role, same_Some, secondary, secondary_of, strength, subst, sym, touched_by, true, true≢false, with_count, with_handle, without_secondary, ℕ, ⊎_elim, ◌&&◌, ◌+◌, ◌-◌, ◌==◌, ◌∙◌, ◌≡◌, ◌⊎◌}
 use Rattle.hd_model.specs.Laws.{makes_handle as is_making}
 use Rattle.hd_model.proofs.{ReadAfterWrite.get_inserted, ReadAfterWrite.get_removed, OneState.done_or_refused, KindExtras.attaching_kind, StateReadBack.step_of, StateReadBack.effect_of}
 use Rattle.hd_model.proofs.KindTests.{variable_or_dependent, variable_or_counted, counted_or_dependent}
@@ -289,20 +289,20 @@ same_value first second = cc
 
 count_put : (n : Numbers) (s : State) (e : Entry) (t : State) (slot : Slot) (c : ℕ) → Step n s e t
     → GivesCount s e slot c → HandleIs t slot (ExtraIs (count c))
-count_put n s e t slot c step (law.GivesCount.by_up {h = h} is has answered) =
+count_put n s e t slot c step (law.GivesCount.by_up {h = h} is has returned) =
     by t (effect_of n s e t (cmd.HUp h) step is)
   where
     by : (t : State) → Effect n s e (cmd.HUp h) t → HandleIs t slot (ExtraIs (count c))
-    by t (refused p) = absurd (value_or_refused answered p)
+    by t (refused p) = absurd (value_or_refused returned p)
     by t (raises_count other handle f same p) =
-        written_has s e.caller h slot other handle _ (ExtraIs _) f has (ap count (same_value p answered))
-count_put n s e t slot c step (law.GivesCount.by_down {h = h} is has answered) =
+        written_has s e.caller h slot other handle _ (ExtraIs _) f has (ap count (same_value p returned))
+count_put n s e t slot c step (law.GivesCount.by_down {h = h} is has returned) =
     by t (effect_of n s e t (cmd.HDown h) step is)
   where
     by : (t : State) → Effect n s e (cmd.HDown h) t → HandleIs t slot (ExtraIs (count c))
-    by t (refused p) = absurd (value_or_refused answered p)
+    by t (refused p) = absurd (value_or_refused returned p)
     by t (lowers_count other handle f same p) =
-        written_has s e.caller h slot other handle _ (ExtraIs _) f has (ap count (same_value p answered))
+        written_has s e.caller h slot other handle _ (ExtraIs _) f has (ap count (same_value p returned))
 count_put n s e t slot c step (law.GivesCount.by_new is has done) =
     made_has n s e t slot (ExtraIs _) refl (effect_of n s e t _ step is) has done
 
@@ -340,10 +340,10 @@ strength_is_kept n old now written slot given since gives done =
     ap (option_map (λ (x : Handle Id). x.extra)) found.1.0 ∙ ap Some found.1.1
 
 -- `hup` and `hdown` return what follows from the count
-count_answered : (n : Numbers) (s : State) (e : Entry) (t : State) (slot : Slot) (c h : ℕ)
+count_returned : (n : Numbers) (s : State) (e : Entry) (t : State) (slot : Slot) (c h : ℕ)
     (handle : Handle Id) → IsWellFormed n s → Step n s e t → handle_register_of s e.caller h ≡ Some slot
-    → handle_at s slot ≡ Some handle → handle.extra ≡ count c → AnswersCount c h e
-count_answered n s e t slot c h handle w step named live has =
+    → handle_at s slot ≡ Some handle → handle.extra ≡ count c → ReturnsCount c h e
+count_returned n s e t slot c h handle w step named live has =
     let counted = kind_with n s slot handle (count c) w live has in
     record {
       up = λ is.
@@ -358,12 +358,12 @@ count_answered n s e t slot c h handle w step named live has =
           ∙ ap (λ (y : Outcome). y.reply) (on_handle_of_is s e.caller h _ _ slot handle named live
           counted refl)
           ∙ lowered_reply s slot handle (count_of handle.extra)
-          ∙ ap (λ x. lowered_answer (count_of x)) has;
+          ∙ ap (λ x. lowering_reply (count_of x)) has;
     }
   where
     lowered_reply : (s : State) (slot : Slot) (handle : Handle Id) (c : ℕ)
         → (if c == 0 then refuses refusal.CountZero s else with_count s slot handle (c - 1)).reply
-        ≡ lowered_answer c
+        ≡ lowering_reply c
     lowered_reply s slot handle c = reply_of_test (c == 0) (refuses refusal.CountZero s)
         (with_count s slot handle (c - 1))
 
@@ -375,7 +375,7 @@ count_is_read_back n old now new written reading slot c h since gives step named
     (handle_change n s w e slot e.cmd t did) apart had) since put in
     let found : (handle : Handle Id) × ((handle_at now slot ≡ Some handle) × ExtraIs (count c) handle) =
     some_handle (handle_at now slot) kept.1 in
-    count_answered n now reading new slot c h found.0 kept.0 step named found.1.0 found.1.1
+    count_returned n now reading new slot c h found.0 kept.0 step named found.1.0 found.1.1
 
 -- a slot without a handle stays so, but for an `hnew` that gives it
 vacant_stays : (s : State) (e : Entry) (t : State) (slot : Slot) (c : Cmd) (o : Option (Handle Id))

@@ -1,5 +1,5 @@
 -- The heap is within its limit, and found full only where it is.
-use Rattle.hd_model.proofs.Basics.{Bool, Cmd, Entry, HeapIsWithinItsLimit, Id, IsOutcome, IsWellFormed, List, NewIsRefusedWhereFull, NewReturns, None, Numbers, Object, Option, Outcome, Refusal, Reply, Some, State, StepOf, [], answers, ap, arith, cases_lt, cond, entries, false, fresh_object, get, insert, last_serial, le_trans, len-empty, len-entries, length, length-replicate, length-set, ltb-false, ltb-true, map, nat_cmp, new_object, object_by_id, option_map, refl, refuses, register_of, size_of, start_of, subst, sum_by, survivor, sym, total_size, true, values, ℕ, ⊎_elim, ◌+◌, ◌<◌, ◌^◌, ◌∙◌, ◌∷◌, ◌≡◌, ◌≤◌}
+use Rattle.hd_model.proofs.Basics.{Bool, Cmd, Entry, HeapIsWithinItsLimit, Id, IsOutcome, IsWellFormed, List, NewIsRefusedWhereFull, NewReturns, None, Numbers, Object, Option, Outcome, Refusal, Reply, Some, State, StepOf, [], reply_with, ap, arith, cases_lt, cond, entries, false, fresh_object, get, insert, last_serial, le_trans, len-empty, len-entries, length, length-replicate, length-set, ltb-false, ltb-true, map, nat_cmp, new_object, object_by_id, option_map, refl, refuses, register_of, size_of, start_of, subst, sum_by, survivor, sym, total_size, true, values, ℕ, ⊎_elim, ◌+◌, ◌<◌, ◌^◌, ◌∙◌, ◌∷◌, ◌≡◌, ◌≤◌}
 use Rattle.hd_model.proofs.{Outcomes.test_cases, StepChains.chain_keeps, RunCounts.fresh, WellFormedSteps.step_keeps, WellFormedSteps.start_is_well_formed, StateReadBack.step_of, ObjectParts.there}
 use Rattle.hd_model.proofs.Sums.{share, sum-insert, sum-le}
 use Rattle.hd_model.proofs.Effects.{Effect, makes_object, sets_field, sets_value, suppresses, reregisters, collects, effect, next_identity, with_field}
@@ -12,26 +12,26 @@ module _ (n : Numbers) (s : State) (e : Entry) (t : State) (d fields : ℕ) (fin
   whole = total_size s + (fields + 3)
 
   -- what `new` returns, by the test of the size
-  answered : (P : Outcome → Type 0) → (n.heap < whole
+  returned : (P : Outcome → Type 0) → (n.heap < whole
       → P (refuses (refusal.HeapFull (total_size s) (fields + 3)) s))
-      → (whole ≤ n.heap → (after : State) → P (answers (reply.Object (next_identity s e.caller)) after))
+      → (whole ≤ n.heap → (after : State) → P (reply_with (reply.Object (next_identity s e.caller)) after))
       → P (new_object n s e.caller d fields fin)
-  answered P full fits =
+  returned P full fits =
       test_cases P _ _ _ (λ on. full (let over = ltb-true _ _ on in omega arith))
       (λ off. fits (let within = ltb-false _ _ off in omega arith) _)
 
-  new_answers : IsOutcome e (new_object n s e.caller d fields fin) t → NewReturns n s e fields
-  new_answers comes = record {
-    fits = λ low. comes.reply ∙ answered (λ o. o.reply ≡ reply.Object (next_identity s e.caller))
+  new_returns : IsOutcome e (new_object n s e.caller d fields fin) t → NewReturns n s e fields
+  new_returns comes = record {
+    fits = λ low. comes.reply ∙ returned (λ o. o.reply ≡ reply.Object (next_identity s e.caller))
         (λ high. absurd (omega arith)) (λ _ after. refl);
     full = λ high. comes.reply
-        ∙ answered (λ o. o.reply ≡ reply.Refused (refusal.HeapFull (total_size s) (fields + 3))) (λ _. refl)
+        ∙ returned (λ o. o.reply ≡ reply.Refused (refusal.HeapFull (total_size s) (fields + 3))) (λ _. refl)
         (λ low. absurd (omega arith));
   }
 
 pub new_is_refused_where_full : NewIsRefusedWhereFull
 new_is_refused_where_full n s t e d fields fin step is =
-    new_answers n s e t d fields fin (step_of n s e t (cmd.New d fields fin) step is).1
+    new_returns n s e t d fields fin (step_of n s e t (cmd.New d fields fin) step is).1
 
 not_refused : {r : Reply} {id : Id} {why : Refusal} → r ≡ reply.Object id → r ≡ reply.Refused why → ⊥
 not_refused a b = cc
@@ -58,7 +58,7 @@ module _ (n : Numbers) (s : State) (w : IsWellFormed n s) (e : Entry) where
       ap (share size_of) (fresh n s e.caller w small) in
       let long : length (fresh_object fields fin).fields ≡ fields = length-replicate fields None in
       let low : total_size s + (fields + 3) ≤ n.heap =
-      ⊎_elim (λ high. absurd (not_refused made ((new_answers n s e t d fields fin comes).full high)))
+      ⊎_elim (λ high. absurd (not_refused made ((new_returns n s e t d fields fin comes).full high)))
       (λ low. low) (cases_lt n.heap (total_size s + (fields + 3))) in
       omega arith
 

@@ -51,7 +51,7 @@ module _ (s : State) (p : FinMap nat_cmp ℕ) (caller : ℕ) (slot : Option Slot
   class_placed class.Frees = refl
   class_placed (class.GivesBack kind) = refl
   class_placed (class.Collects n) = refl
-  class_placed (class.AnswersPlace h) = refl
+  class_placed (class.RepliesPlace h) = refl
   class_placed (class.AddsEntry k v) = refl
   class_placed (class.LooksUp k) = refl
   class_placed (class.Searches r) = refl

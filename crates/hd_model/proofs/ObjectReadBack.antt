@@ -35,8 +35,8 @@ gen_returns_the_generation n s t e o id object step is named is_stored =
 made : (n : Numbers) (s : State) (e : Entry) (t : State) (d fields : ℕ) (fin : Bool) (id : Id)
     (P : Object Id → Type 0) → IsWellFormed n s → Step n s e t → e.cmd ≡ cmd.New d fields fin
     → e.reply ≡ reply.Object id → P (fresh_object fields fin) → Holds t id P
-made n s e t d fields fin id P w step is answered p =
-    let new = new_put n s e d fields fin t id (effect_of n s e t (cmd.New d fields fin) step is) answered in
+made n s e t d fields fin id P w step is returned p =
+    let new = new_put n s e d fields fin t id (effect_of n s e t (cmd.New d fields fin) step is) returned in
     record {
       given = given_of_object n t id (fresh_object fields fin) (step_keeps n s t e w step) new;
       each = λ x there. subst P (same_Some (fresh_object fields fin) x (sym new ∙ there)) p;
@@ -47,12 +47,12 @@ IsOf g x = x.generation ≡ g
 
 generation_put : (n : Numbers) (s : State) (e : Entry) (t : State) (id : Id) (g : ℕ) → IsWellFormed n s
     → Step n s e t → GivesGeneration s e id g → Holds t id (IsOf g)
-generation_put n s e t id g w step (law.GivesGeneration.by_new {d} {fields} {fin} is answered) =
-    made n s e t d fields fin id (IsOf 0) w step is answered refl
-generation_put n s e t id g w step (by_gen {o = o} is named answered) =
+generation_put n s e t id g w step (law.GivesGeneration.by_new {d} {fields} {fin} is returned) =
+    made n s e t d fields fin id (IsOf 0) w step is returned refl
+generation_put n s e t id g w step (by_gen {o = o} is named returned) =
     let (says, same) = gen_is n s t e o id step is named in
     let is_stored = there n s e.caller o id w named in
-    let number : (object_by_id s id).generation ≡ g = same_generation says answered in
+    let number : (object_by_id s id).generation ≡ g = same_generation says returned in
     subst (λ x. Holds x id (IsOf g)) (sym same) (record {
       given = given_of_object n s id (object_by_id s id) w is_stored;
       each = λ x is'. ap (λ (y : Object Id). y.generation) (same_Some x (object_by_id s id) (sym is'
@@ -174,8 +174,8 @@ joined_off n s e t id w step j =
 
 registration_put : (n : Numbers) (s : State) (e : Entry) (t : State) (id : Id) (b : Bool) → IsWellFormed n s
     → Step n s e t → GivesRegistration id s e t b → Holds t id (IsRegistered b)
-registration_put n s e t id b w step (law.GivesRegistration.by_new {d} {fields} {fin} is answered) =
-    made n s e t d fields fin id (IsRegistered fin) w step is answered refl
+registration_put n s e t id b w step (law.GivesRegistration.by_new {d} {fields} {fin} is returned) =
+    made n s e t d fields fin id (IsRegistered fin) w step is returned refl
 registration_put n s e t id b w step (by_suppress d) =
     object_kept n t id _ (IsRegistered false) (step_keeps n s t e w step)
     (set_off n s e t d.o id (effect_of n s e t (cmd.Suppress d.o) step d.command_is) d.done d.named) refl

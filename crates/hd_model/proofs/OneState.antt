@@ -1,5 +1,5 @@
 -- An entry leaves at most one state.
-use Rattle.hd_model.proofs.Basics.{Adding, AddsEntry, AnswersPlace, Back, Bool, Cmd, DoesCollect, Entry, Id, IsOutcome, Make, MakesHandle, None, Numbers, OneStateAfter, Option, Outcome, Refusal, Reply, Slot, Some, State, TakesWay, Way, Zero, adding_of, adds_entry, answer_place, answers, answers_place, ap, collects, decided, false, gives_back, handle_at, handle_register_of, if◌then◌else◌, in_idle, in_new, makes_handle, makes_object, option_map_or, pins, refl, same_Some, sym, true, way_of, way_of_adding, with_entry, with_growth, with_made, with_place, without_use, ℕ, ⊎_elim, ◌∙◌, ◌≡◌}
+use Rattle.hd_model.proofs.Basics.{Adding, AddsEntry, RepliesPlace, Back, Bool, Cmd, DoesCollect, Entry, Id, IsOutcome, Make, MakesHandle, None, Numbers, OneStateAfter, Option, Outcome, Refusal, Reply, Slot, Some, State, TakesWay, Way, Zero, adding_of, adds_entry, reply_place, reply_with, replies_place, ap, collects, decided, false, gives_back, handle_at, handle_register_of, if◌then◌else◌, in_idle, in_new, makes_handle, makes_object, option_map_or, pins, refl, same_Some, sym, true, way_of, way_of_adding, with_entry, with_growth, with_made, with_place, without_use, ℕ, ⊎_elim, ◌∙◌, ◌≡◌}
 use Rattle.hd_model.specs.Command.{is_refused}
 use Rattle.hd_model.proofs.Collections.{one_collection}
 use Rattle.hd_model.specs.declared.command.Cmd.TheVariants as cmd
@@ -7,7 +7,7 @@ use Rattle.hd_model.specs.declared.data.Kind.TheVariants as kind
 use Rattle.hd_model.specs.declared.data.Reply.TheVariants as reply
 use Rattle.hd_model.specs.State.{register_of}
 use Rattle.hd_model.specs.Command.{refuses}
-use Rattle.hd_model.specs.Step.{answers_root}
+use Rattle.hd_model.specs.Step.{replies_root}
 use Rattle.hd_model.specs.declared.data.Refusal.TheVariants as refusal
 
 -- the command of a way that the state alone does not decide
@@ -16,10 +16,10 @@ CommandOf c (decided r) = Unit {0}
 CommandOf c (makes_object d fields fin) = c ≡ cmd.New d fields fin
 CommandOf c (makes_handle d make t) = c ≡ cmd.HNew d make t
 CommandOf c (collects n) = c ≡ cmd.Collect n
-CommandOf c (answers_place h) = c ≡ cmd.AddrOf h
+CommandOf c (replies_place h) = c ≡ cmd.AddrOf h
 CommandOf c (gives_back kind) = c ≡ cmd.Trim kind
 CommandOf c (adds_entry v key) = (k : ℕ) × (c ≡ cmd.CAdd k v)
-CommandOf c (answers_root r) = c ≡ cmd.GcRoot r
+CommandOf c (replies_root r) = c ≡ cmd.GcRoot r
 
 pub way_command : (s : State) (caller : ℕ) (c : Cmd) → CommandOf c (way_of s caller c)
 way_command s caller (cmd.New d fields fin) = refl
@@ -56,18 +56,18 @@ same_place : {r : Reply} {p q : ℕ} → r ≡ reply.Place p → r ≡ reply.Pla
 same_place a b = cc
 
 -- so an outcome with a reply depends on no pinned address that the reply does not have
-places_same : (s : State) (caller h p q : ℕ) (r : Reply) → r ≡ (answer_place s caller h p).reply
-    → r ≡ (answer_place s caller h q).reply → answer_place s caller h p ≡ answer_place s caller h q
+places_same : (s : State) (caller h p q : ℕ) (r : Reply) → r ≡ (reply_place s caller h p).reply
+    → r ≡ (reply_place s caller h q).reply → reply_place s caller h p ≡ reply_place s caller h q
 places_same s caller h p q r =
     agree_option r _ _ (handle_register_of s caller h) _
     (λ slot. agree_option r _ _ (handle_at s slot) _
     (λ handle. agree_test r _ _ _ (pins handle)
-    (agree_option r _ _ handle.target _ (λ id a b. ap (λ z. answers (reply.Place z) (with_place s id z))
+    (agree_option r _ _ handle.target _ (λ id a b. ap (λ z. reply_with (reply.Place z) (with_place s id z))
     (same_place a b)))))
 
 -- `gcroot` changes nothing, whatever it replies
 pub root_after : (s : State) (o : Option Id) (r : Reply)
-    → (option_map_or (λ _. answers r s) o (refuses refusal.Null s)).after ≡ s
+    → (option_map_or (λ _. reply_with r s) o (refuses refusal.Null s)).after ≡ s
 root_after s None r = refl
 root_after s (Some goal) r = refl
 
@@ -86,7 +86,7 @@ module _ (n : Numbers) (s : State) (e : Entry) (t u : State) where
       a.after ∙ ap (λ (x : Slot). with_entry (with_growth s kind.Dependent e.grown) s e.caller v x key)
       (same_Some a.slot b.slot (sym a.given ∙ b.given)) ∙ sym b.after
 
-  one_place : (h : ℕ) → AnswersPlace s e t h → AnswersPlace s e u h → t ≡ u
+  one_place : (h : ℕ) → RepliesPlace s e t h → RepliesPlace s e u h → t ≡ u
   one_place h a b =
       a.outcome.after ∙ ap (λ (o : Outcome). o.after)
       (places_same s e.caller h a.place b.place e.reply a.outcome.reply b.outcome.reply) ∙ sym b.outcome.after
@@ -114,8 +114,8 @@ module _ (n : Numbers) (s : State) (e : Entry) (t u : State) where
       (λ x. ⊎_elim (λ y. absurd (done_or_refused y.reply x.refused.reply))
       (λ y. one_outcome _ x.refused y.refused) b) a
   one_of (collects k) a b = one_collected k a b
-  one_of (answers_place h) a b = one_place h a b
-  one_of (answers_root r) a b =
+  one_of (replies_place h) a b = one_place h a b
+  one_of (replies_root r) a b =
       a.outcome.after ∙ root_after s (register_of s e.caller r) a.found
       ∙ sym (b.outcome.after ∙ root_after s (register_of s e.caller r) b.found)
   one_of (gives_back wanted) a b =

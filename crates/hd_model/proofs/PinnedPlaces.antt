@@ -1,7 +1,7 @@
 -- A pinned address is returned again, as long as its object is pinned.
-use Rattle.hd_model.proofs.Basics.{AnswersPlace, Bool, Cmd, Entry, Handle, Id, IsFreePlace, IsPinned, MatchOption, MayAnswer, None, Numbers, Outcome, PinnedPlaceIsReadBack, PinsBy, PlaceIsReturnedAgain, Reply, Slot, Some, State, Step, Unpins, answer_place, answers, ap, cond, false, get, handle_at, if◌then◌else◌, is_pinned, option_and_then, option_map_or, pinned_by, pinned_target, pins, refl, refuses, subst, sym, true, true≢false, with_place, ℕ, ◌∙◌, ◌≡◌}
+use Rattle.hd_model.proofs.Basics.{RepliesPlace, Bool, Cmd, Entry, Handle, Id, IsFreePlace, IsPinned, MatchOption, MayReturn, None, Numbers, Outcome, PinnedPlaceIsReadBack, PinsBy, PlaceIsReturnedAgain, Reply, Slot, Some, State, Step, Unpins, reply_place, reply_with, ap, cond, false, get, handle_at, if◌then◌else◌, is_pinned, option_and_then, option_map_or, pinned_by, pinned_target, pins, refl, refuses, subst, sym, true, true≢false, with_place, ℕ, ◌∙◌, ◌≡◌}
 use Rattle.hd_model.proofs.{ReadAfterWrite.write_cases, ReadAfterWrite.get_inserted, PinTest.pinned_decides, StepWrites.still, StepWrites.same_id, StateReadBack.step_of}
-use Rattle.hd_model.proofs.Effects.{Effect, collects, answers_place}
+use Rattle.hd_model.proofs.Effects.{Effect, collects, replies_place}
 use Rattle.hd_model.specs.declared.data.Refusal.TheVariants as refusal
 use Rattle.hd_model.specs.declared.data.Reply.TheVariants as reply
 use Rattle.hd_model.specs.declared.command.Cmd.TheVariants as cmd
@@ -14,18 +14,21 @@ module _ (s : State) (caller h : ℕ) (id : Id) (by : PinsBy s caller h id) wher
       ∙ ap (λ b. cond b by.handle.target None) by.pins ∙ by.target
 
   -- what `addr` of it returns
-  pub answer_is : (p : ℕ) → answer_place s caller h p ≡ answers (reply.Place p) (with_place s id p)
-  answer_is p =
+  pub reply_is : (p : ℕ) → reply_place s caller h p ≡ reply_with (reply.Place p) (with_place s id p)
+  reply_is p =
       let on : Slot → Handle Id → Outcome = λ slot handle. if pins handle then (
-      option_map_or (λ x. answers (reply.Place p) (with_place s x p)) handle.target (refuses refusal.Null s))
+      option_map_or (λ x. reply_with (reply.Place p) (with_place s x p)) handle.target
+      (refuses refusal.Null s))
       else refuses refusal.WrongKind s in
       ap (λ r. option_map_or (λ slot. option_map_or (on slot) (handle_at s slot)
       (refuses refusal.NotLive s)) r
       (refuses refusal.EmptyRegister s)) by.has
       ∙ ap (λ r. option_map_or (on by.slot) r (refuses refusal.NotLive s)) by.live
-      ∙ ap (λ b. if b then (option_map_or (λ x. answers (reply.Place p) (with_place s x p)) by.handle.target
+      ∙ ap (λ b. if b then (option_map_or (λ x. reply_with (reply.Place p) (with_place s x p))
+      by.handle.target
       (refuses refusal.Null s)) else refuses refusal.WrongKind s) by.pins
-      ∙ ap (λ r. option_map_or (λ x. answers (reply.Place p) (with_place s x p)) r (refuses refusal.Null s))
+      ∙ ap (λ r. option_map_or (λ x. reply_with (reply.Place p) (with_place s x p)) r
+      (refuses refusal.Null s))
       by.target
 
   -- the register's handle is one that pins the object
@@ -39,15 +42,15 @@ module _ (s : State) (caller h : ℕ) (id : Id) (by : PinsBy s caller h id) wher
   }
 
 -- for an object that has a pinned address, only that one may be returned
-own_place : (s : State) (x : Id) (p q : ℕ) → get s.places x.0 ≡ Some p → MayAnswer s x q → q ≡ p
+own_place : (s : State) (x : Id) (p q : ℕ) → get s.places x.0 ≡ Some p → MayReturn s x q → q ≡ p
 own_place s x p q has may = subst (λ o. MatchOption o (IsFreePlace s x q) (λ own. q ≡ own)) has may
 
 pub place_is_returned_again : PlaceIsReturnedAgain
 place_is_returned_again n s t e h id p step is by has =
-    let does : AnswersPlace s e t h = step_of n s e t (cmd.AddrOf h) step is in
+    let does : RepliesPlace s e t h = step_of n s e t (cmd.AddrOf h) step is in
     let same : does.place ≡ p =
     own_place s id p does.place has (does.may id (pinned_is s e.caller h id by)) in
-    does.outcome.reply ∙ ap (λ (o : Outcome). o.reply) (answer_is s e.caller h id by does.place)
+    does.outcome.reply ∙ ap (λ (o : Outcome). o.reply) (reply_is s e.caller h id by does.place)
     ∙ ap reply.Place same
 
 same_number : {r : Reply} {p q : ℕ} → r ≡ reply.Place p → r ≡ reply.Place q → p ≡ q
@@ -57,11 +60,11 @@ same_number a b = cc
 place_put : (n : Numbers) (s : State) (e : Entry) (t : State) (h : ℕ) (id : Id) (p : ℕ) → Step n s e t
     → e.cmd ≡ cmd.AddrOf h → PinsBy s e.caller h id → e.reply ≡ reply.Place p
     → (get t.places id.0 ≡ Some p) × (t.handles ≡ s.handles)
-place_put n s e t h id p step is by answered =
-    let does : AnswersPlace s e t h = step_of n s e t (cmd.AddrOf h) step is in
-    let comes = answer_is s e.caller h id by does.place in
+place_put n s e t h id p step is by returned =
+    let does : RepliesPlace s e t h = step_of n s e t (cmd.AddrOf h) step is in
+    let comes = reply_is s e.caller h id by does.place in
     let same : does.place ≡ p =
-    same_number (does.outcome.reply ∙ ap (λ (o : Outcome). o.reply) comes) answered in
+    same_number (does.outcome.reply ∙ ap (λ (o : Outcome). o.reply) comes) returned in
     let after : t ≡ with_place s id does.place = does.outcome.after ∙ ap (λ (o : Outcome). o.after) comes in (
       ap (λ (x : State). get x.places id.0) after ∙ get_inserted s.places id.0 does.place ∙ ap Some same,
       ap (λ (x : State). x.handles) after,
@@ -71,9 +74,9 @@ place_put n s e t h id p step is by answered =
 module _ (n : Numbers) (s : State) (e : Entry) (id : Id) (p : ℕ) where
   place_stays : (c : Cmd) (t : State) → Effect n s e c t → is_pinned s.handles id.0 ≡ true
       → get s.places id.0 ≡ Some p → get t.places id.0 ≡ Some p
-  place_stays c t (answers_place slot handle other q f target may r) pinned has =
+  place_stays c t (replies_place slot handle other q f target may r) pinned has =
       write_cases s.places other.0 (λ o. o ≡ Some p) q id.0
-      (λ same. ap Some (own_place s id p q has (subst (λ x. MayAnswer s x q) (sym
+      (λ same. ap Some (own_place s id p q has (subst (λ x. MayReturn s x q) (sym
       (same_id id other same)) may)))
       has
   place_stays c t (collects did) pinned has =
@@ -96,8 +99,8 @@ pinned_still s e t id not =
     by false h = absurd (h refl)
 
 pub pinned_place_is_read_back : PinnedPlaceIsReadBack
-pinned_place_is_read_back n old now new first reading id h k p since is by answered step reads reading_by =
-    let put = place_put n old first since.after h id p since.first is by answered in
+pinned_place_is_read_back n old now new first reading id h k p since is by returned step reads reading_by =
+    let put = place_put n old first since.after h id p since.first is by returned in
     let pinned : is_pinned since.after.handles id.0 ≡ true =
     ap (λ m. is_pinned m id.0) put.1
     ∙ (pinned_decides old.handles id).1 (pinned_by_it old first.caller h id by)

@@ -1,7 +1,7 @@
 -- In every state of a run, the objects at pinned addresses share no cell.
-use Rattle.hd_model.proofs.Basics.{Bool, Cmd, Entry, FinMap, HasPlacesApart, Id, IsFreePlace, IsSome, IsWellFormed, MatchOption, MayAnswer, None, Numbers, Object, Option, PinnedObjectsDoNotOverlap, Some, State, TakesCells, ap, cases_lt, cond, false, get, get-empty, inl, inr, insert, is_pinned, is_some, length, length-set, nat_cmp, none-some, object_by_id, refl, register_of, same_Some, subst, sym, true, true≢false, unwrap_or, with_place, ℕ, ⊎_elim, ◌+◌, ◌<◌, ◌^◌, ◌∙◌, ◌≡◌, ◌≢◌, ◌≤◌, ◌⊎◌}
+use Rattle.hd_model.proofs.Basics.{Bool, Cmd, Entry, FinMap, HasPlacesApart, Id, IsFreePlace, IsSome, IsWellFormed, MatchOption, MayReturn, None, Numbers, Object, Option, PinnedObjectsDoNotOverlap, Some, State, TakesCells, ap, cases_lt, cond, false, get, get-empty, inl, inr, insert, is_pinned, is_some, length, length-set, nat_cmp, none-some, object_by_id, refl, register_of, same_Some, subst, sym, true, true≢false, unwrap_or, with_place, ℕ, ⊎_elim, ◌+◌, ◌<◌, ◌^◌, ◌∙◌, ◌≡◌, ◌≢◌, ◌≤◌, ◌⊎◌}
 use Rattle.hd_model.proofs.{ReadAfterWrite.write_cases, StepChains.chain_keeps, WellFormedSteps.step_keeps, WellFormedSteps.start_is_well_formed, StepWrites.same_id, ObjectParts.given_of_object, ObjectParts.holds_on}
-use Rattle.hd_model.proofs.Effects.{Effect, collects, answers_place, effect}
+use Rattle.hd_model.proofs.Effects.{Effect, collects, replies_place, effect}
 
 -- ranges that do not meet are one after the other
 apart_from : (a b c d : ℕ) → (a < d → c < b → ⊥) → (b ≤ c) ⊎ (d ≤ a)
@@ -50,7 +50,7 @@ module _ (n : Numbers) (s : State) (w : IsWellFormed n s) (e : Entry) where
   }
 
   -- an object that gets a pinned address now is apart from those that have one
-  fresh_apart : (id other : Id) (p a b c d : ℕ) → get s.places id.0 ≡ None → MayAnswer s id p
+  fresh_apart : (id other : Id) (p a b c d : ℕ) → get s.places id.0 ≡ None → MayReturn s id p
       → TakesCells (with_place s id p) id a b → p ≡ a → TakesCells s other c d → (b ≤ c) ⊎ (d ≤ a)
   fresh_apart id other p a b c d none may takes same has =
       let free : IsFreePlace s id p =
@@ -69,8 +69,8 @@ module _ (n : Numbers) (s : State) (w : IsWellFormed n s) (e : Entry) where
       }))
 
   -- an address that was returned
-  answered : (id : Id) (p : ℕ) → MayAnswer s id p → HasPlacesApart s → p < 2 ^ 32
-  answered id p may old = by (get s.places id.0) refl
+  returned : (id : Id) (p : ℕ) → MayReturn s id p → HasPlacesApart s → p < 2 ^ 32
+  returned id p may old = by (get s.places id.0) refl
     where
       by : (o : Option ℕ) → get s.places id.0 ≡ o → p < 2 ^ 32
       by None none = (subst (λ o. MatchOption o (IsFreePlace s id p) (λ own. p ≡ own)) none may).small
@@ -88,7 +88,7 @@ module _ (n : Numbers) (s : State) (w : IsWellFormed n s) (e : Entry) where
     was_stored : get s.places x.0 ≡ Some a → Was id p x a
     came : x ≡ id → p ≡ a → get s.places id.0 ≡ None → Was id p x a
 
-  was : (id : Id) (p : ℕ) → MayAnswer s id p → (x : Id) (a : ℕ) → get (insert s.places id.0 p) x.0 ≡ Some a
+  was : (id : Id) (p : ℕ) → MayReturn s id p → (x : Id) (a : ℕ) → get (insert s.places id.0 p) x.0 ≡ Some a
       → Was id p x a
   was id p may x a =
       write_cases s.places id.0 (λ o. o ≡ Some a → Was id p x a) p x.0
@@ -114,7 +114,7 @@ module _ (n : Numbers) (s : State) (w : IsWellFormed n s) (e : Entry) where
   swap : {A B : Type 0} → A ⊎ B → B ⊎ A
   swap h = ⊎_elim (λ a. inr a) (λ b. inl b) h
 
-  one_came : (c : Cmd) (id : Id) (p : ℕ) → Effect n s e c (with_place s id p) → MayAnswer s id p
+  one_came : (c : Cmd) (id : Id) (p : ℕ) → Effect n s e c (with_place s id p) → MayReturn s id p
       → HasPlacesApart s → HasPlacesApart (with_place s id p)
   one_came c id p does may old = record {
     small = λ x a b takes. few x a (was id p may x a takes.place) b takes;
@@ -124,7 +124,7 @@ module _ (n : Numbers) (s : State) (w : IsWellFormed n s) (e : Entry) where
     where
       few : (x : Id) (a : ℕ) → Was id p x a → (b : ℕ) → TakesCells (with_place s id p) x a b → a < 2 ^ 32
       few x a (was_stored is) b takes = old.small x a b (before c (with_place s id p) does x a b takes is)
-      few x a (came same number none) b takes = subst (λ k. k < 2 ^ 32) number (answered id p may old)
+      few x a (came same number none) b takes = subst (λ k. k < 2 ^ 32) number (returned id p may old)
 
       new : (x : Id) (a b : ℕ) → x ≡ id → TakesCells (with_place s id p) x a b
           → TakesCells (with_place s id p) id a b
@@ -149,8 +149,8 @@ module _ (n : Numbers) (s : State) (w : IsWellFormed n s) (e : Entry) where
   kept_place false o a is = absurd (none-some a is)
 
   effect_apart : (c : Cmd) (t : State) → Effect n s e c t → HasPlacesApart s → HasPlacesApart t
-  effect_apart c t (answers_place slot handle id p f target may r) old =
-      one_came c id p (answers_place slot handle id p f target may r) may old
+  effect_apart c t (replies_place slot handle id p f target may r) old =
+      one_came c id p (replies_place slot handle id p f target may r) may old
   effect_apart c t (collects did) old =
       all_stood c t (collects did)
       (λ x a is. kept_place (is_pinned s.handles x.0) _ a (sym (did.collects.places x.0) ∙ is)) old

@@ -1,5 +1,5 @@
 -- The queue is first in, first out.
-use Rattle.hd_model.proofs.Basics.{Bool, ChangesQueue, Cmd, Entry, FinalTakesTheFirst, Id, IsOutcome, IsValid, IsWellFormed, List, None, Numbers, Option, Outcome, QueueGoesInTurn, QueueIsLeft, REGISTERS, Reply, Some, State, [], answers, ap, append-nil, append_assoc, false, if◌then◌else◌, link, object_answered, option_to_list, refl, register_of, stay, subst, sym, take_first, taken, taken_by, takes, touched_by, true, with_queue, with_register, ℕ, ◌++◌, ◌<◌, ◌∙◌, ◌≡◌}
+use Rattle.hd_model.proofs.Basics.{Bool, ChangesQueue, Cmd, Entry, FinalTakesTheFirst, Id, IsOutcome, IsValid, IsWellFormed, List, None, Numbers, Option, Outcome, QueueGoesInTurn, QueueIsLeft, REGISTERS, Reply, Some, State, [], reply_with, ap, append-nil, append_assoc, false, if◌then◌else◌, link, object_returned, option_to_list, refl, register_of, stay, subst, sym, take_first, taken, taken_by, takes, touched_by, true, with_queue, with_register, ℕ, ◌++◌, ◌<◌, ◌∙◌, ◌≡◌}
 use Rattle.hd_model.specs.UserLaws.{collects}
 use Rattle.hd_model.proofs.{ReadAfterWrite.cell_here, StateReadBack.step_of}
 use Rattle.hd_model.proofs.Effects.{Effect, refused, finds_none, takes_first, effect}
@@ -21,7 +21,7 @@ final_takes_the_first n s t e d w step is =
     record {
       some = λ id rest queue.
           let out : take_first s e.caller d s.queue
-          ≡ answers (reply.Object id) (with_register (with_queue s rest) e.caller d (Some id)) =
+          ≡ reply_with (reply.Object id) (with_register (with_queue s rest) e.caller d (Some id)) =
           ap (take_first s e.caller d) queue in
           let after : t ≡ with_register (with_queue s rest) e.caller d (Some id) =
           comes.after ∙ ap (λ (o : Outcome). o.after) out in (
@@ -31,7 +31,7 @@ final_takes_the_first n s t e d w step is =
                 ∙ register_has n s e.caller d (Some id) w step.caller small,
           );
       none = λ queue.
-          let out : take_first s e.caller d s.queue ≡ answers reply.NoneQueued
+          let out : take_first s e.caller d s.queue ≡ reply_with reply.NoneQueued
           (with_register s e.caller d None) =
           ap (take_first s e.caller d) queue in
           let after : t ≡ with_register s e.caller d None = comes.after
@@ -52,18 +52,18 @@ module _ (n : Numbers) (s : State) (e : Entry) where
 
   -- what an entry of a command takes out
   abbrev taken_of : Cmd → List Id
-  taken_of c = if (touched_by c).queue then option_to_list (object_answered e.reply) else []
+  taken_of c = if (touched_by c).queue then option_to_list (object_returned e.reply) else []
 
-  nothing : (r : Reply) → e.reply ≡ r → object_answered r ≡ None
-      → option_to_list (object_answered e.reply) ≡ []
-  nothing r is none = ap (λ x. option_to_list (object_answered x)) is ∙ ap option_to_list none
+  nothing : (r : Reply) → e.reply ≡ r → object_returned r ≡ None
+      → option_to_list (object_returned e.reply) ≡ []
+  nothing r is none = ap (λ x. option_to_list (object_returned x)) is ∙ ap option_to_list none
 
   -- what was taken and then what is still queued is what was queued and then what joined
   turn : (c : Cmd) (t : State) → Effect n s e c t
       → (joined : List Id) × (taken_of c ++ t.queue ≡ s.queue ++ joined)
   turn c t (takes_first id rest is p) = (
     [],
-    ap (λ (r : Reply). option_to_list (object_answered r) ++ rest) p ∙ sym is ∙ sym (append-nil s.queue),
+    ap (λ (r : Reply). option_to_list (object_returned r) ++ rest) p ∙ sym is ∙ sym (append-nil s.queue),
   )
   turn c t (finds_none p) =
       ([], ap (λ (x : List Id). x ++ s.queue) (nothing _ p refl) ∙ sym (append-nil s.queue))
@@ -74,7 +74,7 @@ module _ (n : Numbers) (s : State) (e : Entry) where
   turn c t (refused {c = x} p) = ([], none_taken (touched_by x).queue ∙ sym (append-nil s.queue))
     where
       none_taken : (b : Bool) → (if b then option_to_list
-          (object_answered e.reply) else []) ++ s.queue ≡ s.queue
+          (object_returned e.reply) else []) ++ s.queue ≡ s.queue
       none_taken true = ap (λ (y : List Id). y ++ s.queue) (nothing _ p refl)
       none_taken false = refl
   turn c t _ = ([], sym (append-nil s.queue))

@@ -1,14 +1,14 @@
 -- The handles and the objects of a run, counted over its journal.
-use Rattle.hd_model.proofs.Basics.{Bool, Chain, Cmd, DoesCollect, Entry, Handle, HandlesAreMadeLessFreed, Id, IsSome, IsWellFormed, List, None, Numbers, Object, ObjectsAreMadeLessRemoved, Option, Refusal, Reply, Some, State, Step, ap, arith, cleared, cond, false, field_of, frees_handle, fresh_object, get, is_done, is_some, last_serial, len, len-empty, link, loaded, made_handle, nat_cmp, object_answered, object_by_id, option_map, refl, register_of, removed_in, start_of, stay, subst, sum_by, sum_by-cons, sym, touched_by, true, with_handle, ℕ, ◌%◌, ◌&&◌, ◌+◌, ◌/◌, ◌<◌, ◌^◌, ◌∙◌, ◌≡◌, ◌≤◌}
+use Rattle.hd_model.proofs.Basics.{Bool, Chain, Cmd, DoesCollect, Entry, Handle, HandlesAreMadeLessFreed, Id, IsSome, IsWellFormed, List, None, Numbers, Object, ObjectsAreMadeLessRemoved, Option, Refusal, Reply, Some, State, Step, ap, arith, cleared, cond, false, field_of, frees_handle, fresh_object, get, is_done, is_some, last_serial, len, len-empty, link, loaded, made_handle, nat_cmp, object_returned, object_by_id, option_map, refl, register_of, removed_in, start_of, stay, subst, sum_by, sum_by-cons, sym, touched_by, true, with_handle, ℕ, ◌%◌, ◌&&◌, ◌+◌, ◌/◌, ◌<◌, ◌^◌, ◌∙◌, ◌≡◌, ◌≤◌}
 use Rattle.hd_model.specs.Laws.{makes_handle, makes_object}
 use Rattle.hd_model.proofs.ReadAfterWrite.{len_new, len_again, len_less}
 use Rattle.hd_model.proofs.{PropertyCounts.counts_like, PropertyCounts.counts_once, SceneCollection.mapped_value, Reports.report_says}
 use Rattle.hd_model.proofs.MapEntries.{counts_keys, some_value, none_from}
-use Rattle.hd_model.proofs.Effects.{Effect, refused, makes_object as does_make, sets_field, gets_field, sets_value, reads_value, copies, clears, puts_static, gets_static, reads_generation, suppresses, reregisters, finds_none, takes_first, collects, makes_handle as does_make_handle, gets_target, sets_target, sets_secondary, gets_secondary, sets_strength, raises_count, lowers_count, frees_handle as does_free, puts_board, picks_board, answers_place, gives_back, gives_none, adds_entry, finds_value, finds_no_entry, removes_entry, removes_none, effect, next_identity, with_field}
+use Rattle.hd_model.proofs.Effects.{Effect, refused, makes_object as does_make, sets_field, gets_field, sets_value, reads_value, copies, clears, puts_static, gets_static, reads_generation, suppresses, reregisters, finds_none, takes_first, collects, makes_handle as does_make_handle, gets_target, sets_target, sets_secondary, gets_secondary, sets_strength, raises_count, lowers_count, frees_handle as does_free, puts_board, picks_board, replies_place, gives_back, gives_none, adds_entry, finds_value, finds_no_entry, removes_entry, removes_none, effect, next_identity, with_field}
 use Rattle.hd_model.proofs.WellFormedSteps.{has, given_vacant, step_keeps, start_is_well_formed}
 use Rattle.hd_model.specs.declared.data.Reply.TheVariants as reply
 use Rattle.hd_model.proofs.Basics.{⊎_elim}
-use Rattle.hd_model.proofs.Effects.{answers_root}
+use Rattle.hd_model.proofs.Effects.{replies_root}
 
 abbrev one_if : Bool → ℕ
 one_if b = cond b 1 0
@@ -123,12 +123,12 @@ module _ (n : Numbers) (s : State) (e : Entry) (w : IsWellFormed n s) where
       → len t.objects + removed_in e.reply ≡ len s.objects + one_if (makes_object c e.reply)
   removes c t (refused {r = r} p) =
       let none = refused_is_none (touched_by c).makes_object
-      (λ x. is_some (object_answered x)) e.reply r refl p in
+      (λ x. is_some (object_returned x)) e.reply r refl p in
       let zero_is = ap removed_in p in
       omega arith
   removes c t (does_make {d = d} {fields = fields} {fin = fin} small p) =
       let zero_is = ap removed_in p in
-      let one = as_one (is_some (object_answered e.reply)) (ap (λ x. is_some (object_answered x)) p) in
+      let one = as_one (is_some (object_returned e.reply)) (ap (λ x. is_some (object_returned x)) p) in
       let more = len_new s.objects (next_identity s e.caller).0 (fresh_object fields fin)
       (fresh n s e.caller w small) in
       omega arith
@@ -178,7 +178,7 @@ module _ (n : Numbers) (s : State) (e : Entry) (w : IsWellFormed n s) where
   removes c t (does_free slot handle f p q) = ap (λ x. len s.objects + removed_in x) p
   removes c t (puts_board p) = ap (λ x. len s.objects + removed_in x) p
   removes c t (picks_board p) = ap (λ x. len s.objects + removed_in x) p
-  removes c t (answers_place slot handle id place f target may p) = ap (λ x. len s.objects + removed_in x) p
+  removes c t (replies_place slot handle id place f target may p) = ap (λ x. len s.objects + removed_in x) p
   removes c t (gives_back block free p) = ap (λ x. len s.objects + removed_in x) p
   removes c t (gives_none p) = ap (λ x. len s.objects + removed_in x) p
   removes c t (adds_entry key slot f none may p q) = ap (λ x. len s.objects + removed_in x) p
@@ -186,7 +186,7 @@ module _ (n : Numbers) (s : State) (e : Entry) (w : IsWellFormed n s) where
   removes c t (finds_no_entry key f none p) = ap (λ x. len s.objects + removed_in x) p
   removes c t (removes_entry key slot x f p) = ap (λ x. len s.objects + removed_in x) p
   removes c t (removes_none key f none p) = ap (λ x. len s.objects + removed_in x) p
-  removes c t (answers_root goal f is_root) =
+  removes c t (replies_root goal f is_root) =
       ap (λ x. len s.objects + x)
       (⊎_elim (λ x. ap removed_in x.reply_is) (λ x. ap removed_in x.1) is_root)
 

@@ -1,7 +1,7 @@
 -- Runs and states that meet the premises of laws over steps and runs. What a state of them has is computed,
 -- but for what maps give.
-use Rattle.hd_model.proofs.Basics.{Bool, Entry, GivesGeneration, GivesRegistration, HasCollection, HasWay, Id, IsFreePlace, IsOutcome, IsSome, IsWellFormed, JoinsBy, MatchOption, MayAnswer, None, Numbers, One, PinsBy, Run, Since, Some, State, Step, TakesCells, Unpins, Zero, [], answers, ap, arith, first_slot, fresh_object, get, get-empty, identity_of, if◌then◌else◌, inl, is_some, link, lit<, made_handle, nat_cmp, nat_lt, new_object, none-some, refl, refuses, start_of, stay, subst, sym, total_size, true, with_made, with_object, with_place, with_queue, with_register, with_serial, ℕ, ⊎_elim, ◌+◌, ◌∙◌, ◌∷◌, ◌≡◌, ◌≢◌}
-use Rattle.hd_model.proofs.{ReadAfterWrite.get_inserted, WellFormedWrites.queue_keeps, WellFormedSteps.run_is_well_formed, PinnedPlaces.answer_is, PinnedPlaces.pinned_by_it, HeapLimit.start_total, CollectionSamples.premises_are_met, Fates.objects_are_resurrected_once}
+use Rattle.hd_model.proofs.Basics.{Bool, Entry, GivesGeneration, GivesRegistration, HasCollection, HasWay, Id, IsFreePlace, IsOutcome, IsSome, IsWellFormed, JoinsBy, MatchOption, MayReturn, None, Numbers, One, PinsBy, Run, Since, Some, State, Step, TakesCells, Unpins, Zero, [], reply_with, ap, arith, first_slot, fresh_object, get, get-empty, identity_of, if◌then◌else◌, inl, is_some, link, lit<, made_handle, nat_cmp, nat_lt, new_object, none-some, refl, refuses, start_of, stay, subst, sym, total_size, true, with_made, with_object, with_place, with_queue, with_register, with_serial, ℕ, ⊎_elim, ◌+◌, ◌∙◌, ◌∷◌, ◌≡◌, ◌≢◌}
+use Rattle.hd_model.proofs.{ReadAfterWrite.get_inserted, WellFormedWrites.queue_keeps, WellFormedSteps.run_is_well_formed, PinnedPlaces.reply_is, PinnedPlaces.pinned_by_it, HeapLimit.start_total, CollectionSamples.premises_are_met, Fates.objects_are_resurrected_once}
 use Rattle.hd_model.proofs.Members.{not_in_none, member_cases, pairs_none, pairs_cons}
 use Rattle.hd_model.specs.CollectionSamples.{few, id_of, busy}
 use Rattle.hd_model.specs.declared.data.Make.TheVariants as make
@@ -30,9 +30,9 @@ e1 = record { caller = 0; cmd = cmd.New 0 1 true; slot = None; grown = Zero; rep
 abbrev pub s1 : State
 s1 = with_register (with_serial (with_object s0 first (fresh_object 1 true)) 0 1) 0 0 (Some first)
 
-made : new_object numbers s0 0 0 1 true ≡ answers (reply.Object first) s1
+made : new_object numbers s0 0 0 1 true ≡ reply_with (reply.Object first) s1
 made = ap (λ k. if nat_lt 4 (k + (1 + 3)) then refuses (refusal.HeapFull (total_size s0) (1 + 3)) s0
-    else answers (reply.Object first) s1) (start_total numbers)
+    else reply_with (reply.Object first) s1) (start_total numbers)
 
 pub step1 : Step numbers s0 e1 s1
 step1 = record {
@@ -57,7 +57,7 @@ e_full = record {
 
 refused : new_object (sized 3) s0 0 0 1 true ≡ refuses (refusal.HeapFull 0 4) s0
 refused = ap (λ k. if nat_lt 3 (k + (1 + 3)) then refuses (refusal.HeapFull k (1 + 3)) s0
-    else answers (reply.Object first) s1) (start_total numbers)
+    else reply_with (reply.Object first) s1) (start_total numbers)
 
 pub step_full : Step (sized 3) s0 e_full s0
 step_full = record {
@@ -122,7 +122,7 @@ e3 = record { caller = 0; cmd = cmd.AddrOf 0; slot = None; grown = Zero; reply =
 abbrev s3 : State
 s3 = with_place s2 first 256
 
-free : (id : Id) → MayAnswer s2 id 256
+free : (id : Id) → MayReturn s2 id 256
 free id =
     subst (λ o. MatchOption o (IsFreePlace s2 id 256) (λ own. 256 ≡ own)) (sym (get-empty nat_cmp id.0))
     (record {
@@ -137,7 +137,7 @@ step3 = record {
   does = record {
     place = 256;
     may = λ id is. free id;
-    outcome = subst (λ o. IsOutcome e3 o s3) (sym (answer_is s2 0 0 first pins_first 256))
+    outcome = subst (λ o. IsOutcome e3 o s3) (sym (reply_is s2 0 0 first pins_first 256))
         (record { reply = refl; slot = refl; grown = refl; after = refl });
   };
 }

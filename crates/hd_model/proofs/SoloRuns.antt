@@ -1,5 +1,5 @@
 -- Two runs of the same lists, each of one caller after another, are one.
-use Rattle.hd_model.proofs.Basics.{Adding, AddsEntry, AddsLeast, All, Back, Chain, Cmd, DoesCollect, Entry, FindsTableFull, GivesBack, GivesBackLeast, GivesLeast, Grown, Id, IsLeastFree, IsNonDecreasingBy, IsOutcome, IsWellFormed, Kind, List, Make, MakesHandle, MayGive, None, NoneAllFree, NoneFree, Numbers, Outcome, Slot, SoloRunsAreOne, SoloStep, SoloTextIsOne, Some, State, Step, TakesLeast, TakesWay, Way, Zero, [], adding_of, adds_entry, answers, answers_place, ap, cases_eq, collects, commands_of, cond, decided, eq-eqb, gives_back, in_idle, in_new, inl, inr, kind_of, le_antisymm, le_of_eq, le_trans, link, makes_handle, makes_object, ne_eqb, none-some, part_of, refl, stay, subst, suc, suc-le-suc, sym, text_of, way_of, way_of_adding, zero-le, ℕ, ⊎_elim, ◌∙◌, ◌∷◌, ◌≡◌, ◌≤◌, ◌⊎◌}
+use Rattle.hd_model.proofs.Basics.{Adding, AddsEntry, AddsLeast, All, Back, Chain, Cmd, DoesCollect, Entry, FindsTableFull, GivesBack, GivesBackLeast, GivesLeast, Grown, Id, IsLeastFree, IsNonDecreasingBy, IsOutcome, IsWellFormed, Kind, List, Make, MakesHandle, MayGive, None, NoneAllFree, NoneFree, Numbers, Outcome, Slot, SoloRunsAreOne, SoloStep, SoloTextIsOne, Some, State, Step, TakesLeast, TakesWay, Way, Zero, [], adding_of, adds_entry, reply_with, replies_place, ap, cases_eq, collects, commands_of, cond, decided, eq-eqb, gives_back, in_idle, in_new, inl, inr, kind_of, le_antisymm, le_of_eq, le_trans, link, makes_handle, makes_object, ne_eqb, none-some, part_of, refl, stay, subst, suc, suc-le-suc, sym, text_of, way_of, way_of_adding, zero-le, ℕ, ⊎_elim, ◌∙◌, ◌∷◌, ◌≡◌, ◌≤◌, ◌⊎◌}
 use Rattle.hd_model.specs.Command.{is_refused}
 use Rattle.hd_model.proofs.{Collections.one_collection, StepWrites.same_slot, LeastGrowth.grown_or_full, LeastGrowth.same_growth, WellFormedSteps.step_keeps, WellFormedSteps.start_is_well_formed}
 use Rattle.hd_model.proofs.OneState.{CommandOf, way_command, one_state_after}
@@ -10,7 +10,7 @@ use Rattle.hd_model.proofs.Basics.{Option, option_map_or}
 use Rattle.hd_model.specs.Data.{Reply}
 use Rattle.hd_model.specs.State.{register_of}
 use Rattle.hd_model.specs.Command.{refuses}
-use Rattle.hd_model.specs.Step.{answers_root}
+use Rattle.hd_model.specs.Step.{replies_root}
 use Rattle.hd_model.specs.Anchors.{ReturnsRoot}
 use Rattle.hd_model.proofs.AnchorChains.{one_root}
 use Rattle.hd_model.specs.declared.data.Refusal.TheVariants as refusal
@@ -74,7 +74,7 @@ module _ (n : Numbers) (s : State) (w : IsWellFormed n s) (e f : Entry) (t u : S
 -- two entries of a `trim` of one kind
 module _ (s : State) (e f : Entry) (t u : State) (wanted : Kind) where
   abbrev Trims : Entry → State → Type 0
-  Trims x y = GivesBack s x y wanted ⊎ IsOutcome x (answers (reply.Value 0) s) y
+  Trims x y = GivesBack s x y wanted ⊎ IsOutcome x (reply_with (reply.Value 0) s) y
 
   back_or_zero : {g : Grown} {block : ℕ} → g ≡ Back block → g ≡ Zero → ⊥
   back_or_zero back zero_is = cc
@@ -85,7 +85,7 @@ module _ (s : State) (e f : Entry) (t u : State) (wanted : Kind) where
   back_is x y block grown (inr none) = absurd (back_or_zero grown none.grown)
 
   none_back : (x : Entry) (y : State) → NoneAllFree s wanted → Trims x y
-      → IsOutcome x (answers (reply.Value 0) s) y
+      → IsOutcome x (reply_with (reply.Value 0) s) y
   none_back x y none (inl back) = absurd (none back.block back.free)
   none_back x y none (inr zero_is) = zero_is
 
@@ -111,8 +111,8 @@ collected_same s e f t u k a b = (
 roots_same : (s : State) (e f : Entry) (t u : State) (r : ℕ) (p q : Reply) (o : Option Id)
     → ((goal : Id) → o ≡ Some goal → ReturnsRoot s goal p)
     → ((goal : Id) → o ≡ Some goal → ReturnsRoot s goal q)
-    → IsOutcome e (option_map_or (λ _. answers p s) o (refuses refusal.Null s)) t
-    → IsOutcome f (option_map_or (λ _. answers q s) o (refuses refusal.Null s)) u → Same e f
+    → IsOutcome e (option_map_or (λ _. reply_with p s) o (refuses refusal.Null s)) t
+    → IsOutcome f (option_map_or (λ _. reply_with q s) o (refuses refusal.Null s)) u → Same e f
 roots_same s e f t u r p q None a b x y = outcomes_same e f _ t u x y
 roots_same s e f t u r p q (Some goal) a b x y = (
   x.slot ∙ sym y.slot,
@@ -152,8 +152,8 @@ way_same n s e f t u c (adds_entry v key) by is w other a b x y =
     (adds_least s e e.caller v key adding same (subst (TakesLeast s e) is.1 x))
     (adds_least s (with_rest e f) e.caller v key adding same (subst (TakesLeast s (with_rest e f)) is.1 y))
 way_same n s e f t u c (collects k) by is w other a b x y = collected_same s e (with_rest e f) t u k a b
-way_same n s e f t u c (answers_place h) by is w other a b x y = absurd (other h is)
-way_same n s e f t u c (answers_root r) by is w other a b x y =
+way_same n s e f t u c (replies_place h) by is w other a b x y = absurd (other h is)
+way_same n s e f t u c (replies_root r) by is w other a b x y =
     roots_same s e (with_rest e f) t u r a.found b.found (register_of s e.caller r) a.is_root b.is_root
     a.outcome
     b.outcome

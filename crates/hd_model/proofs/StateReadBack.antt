@@ -1,5 +1,5 @@
 -- What is stored in fields, values, statics, on the board and in registers is read back.
-use Rattle.hd_model.proofs.Basics.{BoardIsReadBack, Bool, Cmd, Entry, FieldIsReadBack, HandleRegisterIsReadBack, Id, IsOutcome, IsSomeAnd, IsValid, IsWellFormed, List, NewFieldIsNull, NewValueIsZero, None, Numbers, Object, Option, Outcome, REGISTERS, Refusal, RegisterIsReadBack, Reply, Slot, Some, State, StaticIsReadBack, Step, StepOf, ValueIsReadBack, WritesField, WritesValue, [], ap, board_of, false, field_of, fresh_object, get, get_or, get_or-set_other, get_or-set_same, handle_register_of, if◌then◌else◌, inr, is_refused, length, length-replicate, length-set, loaded, lt-ltb, none-some, object_answered, object_by_id, on_field, on_object, option_map_or, put_in_handle_register, put_in_register, refl, refuses, register_of, same_Some, set, static_of, subst, sym, touched_by, true≢false, ℕ, ◌<◌, ◌∙◌, ◌≡◌}
+use Rattle.hd_model.proofs.Basics.{BoardIsReadBack, Bool, Cmd, Entry, FieldIsReadBack, HandleRegisterIsReadBack, Id, IsOutcome, IsSomeAnd, IsValid, IsWellFormed, List, NewFieldIsNull, NewValueIsZero, None, Numbers, Object, Option, Outcome, REGISTERS, Refusal, RegisterIsReadBack, Reply, Slot, Some, State, StaticIsReadBack, Step, StepOf, ValueIsReadBack, WritesField, WritesValue, [], ap, board_of, false, field_of, fresh_object, get, get_or, get_or-set_other, get_or-set_same, handle_register_of, if◌then◌else◌, inr, is_refused, length, length-replicate, length-set, loaded, lt-ltb, none-some, object_returned, object_by_id, on_field, on_object, option_map_or, put_in_handle_register, put_in_register, refl, refuses, register_of, same_Some, set, static_of, subst, sym, touched_by, true≢false, ℕ, ◌<◌, ◌∙◌, ◌≡◌}
 use Rattle.hd_model.proofs.ReadAfterWrite.{cell_here, replicate_cases, get_inserted}
 use Rattle.hd_model.proofs.OneState.{done_or_refused}
 use Rattle.hd_model.proofs.Effects.{Effect, refused, makes_object, sets_field, gets_field, sets_value, copies, clears, gets_static, finds_none, takes_first, makes_handle, gets_target, gets_secondary, frees_handle, picks_board, finds_value, finds_no_entry, effect, with_field, next_identity}
@@ -195,7 +195,7 @@ board_is_read_back n old now new written reading k h d since puts step picks =
     ∙ cell_here now.handle_registers reading.caller d (board_of now k) None row cell
     ∙ kept.1
 
-loaded_object : (o : Option Id) → o ≡ object_answered (loaded o)
+loaded_object : (o : Option Id) → o ≡ object_returned (loaded o)
 loaded_object None = refl
 loaded_object (Some id) = refl
 
@@ -213,24 +213,24 @@ module _ (n : Numbers) (s : State) (w : IsWellFormed n s) (e : Entry) (l : e.cal
   register_put : (c : Cmd) (t : State) → IsValid c → Effect n s e c t → (touched_by c).register ≡ Some d
       → is_refused e.reply ≡ false → register_of t e.caller d ≡ put_in_register s e.caller c e.reply
   register_put c t v (refused p) puts kept = absurd (true≢false (sym (ap is_refused p) ∙ kept))
-  register_put c t v (makes_object fits p) puts kept = register_here _ _ v.0 puts ∙ ap object_answered (sym p)
+  register_put c t v (makes_object fits p) puts kept = register_here _ _ v.0 puts ∙ ap object_returned (sym p)
   register_put c t v (gets_field {d = x} {o = o} {i = i} id f within p) puts kept = register_here x _ v.0 puts
-      ∙ loaded_object _ ∙ ap object_answered (sym p)
+      ∙ loaded_object _ ∙ ap object_returned (sym p)
   register_put c t v (copies p) puts kept = register_here _ _ v.0 puts
-  register_put c t v (clears p) puts kept = register_here _ _ v puts ∙ ap object_answered (sym p)
+  register_put c t v (clears p) puts kept = register_here _ _ v puts ∙ ap object_returned (sym p)
   register_put c t v (gets_static p) puts kept = register_here _ _ v.0 puts ∙ loaded_object _
-      ∙ ap object_answered (sym p)
-  register_put c t v (finds_none p) puts kept = register_here _ _ v puts ∙ ap object_answered (sym p)
+      ∙ ap object_returned (sym p)
+  register_put c t v (finds_none p) puts kept = register_here _ _ v puts ∙ ap object_returned (sym p)
   register_put c t v (takes_first id rest is p) puts kept = register_here _ _ v puts
-      ∙ ap object_answered (sym p)
+      ∙ ap object_returned (sym p)
   register_put c t v (gets_target slot handle f p) puts kept = register_here _ _ v.0 puts ∙ loaded_object _
-      ∙ ap object_answered (sym p)
+      ∙ ap object_returned (sym p)
   register_put c t v (gets_secondary slot handle f p) puts kept = register_here _ _ v.0 puts ∙ loaded_object _
-      ∙ ap object_answered (sym p)
+      ∙ ap object_returned (sym p)
   register_put c t v (finds_value key slot x f p) puts kept = register_here _ _ v.0 puts ∙ loaded_object _
-      ∙ ap object_answered (sym p)
+      ∙ ap object_returned (sym p)
   register_put c t v (finds_no_entry key f none p) puts kept = register_here _ _ v.0 puts
-      ∙ ap object_answered (sym p)
+      ∙ ap object_returned (sym p)
   register_put c t v _ puts kept = absurd (none-some d puts)
 
   handle_register_here : (x : ℕ) (v : Option Slot) → x < REGISTERS → Some x ≡ Some d

@@ -1,5 +1,5 @@
 -- Examples of what steps return and give, each proved by computing.
-use Rattle.hd_model.proofs.Basics.{None, Numbers, [], all_kinds, answer_place, block_of, blocks_needed, count, first_slot, identity_of, made_extra, map, read_generation, refl, reply_text, secondary, start_of, take_queued, ◌∷◌, ◌≡◌}
+use Rattle.hd_model.proofs.Basics.{None, Numbers, [], all_kinds, reply_place, block_of, blocks_needed, count, first_slot, identity_of, made_extra, map, read_generation, refl, reply_text, secondary, start_of, take_queued, ◌∷◌, ◌≡◌}
 use Rattle.std.specs.{Fmt.digits, Prelude.codes}
 use Rattle.hd_model.specs.declared.data.Make.TheVariants as make
 use Rattle.hd_model.specs.declared.data.Refusal.TheVariants as refusal
@@ -47,5 +47,5 @@ module _ (n : Numbers) where
   null_has_no_generation = refl
 
   pub empty_has_no_place :
-      (answer_place (start_of (record n { callers = 1 })) 0 4 640).reply ≡ reply.Refused refusal.EmptyRegister
+      (reply_place (start_of (record n { callers = 1 })) 0 4 640).reply ≡ reply.Refused refusal.EmptyRegister
   empty_has_no_place = refl

@@ -1,5 +1,5 @@
 -- Every command has a step.
-use Rattle.hd_model.proofs.Basics.{BlockUse, Bool, Cmd, Does, Entry, EveryCommandHasAStep, FinMap, Grown, Handle, HasWay, Id, IsFreePlace, IsLeastUnused, IsOutcome, IsSome, IsValid, IsWellFormed, Kind, Make, MatchOption, MayAnswer, MayGive, None, Numbers, One, Option, Outcome, PinsBy, Slot, Some, State, StepOf, TakesWay, Two, Way, Zero, adds_entry, answer_place, answers, answers_place, ap, arith, blocks_needed, cases_eq, cases_lt, collects, cond, decided, extra_data, false, first_slot, get, given_of, gives_back, handle_at, handle_register_of, inl, inr, insert, is_paired, is_some, kind_of, len, makes_handle, makes_object, nat_cmp, new_object, none-some, option_and_then, pinned_by, pinned_target, pins, refl, refuses, remove, same_Some, subst, suc, sym, true, use_of, way_of, with_entry, with_growth, with_made, zero, ℕ, ⊎_elim, ◌+◌, ◌<◌, ◌∙◌, ◌≡◌, ◌≤◌, ◌⊎◌}
+use Rattle.hd_model.proofs.Basics.{BlockUse, Bool, Cmd, Does, Entry, EveryCommandHasAStep, FinMap, Grown, Handle, HasWay, Id, IsFreePlace, IsLeastUnused, IsOutcome, IsSome, IsValid, IsWellFormed, Kind, Make, MatchOption, MayReturn, MayGive, None, Numbers, One, Option, Outcome, PinsBy, Slot, Some, State, StepOf, TakesWay, Two, Way, Zero, adds_entry, reply_place, reply_with, replies_place, ap, arith, blocks_needed, cases_eq, cases_lt, collects, cond, decided, extra_data, false, first_slot, get, given_of, gives_back, handle_at, handle_register_of, inl, inr, insert, is_paired, is_some, kind_of, len, makes_handle, makes_object, nat_cmp, new_object, none-some, option_and_then, pinned_by, pinned_target, pins, refl, refuses, remove, same_Some, subst, suc, sym, true, use_of, way_of, with_entry, with_growth, with_made, zero, ℕ, ⊎_elim, ◌+◌, ◌<◌, ◌∙◌, ◌≡◌, ◌≤◌, ◌⊎◌}
 use Rattle.hd_model.proofs.{OneState.CommandOf, OneState.way_command, NextState.collections_exist}
 use Rattle.hd_model.proofs.ReadAfterWrite.{get_beside, get_inserted, get_left, len_new, len_less}
 use Rattle.hd_model.specs.declared.data.Kind.TheVariants as kind
@@ -9,8 +9,8 @@ use Rattle.hd_model.specs.declared.command.Cmd.TheVariants as cmd
 use Rattle.hd_model.specs.Data.{Reply}
 use Rattle.hd_model.specs.State.{register_of}
 use Rattle.hd_model.specs.Anchors.{ReturnsRoot}
-use Rattle.hd_model.specs.Command.{answer_root}
-use Rattle.hd_model.specs.Step.{answers_root}
+use Rattle.hd_model.specs.Command.{reply_root}
+use Rattle.hd_model.specs.Step.{replies_root}
 use Rattle.hd_model.proofs.AnchorSearch.{root_exists}
 use Rattle.hd_model.proofs.WholeScenes.{whole_scene}
 
@@ -207,16 +207,16 @@ module _ (n : Numbers) (s : State) (w : IsWellFormed n s) (caller : ℕ) (known 
 
   -- an address that `addr` may return
   finds_place : (h : ℕ) → HasWay n s caller (cmd.AddrOf h)
-      → (p : ℕ) × ((id : Id) → pinned_target s caller h ≡ Some id → MayAnswer s id p)
+      → (p : ℕ) × ((id : Id) → pinned_target s caller h ≡ Some id → MayReturn s id p)
   finds_place h way = by (pinned_target s caller h) refl
     where
-      moved : (id : Id) → pinned_target s caller h ≡ Some id → (p : ℕ) → MayAnswer s id p
-          → (q : ℕ) × ((other : Id) → pinned_target s caller h ≡ Some other → MayAnswer s other q)
+      moved : (id : Id) → pinned_target s caller h ≡ Some id → (p : ℕ) → MayReturn s id p
+          → (q : ℕ) × ((other : Id) → pinned_target s caller h ≡ Some other → MayReturn s other q)
       moved id some p may =
-          (p, λ other is. subst (λ x. MayAnswer s x p) (same_Some id other (sym some ∙ is)) may)
+          (p, λ other is. subst (λ x. MayReturn s x p) (same_Some id other (sym some ∙ is)) may)
 
       of_object : (id : Id) → pinned_target s caller h ≡ Some id → (o : Option ℕ) → get s.places id.0 ≡ o
-          → (q : ℕ) × ((other : Id) → pinned_target s caller h ≡ Some other → MayAnswer s other q)
+          → (q : ℕ) × ((other : Id) → pinned_target s caller h ≡ Some other → MayReturn s other q)
       of_object id some None none =
           let (p, free) = way.place h id refl (pins_by h id some) none in
           moved id some p (subst (λ o. MatchOption o (IsFreePlace s id p) (λ own. p ≡ own)) (sym none) free)
@@ -224,7 +224,7 @@ module _ (n : Numbers) (s : State) (w : IsWellFormed n s) (caller : ℕ) (known 
           moved id some own (subst (λ o. MatchOption o (IsFreePlace s id own) (λ x. own ≡ x)) (sym is) refl)
 
       by : (o : Option Id) → pinned_target s caller h ≡ o
-          → (p : ℕ) × ((id : Id) → pinned_target s caller h ≡ Some id → MayAnswer s id p)
+          → (p : ℕ) × ((id : Id) → pinned_target s caller h ≡ Some id → MayReturn s id p)
       by None none = (0, λ id is. absurd (none-some id (sym none ∙ is)))
       by (Some id) some = of_object id some (get s.places id.0) refl
 
@@ -272,16 +272,16 @@ module _ (n : Numbers) (s : State) (w : IsWellFormed n s) (caller : ℕ) (known 
           });
         };
       }
-  by_way c (answers_place h) is command valid has =
+  by_way c (replies_place h) is command valid has =
       let (p, may) = finds_place h (subst (HasWay n s caller) command has) in
-      comes c (answer_place s caller h p) valid
+      comes c (reply_place s caller h p) valid
       (λ x. subst (TakesWay n s _ _) (sym is) (record { place = p; may = may; outcome = x }))
-  by_way c (answers_root r) is command valid has =
+  by_way c (replies_root r) is command valid has =
       let (found, is_root) = finds_root (register_of s caller r) in
-      comes c (answer_root s caller r found) valid
+      comes c (reply_root s caller r found) valid
       (λ x. subst (TakesWay n s _ _) (sym is) (record { found = found; is_root = is_root; outcome = x }))
   by_way c (gives_back wanted) is command valid has =
-      comes c (answers (reply.Value 0) s) valid (λ x. subst (TakesWay n s _ _) (sym is) (inr x))
+      comes c (reply_with (reply.Value 0) s) valid (λ x. subst (TakesWay n s _ _) (sym is) (inr x))
 
 pub every_command_has_a_step : EveryCommandHasAStep
 every_command_has_a_step n s caller c w known valid has =

@@ -1,9 +1,9 @@
 -- A slot of the weak table stays its own, and no command on a handle works on it.
-use Rattle.hd_model.proofs.Basics.{Back, Bool, Cmd, Entry, GivesBack, Grown, Id, IsSome, IsWellFormed, Kind, MayGive, None, Numbers, One, Option, Slot, Some, State, TakesWay, TextsLeaveTheWeakTableOut, Two, Way, WeakEntry, WeakSlotsAreNotLive, WeakSlotsStayHeld, Zero, and_parts, answers_place, ap, block_of, decided, false≢true, frees_handle, get, gives_back, is_done, is_some, makes_object, none-some, option_map, refl, same_Some, subst, swept, sym, touched_by, true, true≢false, way_of, ℕ, ⊎_elim, ◌∙◌, ◌≡◌}
+use Rattle.hd_model.proofs.Basics.{Back, Bool, Cmd, Entry, GivesBack, Grown, Id, IsSome, IsWellFormed, Kind, MayGive, None, Numbers, One, Option, Slot, Some, State, TakesWay, TextsLeaveTheWeakTableOut, Two, Way, WeakEntry, WeakSlotsAreNotLive, WeakSlotsStayHeld, Zero, and_parts, replies_place, ap, block_of, decided, false≢true, frees_handle, get, gives_back, is_done, is_some, makes_object, none-some, option_map, refl, same_Some, subst, swept, sym, touched_by, true, true≢false, way_of, ℕ, ⊎_elim, ◌∙◌, ◌≡◌}
 use Rattle.hd_model.specs.Step.{makes_handle as makes_handle_way, collects as collects_way, adds_entry as adds_entry_way}
 use Rattle.hd_model.specs.Laws.{makes_handle}
 use Rattle.hd_model.proofs.{ReadAfterWrite.still_some, WellFormedSteps.given_not_weak, HandleParts.not_live}
-use Rattle.hd_model.specs.Step.{answers_root}
+use Rattle.hd_model.specs.Step.{replies_root}
 use Rattle.hd_model.proofs.Effects.{Effect, refused, collects, makes_handle as does_make_handle, frees_handle as does_free, adds_entry, removes_entry, effect}
 
 pub weak_slots_are_not_live : WeakSlotsAreNotLive
@@ -71,8 +71,8 @@ module _ (n : Numbers) (s : State) (w : IsWellFormed n s) (e : Entry) (slot : Sl
       ⊎_elim (λ m. never_may _ m.slot e.grown m.may back)
       (λ full. not_back e.grown _ full.refused.grown back) h
   way_keeps t (collects_way k) h back = not_back e.grown _ h.grown back
-  way_keeps t (answers_place r) h back = not_back e.grown _ h.outcome.grown back
-  way_keeps t (answers_root r) h back = not_back e.grown _ h.outcome.grown back
+  way_keeps t (replies_place r) h back = not_back e.grown _ h.outcome.grown back
+  way_keeps t (replies_root r) h back = not_back e.grown _ h.outcome.grown back
   way_keeps t (adds_entry_way v key) h back =
       ⊎_elim (λ a. never_may _ a.slot e.grown a.may back)
       (λ full. not_back e.grown _ full.refused.grown back) h

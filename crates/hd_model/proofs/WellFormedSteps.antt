@@ -5,9 +5,9 @@ use Rattle.hd_model.proofs.KindTests.{without_secondary_fits, without_secondary_
 use Rattle.hd_model.proofs.WellFormedWrites.{names_more, register_keeps, handle_register_keeps, static_keeps, board_keeps, object_keeps, serial_keeps, handle_keeps, removal_keeps, use_keeps, without_use_keeps, weak_keeps, live_not_weak, queue_keeps, place_keeps}
 use Rattle.hd_model.proofs.Members.{first_in, later_in, pairs_rest}
 use Rattle.hd_model.proofs.{MapEntries.none_from, MapEntries.some_value, WeakSlots.HasNoKey, StepChains.chain_keeps, WellFormedCollection.collection_keeps_well_formed}
-use Rattle.hd_model.proofs.Effects.{Effect, Finds, growth_is, refused, makes_object, sets_field, gets_field, sets_value, reads_value, copies, clears, puts_static, gets_static, reads_generation, suppresses, reregisters, finds_none, takes_first, collects, makes_handle, gets_target, sets_target, sets_secondary, gets_secondary, sets_strength, raises_count, lowers_count, frees_handle, puts_board, picks_board, answers_place, gives_back, gives_none, MayHold, adds_entry, finds_value, finds_no_entry, removes_entry, removes_none, effect, next_identity}
+use Rattle.hd_model.proofs.Effects.{Effect, Finds, growth_is, refused, makes_object, sets_field, gets_field, sets_value, reads_value, copies, clears, puts_static, gets_static, reads_generation, suppresses, reregisters, finds_none, takes_first, collects, makes_handle, gets_target, sets_target, sets_secondary, gets_secondary, sets_strength, raises_count, lowers_count, frees_handle, puts_board, picks_board, replies_place, gives_back, gives_none, MayHold, adds_entry, finds_value, finds_no_entry, removes_entry, removes_none, effect, next_identity}
 use Rattle.hd_model.specs.declared.data.Kind.TheVariants as kind
-use Rattle.hd_model.proofs.Effects.{answers_root}
+use Rattle.hd_model.proofs.Effects.{replies_root}
 
 or_else : {A : Type 0} (o : Option A) (d : A) → IsSome o → o ≡ Some (unwrap_or o d)
 or_else None d h = cc
@@ -265,7 +265,7 @@ module _ (n : Numbers) (s : State) (w : IsWellFormed n s) (e : Entry) (l : e.cal
       handle_register_keeps n (without_handle s slot) (removal_keeps n s w slot) e.caller h None l
   effect_keeps c t v (puts_board {k = k} p) = board_keeps n s w k _
   effect_keeps c t v (picks_board {d = d} p) = handle_register_keeps n s w e.caller d _ l
-  effect_keeps c t v (answers_place slot handle id p f target may r) =
+  effect_keeps c t v (replies_place slot handle id p f target may r) =
       place_keeps n s w id p (subst (Names s) target (w.names.targets slot.0 handle f.live))
   effect_keeps c t v (gives_back block free p) =
       without_use_keeps n s w block (λ slot here. (free (record { 0 = slot }) here).no_handle)
@@ -280,7 +280,7 @@ module _ (n : Numbers) (s : State) (w : IsWellFormed n s) (e : Entry) (l : e.cal
       weak_keeps n s w slot None (λ y no. absurd (none-some y no)) (λ y no. absurd (none-some y no))
       (w.weak.kinds slot.0 (ap is_some x.held)) (w.weak.apart slot.0 (ap is_some x.held))
   effect_keeps c t v (removes_none key f none p) = w
-  effect_keeps c t v (answers_root goal f is_root) = w
+  effect_keeps c t v (replies_root goal f is_root) = w
 
 pub step_keeps : (n : Numbers) (s t : State) (e : Entry) → IsWellFormed n s → Step n s e t → IsWellFormed n t
 step_keeps n s t e w step = effect_keeps n s w e step.caller e.cmd t step.valid (effect n s e t step)

@@ -22,12 +22,12 @@ pub record Outcome : Type 0 where
   pub after : State
 
 -- a command that gives and frees no slot
-abbrev pub answers : Reply → State → Outcome
-answers reply after = record { reply = reply; slot = None; after = after }
+abbrev pub reply_with : Reply → State → Outcome
+reply_with reply after = record { reply = reply; slot = None; after = after }
 
 -- a refused command leaves the state as it was
 abbrev pub refuses : Refusal → State → Outcome
-refuses refusal s = answers (reply.Refused refusal) s
+refuses refusal s = reply_with (reply.Refused refusal) s
 
 -- the reply of a load: the object, or null
 abbrev pub loaded : Option Id → Reply
@@ -72,65 +72,65 @@ new_object n s caller d fields fin =
     let serial = last_serial s caller + 1 in
     let id = identity_of caller serial in
     let made = with_serial (with_object s id (fresh_object fields fin)) caller serial in
-    answers (reply.Object id) (with_register made caller d (Some id)))
+    reply_with (reply.Object id) (with_register made caller d (Some id)))
 
 -- `set rO i rV`: field i of rO gets what rV references
 abbrev pub set_field : State → ℕ → ℕ → ℕ → ℕ → Outcome
 set_field s caller o i v =
     on_field s caller o i (λ id.
     let object = object_by_id s id in
-    answers reply.Done
+    reply_with reply.Done
     (with_object s id (record object { fields = slice_set object.fields i (register_of s caller v) })))
 
 -- `get rD rO i`: rD gets what field i of rO references
 abbrev pub get_field : State → ℕ → ℕ → ℕ → ℕ → Outcome
 get_field s caller d o i =
     on_field s caller o i
-    (λ id. let v = field_of (object_by_id s id) i in answers (loaded v) (with_register s caller d v))
+    (λ id. let v = field_of (object_by_id s id) i in reply_with (loaded v) (with_register s caller d v))
 
 -- `val rO n`: the value of rO becomes n
 abbrev pub set_value : State → ℕ → ℕ → ℕ → Outcome
 set_value s caller o v =
     on_object s caller o
-    (λ id. answers reply.Done (with_object s id (record (object_by_id s id) { value = v })))
+    (λ id. reply_with reply.Done (with_object s id (record (object_by_id s id) { value = v })))
 
 -- `read rO`: the value of rO
 abbrev pub read_value : State → ℕ → ℕ → Outcome
-read_value s caller o = on_object s caller o (λ id. answers (reply.Value (object_by_id s id).value) s)
+read_value s caller o = on_object s caller o (λ id. reply_with (reply.Value (object_by_id s id).value) s)
 
 -- `copy rD rS`: rD gets what rS references
 abbrev pub copy_register : State → ℕ → ℕ → ℕ → Outcome
-copy_register s caller d r = answers reply.Done (with_register s caller d (register_of s caller r))
+copy_register s caller d r = reply_with reply.Done (with_register s caller d (register_of s caller r))
 
 -- `drop rD`: rD is null
 abbrev pub clear_register : State → ℕ → ℕ → Outcome
-clear_register s caller d = answers reply.Done (with_register s caller d None)
+clear_register s caller d = reply_with reply.Done (with_register s caller d None)
 
 -- `sput k rS`: static k gets what rS references
 abbrev pub put_static : State → ℕ → ℕ → ℕ → Outcome
-put_static s caller k r = answers reply.Done (with_static s k (register_of s caller r))
+put_static s caller k r = reply_with reply.Done (with_static s k (register_of s caller r))
 
 -- `sget rD k`: rD gets what static k references
 abbrev pub get_static : State → ℕ → ℕ → ℕ → Outcome
-get_static s caller d k = answers (loaded (static_of s k)) (with_register s caller d (static_of s k))
+get_static s caller d k = reply_with (loaded (static_of s k)) (with_register s caller d (static_of s k))
 
 -- `gen rS`: the generation of rS
 abbrev pub read_generation : State → ℕ → ℕ → Outcome
 read_generation s caller o =
-    on_object s caller o (λ id. answers (reply.Generation (object_by_id s id).generation) s)
+    on_object s caller o (λ id. reply_with (reply.Generation (object_by_id s id).generation) s)
 
 -- `suppress rS` and `reregister rS`: rS is no longer registered for finalization, or again
 abbrev pub set_registered : State → ℕ → ℕ → Bool → Outcome
 set_registered s caller o registered =
     on_object s caller o
-    (λ id. answers reply.Done (with_object s id (record (object_by_id s id) { registered = registered })))
+    (λ id. reply_with reply.Done (with_object s id (record (object_by_id s id) { registered = registered })))
 
 -- `final rD`: rD gets the first object of the finalization queue, which leaves it, or null where the queue is
 -- empty (.NET's finalizer thread takes objects in turn; here a command does)
 abbrev pub take_first : State → ℕ → ℕ → List Id → Outcome
-take_first s caller d [] = answers reply.NoneQueued (with_register s caller d None)
+take_first s caller d [] = reply_with reply.NoneQueued (with_register s caller d None)
 take_first s caller d (id ∷ rest) =
-    answers (reply.Object id) (with_register (with_queue s rest) caller d (Some id))
+    reply_with (reply.Object id) (with_register (with_queue s rest) caller d (Some id))
 
 abbrev pub take_queued : State → ℕ → ℕ → Outcome
 take_queued s caller d = take_first s caller d s.queue
@@ -139,7 +139,7 @@ take_queued s caller d = take_first s caller d s.queue
 abbrev pub get_target : State → ℕ → ℕ → ℕ → Outcome
 get_target s caller d h =
     on_handle s caller h
-    (λ slot handle. answers (loaded handle.target) (with_register s caller d handle.target))
+    (λ slot handle. reply_with (loaded handle.target) (with_register s caller d handle.target))
 
 -- `hset hS rT`: the target becomes what rT references. A dependent handle may get null alone, and then its
 -- secondary is null too (the setter of .NET's DependentHandle.Target takes null alone).
@@ -148,7 +148,7 @@ set_target s caller h t =
     on_handle s caller h (λ slot handle.
     let target = register_of s caller t in
     if is_kind handle.kind kind.Dependent && is_some target then refuses refusal.WrongKind s
-    else answers reply.Done
+    else reply_with reply.Done
     (with_handle s slot (record handle { target = target; extra = without_secondary handle.extra })))
 
 -- `hsec hS rS`: the secondary of a dependent handle, whose target is not null, becomes what rS references
@@ -157,23 +157,24 @@ abbrev pub set_secondary : State → ℕ → ℕ → ℕ → Outcome
 set_secondary s caller h r =
     on_handle_of s caller h kind.Dependent (λ slot handle.
     let after = with_handle s slot (record handle { extra = secondary (register_of s caller r) }) in
-    option_map_or (λ _. answers reply.Done after) handle.target (refuses refusal.Null s))
+    option_map_or (λ _. reply_with reply.Done after) handle.target (refuses refusal.Null s))
 
 -- `hdep rD hS`: rD gets the secondary of a dependent handle
 abbrev pub get_secondary : State → ℕ → ℕ → ℕ → Outcome
 get_secondary s caller d h =
     on_handle_of s caller h kind.Dependent (λ slot handle.
-    let v = secondary_of handle.extra in answers (loaded v) (with_register s caller d v))
+    let v = secondary_of handle.extra in reply_with (loaded v) (with_register s caller d v))
 
 -- `hvar hS STRENGTH`: a variable handle gets the strength
 abbrev pub set_strength : State → ℕ → ℕ → Strength → Outcome
 set_strength s caller h given =
     on_handle_of s caller h kind.Variable
-    (λ slot handle. answers reply.Done (with_handle s slot (record handle { extra = strength given })))
+    (λ slot handle. reply_with reply.Done (with_handle s slot (record handle { extra = strength given })))
 
 -- a ref-counted handle gets a count, which is returned
 abbrev pub with_count : State → Slot → Handle Id → ℕ → Outcome
-with_count s slot handle c = answers (reply.Value c) (with_handle s slot (record handle { extra = count c }))
+with_count s slot handle c = reply_with (reply.Value c)
+    (with_handle s slot (record handle { extra = count c }))
 
 -- `hup hS`: the count of a ref-counted handle rises by one (CoreCLR's ref-counted handles ask their object's
 -- count; a count in the handle is this project's own)
@@ -199,23 +200,24 @@ free_handle s caller h =
 
 -- `hput k hS`: board index k gets the slot in hS
 abbrev pub put_board : State → ℕ → ℕ → ℕ → Outcome
-put_board s caller k h = answers reply.Done (with_board s k (handle_register_of s caller h))
+put_board s caller k h = reply_with reply.Done (with_board s k (handle_register_of s caller h))
 
 -- `hpick hD k`: hD gets the slot at board index k
 abbrev pub pick_board : State → ℕ → ℕ → ℕ → Outcome
-pick_board s caller d k = answers reply.Done (with_handle_register s caller d (board_of s k))
+pick_board s caller d k = reply_with reply.Done (with_handle_register s caller d (board_of s k))
 
 -- `addr hS` with p as the address of the object that the handle pins: it becomes the object's pinned address
-abbrev pub answer_place : State → ℕ → ℕ → ℕ → Outcome
-answer_place s caller h p =
+abbrev pub reply_place : State → ℕ → ℕ → ℕ → Outcome
+reply_place s caller h p =
     on_handle s caller h (λ slot handle.
     if pins handle then (
-    option_map_or (λ id. answers (reply.Place p) (with_place s id p)) handle.target (refuses refusal.Null s))
+    option_map_or (λ id. reply_with (reply.Place p) (with_place s id p)) handle.target
+    (refuses refusal.Null s))
     else refuses refusal.WrongKind s)
 
 -- `gcroot rS` with the reply that a search for rS has
-abbrev pub answer_root : State → ℕ → ℕ → Reply → Outcome
-answer_root s caller r reply = on_object s caller r (λ _. answers reply s)
+abbrev pub reply_root : State → ℕ → ℕ → Reply → Outcome
+reply_root s caller r reply = on_object s caller r (λ _. reply_with reply s)
 
 -- the extra of a made handle. Without a target a dependent handle has no secondary either.
 abbrev pub extra_by : (ℕ → Option Id) → Make → Option Id → Extra Id
@@ -295,12 +297,12 @@ add_entry s caller v slot key =
 abbrev pub find_entry : State → ℕ → ℕ → ℕ → Outcome
 find_entry s caller d k =
     on_object s caller k (λ key.
-    option_map_or (λ slot. answers (loaded (value_at s slot)) (with_register s caller d (value_at s slot)))
-    (slot_of_key s key) (answers reply.Absent (with_register s caller d None)))
+    option_map_or (λ slot. reply_with (loaded (value_at s slot)) (with_register s caller d (value_at s slot)))
+    (slot_of_key s key) (reply_with reply.Absent (with_register s caller d None)))
 
 -- `cremove rK`: the entry of rK leaves the table, and its slot is idle (ConditionalWeakTable.Remove)
 abbrev pub remove_entry : State → ℕ → ℕ → Outcome
 remove_entry s caller k =
     on_object s caller k
-    (λ key. option_map_or (λ slot. answers reply.Done (with_weak s slot None)) (slot_of_key s key)
-    (answers reply.Absent s))
+    (λ key. option_map_or (λ slot. reply_with reply.Done (with_weak s slot None)) (slot_of_key s key)
+    (reply_with reply.Absent s))

@@ -61,19 +61,19 @@ is_done reply.Unrooted = false
 is_done (reply.Refused r) = false
 
 -- the object that a reply references
-abbrev pub object_answered : Reply → Option Id
-object_answered reply.Done = None
-object_answered (reply.Object id) = Some id
-object_answered reply.Nothing = None
-object_answered (reply.Value v) = None
-object_answered (reply.Generation g) = None
-object_answered (reply.Place p) = None
-object_answered (reply.Report r) = None
-object_answered reply.NoneQueued = None
-object_answered reply.Absent = None
-object_answered (reply.Chain from edges) = None
-object_answered reply.Unrooted = None
-object_answered (reply.Refused r) = None
+abbrev pub object_returned : Reply → Option Id
+object_returned reply.Done = None
+object_returned (reply.Object id) = Some id
+object_returned reply.Nothing = None
+object_returned (reply.Value v) = None
+object_returned (reply.Generation g) = None
+object_returned (reply.Place p) = None
+object_returned (reply.Report r) = None
+object_returned reply.NoneQueued = None
+object_returned reply.Absent = None
+object_returned (reply.Chain from edges) = None
+object_returned reply.Unrooted = None
+object_returned (reply.Refused r) = None
 
 -- the number of objects that a collection removed, by its reply
 abbrev pub removed_in : Reply → ℕ
@@ -100,7 +100,7 @@ frees_handle cmd reply = (touched_by cmd).frees_handle && is_done reply
 
 -- whether it made an object: a `new` that returned one
 abbrev pub makes_object : Cmd → Reply → Bool
-makes_object cmd reply = (touched_by cmd).makes_object && is_some (object_answered reply)
+makes_object cmd reply = (touched_by cmd).makes_object && is_some (object_returned reply)
 
 -- the number of entries of a journal whose command and reply pass a test
 abbrev pub count_entries : (Cmd → Reply → Bool) → List Entry → ℕ
@@ -214,7 +214,7 @@ pub record WritesRegister (caller d : ℕ) (s : State) (e : Entry) (t : State) :
 -- what such a command stores there: what the register that it copies references, and else what its reply does
 abbrev pub put_in_register : State → ℕ → Cmd → Reply → Option Id
 put_in_register s caller cmd reply =
-    option_map_or (register_of s caller) (touched_by cmd).copied (object_answered reply)
+    option_map_or (register_of s caller) (touched_by cmd).copied (object_returned reply)
 
 -- an object register references what the last command that wrote it stored there
 abbrev pub RegisterIsReadBack : Type 0
@@ -354,13 +354,13 @@ pub data GivesCount (s : State) (e : Entry) (slot : Slot) : ℕ → Type 0 where
       → GivesCount s e slot 1
 
 -- what `hdown` returns on a count
-abbrev pub lowered_answer : ℕ → Reply
-lowered_answer c = if c == 0 then reply.Refused refusal.CountZero else reply.Value (c - 1)
+abbrev pub lowering_reply : ℕ → Reply
+lowering_reply c = if c == 0 then reply.Refused refusal.CountZero else reply.Value (c - 1)
 
 -- what `hup` and `hdown` return on a count
-pub record AnswersCount (c h : ℕ) (e : Entry) : Type 0 where
+pub record ReturnsCount (c h : ℕ) (e : Entry) : Type 0 where
   pub up : e.cmd ≡ cmd.HUp h → e.reply ≡ reply.Value (c + 1)
-  pub down : e.cmd ≡ cmd.HDown h → e.reply ≡ lowered_answer c
+  pub down : e.cmd ≡ cmd.HDown h → e.reply ≡ lowering_reply c
 
 -- after one of these and entries that neither write the count nor free the handle, `hup` and `hdown` count
 -- from it
@@ -368,7 +368,7 @@ abbrev pub CountIsReadBack : Type 0
 CountIsReadBack =
     (n : Numbers) (old now new : State) (written reading : Entry) (slot : Slot) (c h : ℕ)
     → Since n (WritesCount slot) old written now → GivesCount old written slot c → Step n now reading new
-    → handle_register_of now reading.caller h ≡ Some slot → AnswersCount c h reading
+    → handle_register_of now reading.caller h ≡ Some slot → ReturnsCount c h reading
 
 -- a done `hnew` makes a handle in a slot
 pub record MakesIn (slot : Slot) (s : State) (e : Entry) (t : State) : Type 0 where

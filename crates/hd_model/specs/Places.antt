@@ -29,8 +29,8 @@ pub record IsFreePlace (s : State) (x : Id) (place : ℕ) : Type 0 where
       → Meet (range_at place (object_by_id s x)) (range_at other (object_by_id s y)) → ⊥
 
 -- what `addr` may return for an object: its pinned address where it has one, and else a free address
-abbrev pub MayAnswer : State → Id → ℕ → Type 0
-MayAnswer s x place = MatchOption (get s.places x.0) (IsFreePlace s x place) (λ own. place ≡ own)
+abbrev pub MayReturn : State → Id → ℕ → Type 0
+MayReturn s x place = MatchOption (get s.places x.0) (IsFreePlace s x place) (λ own. place ≡ own)
 
 -- whether a target has an identity, given as a number
 abbrev pub is_target : ℕ → Option Id → Bool

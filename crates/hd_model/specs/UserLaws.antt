@@ -16,7 +16,7 @@ use Rattle.hd_model.specs.Step.{Step}
 use Rattle.hd_model.specs.Run.{Chain, Run}
 use Rattle.hd_model.specs.WellFormed.{IsWellFormed}
 use Rattle.hd_model.specs.Touched.{touched_by}
-use Rattle.hd_model.specs.Laws.{Since, object_answered}
+use Rattle.hd_model.specs.Laws.{Since, object_returned}
 use Rattle.hd_model.specs.CollectionLaws.{Joins}
 
 -- a handle register has a live handle that pins an object
@@ -90,7 +90,7 @@ QueueIsLeft =
 
 -- the object that an entry took out of the queue, and those that a list of entries took out, in order
 abbrev pub taken_by : Entry → List Id
-taken_by e = if (touched_by e.cmd).queue then option_to_list (object_answered e.reply) else []
+taken_by e = if (touched_by e.cmd).queue then option_to_list (object_returned e.reply) else []
 
 abbrev pub taken : List Entry → List Id
 taken [] = []

@@ -35,7 +35,7 @@ attached_by s key caller cmd reply before =
     (touched_by cmd).takes_out before)
 
 -- what entries leave attached to a key: the value of the last done `cadd` of it after which no done `cremove`
--- of it stands, or nothing where there is none
+-- of it comes, or nothing where there is none
 abbrev pub attached : {n : Numbers} {s t : State} {es : List Entry} → Id → Chain (Step n) s es t
     → Option (Option Id) → Option (Option Id)
 attached key stay before = before

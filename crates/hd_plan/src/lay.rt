@@ -65,13 +65,13 @@ fn lay_moves<M: Marker>(
     let _regions = heap.regions();
     let mut cursors = AllocCursors::new();
     for object in objects {
-        let laid = lay_one(heap, marker, n, *object, &mut cursors);
+        let laid = lay_object(heap, marker, n, *object, &mut cursors);
         moves.push_reserved(laid);
     }
 }
 
 // Gives one condemned object its new address.
-fn lay_one<M: Marker>(
+fn lay_object<M: Marker>(
     heap: &Heap,
     marker: &M,
     n: u8,

@@ -15,10 +15,10 @@ use Rattle.hd_model.specs.declared.data.Refusal.TheVariants as refusal
 use Rattle.hd_model.specs.declared.data.Reply.TheVariants as reply
 use Rattle.hd_model.specs.State.{Numbers, Handle, State, register_of, handle_register_of, handle_at, first_slot, IsFree, IsAllFree, with_place}
 use Rattle.hd_model.specs.Role.{pins}
-use Rattle.hd_model.specs.Places.{IsFreePlace, MayAnswer}
+use Rattle.hd_model.specs.Places.{IsFreePlace, MayReturn}
 use Rattle.hd_model.specs.Anchors.{ReturnsRoot}
-use Rattle.hd_model.specs.Command.{Outcome, answers, refuses, new_object, answer_place, answer_root}
-use Rattle.hd_model.specs.Step.{IsOutcome, MayGive, AnswersPlace, DoesCollect, AnswersRoot, pinned_by, pinned_target, Way, decided, makes_object, makes_handle, collects, answers_place, gives_back, adds_entry, answers_root, way_of, TakesWay, Step}
+use Rattle.hd_model.specs.Command.{Outcome, reply_with, refuses, new_object, reply_place, reply_root}
+use Rattle.hd_model.specs.Step.{IsOutcome, MayGive, RepliesPlace, DoesCollect, RepliesRoot, pinned_by, pinned_target, Way, decided, makes_object, makes_handle, collects, replies_place, gives_back, adds_entry, replies_root, way_of, TakesWay, Step}
 use Rattle.hd_model.specs.Text.{reply_text}
 use Rattle.hd_model.specs.FullText.{full_line}
 use Rattle.hd_model.specs.WellFormed.{IsWellFormed}
@@ -61,18 +61,18 @@ module _ (x y : Entry) (same : after_number x ≡ after_number y) where
       (numeral_determines p q _ _ small_p small_q (slot_off x.slot x.grown) (slot_off y.slot y.grown)
       (ap (drop 5) (replied _ _ a b))).0
 
--- ---- what `addr` answers
+-- ---- what `addr` returns
 
 -- an outcome by the address is that of a target, or depends on no address
 data PlaceCase (s : State) (target : Option Id) (f : ℕ → Outcome) : Type 0 where
-  names : (id : Id) → target ≡ Some id → ((p : ℕ) → f p ≡ answers (reply.Place p) (with_place s id p))
+  names : (id : Id) → target ≡ Some id → ((p : ℕ) → f p ≡ reply_with (reply.Place p) (with_place s id p))
       → PlaceCase s target f
   alike : ((p q : ℕ) → f p ≡ f q) → PlaceCase s target f
 
 module _ (s : State) where
   abbrev on_target : Option Id → ℕ → Outcome
   on_target target p =
-      option_map_or (λ id. answers (reply.Place p) (with_place s id p)) target (refuses refusal.Null s)
+      option_map_or (λ id. reply_with (reply.Place p) (with_place s id p)) target (refuses refusal.Null s)
 
   abbrev on_pinned : Bool → Option Id → ℕ → Outcome
   on_pinned b target p = if b then on_target target p else refuses refusal.WrongKind s
@@ -195,17 +195,17 @@ module _ (n : Numbers) (s : State) (d e : Entry) (t u : State) (w : IsWellFormed
       places_determined d e same p q (omega arith) (omega arith) a b
   one_place (Some own) id p q a b f g = f ∙ sym g
 
-  by_place : (h : ℕ) → AnswersPlace s d t h → AnswersPlace s e u h → IsAlike d e
+  by_place : (h : ℕ) → RepliesPlace s d t h → RepliesPlace s e u h → IsAlike d e
   by_place h a b = by (case_slot s (handle_register_of s d.caller h))
     where
-      moved : answer_place s d.caller h b.place ≡ answer_place s e.caller h b.place
-      moved = ap (λ c. answer_place s c h b.place) callers
+      moved : reply_place s d.caller h b.place ≡ reply_place s e.caller h b.place
+      moved = ap (λ c. reply_place s c h b.place) callers
 
-      may : (id : Id) → pinned_target s d.caller h ≡ Some id → MayAnswer s id b.place
-      may = subst (λ c. (id : Id) → pinned_target s c h ≡ Some id → MayAnswer s id b.place) (sym callers)
+      may : (id : Id) → pinned_target s d.caller h ≡ Some id → MayReturn s id b.place
+      may = subst (λ c. (id : Id) → pinned_target s c h ≡ Some id → MayReturn s id b.place) (sym callers)
           b.may
 
-      by : PlaceCase s (pinned_target s d.caller h) (answer_place s d.caller h) → IsAlike d e
+      by : PlaceCase s (pinned_target s d.caller h) (reply_place s d.caller h) → IsAlike d e
       by (alike f) = by_outcomes _ _ (f a.place b.place ∙ moved) a.outcome b.outcome
       by (names id target is_root) =
           let first : d.reply ≡ reply.Place a.place =
@@ -214,11 +214,11 @@ module _ (n : Numbers) (s : State) (d e : Entry) (t u : State) (w : IsWellFormed
           b.outcome.reply ∙ ap (λ (o : Outcome). o.reply) (sym moved ∙ is_root b.place) in
           let places : a.place ≡ b.place =
           one_place (get s.places id.0) id a.place b.place first second (a.may id target) (may id target) in
-          by_outcomes _ _ (ap (answer_place s d.caller h) places ∙ moved) a.outcome b.outcome
+          by_outcomes _ _ (ap (reply_place s d.caller h) places ∙ moved) a.outcome b.outcome
 
-  by_root : (r : ℕ) → AnswersRoot s d t r → AnswersRoot s e u r → IsAlike d e
+  by_root : (r : ℕ) → RepliesRoot s d t r → RepliesRoot s e u r → IsAlike d e
   by_root r a b = by_outcomes _ _
-      (by (register_of s d.caller r) a.is_root is_root ∙ ap (λ c. answer_root s c r b.found) callers)
+      (by (register_of s d.caller r) a.is_root is_root ∙ ap (λ c. reply_root s c r b.found) callers)
       a.outcome b.outcome
     where
       is_root : (goal : Id) → register_of s d.caller r ≡ Some goal → ReturnsRoot s goal b.found
@@ -228,11 +228,11 @@ module _ (n : Numbers) (s : State) (d e : Entry) (t u : State) (w : IsWellFormed
 
       by : (o : Option Id) → ((goal : Id) → o ≡ Some goal → ReturnsRoot s goal a.found)
           → ((goal : Id) → o ≡ Some goal → ReturnsRoot s goal b.found)
-          → option_map_or (λ _. answers a.found s) o (refuses refusal.Null s)
-          ≡ option_map_or (λ _. answers b.found s) o (refuses refusal.Null s)
+          → option_map_or (λ _. reply_with a.found s) o (refuses refusal.Null s)
+          ≡ option_map_or (λ _. reply_with b.found s) o (refuses refusal.Null s)
       by None f g = refl
       by (Some goal) f g =
-          ap (λ (z : Reply). answers z s) (one_root s goal a.found b.found (f goal refl) (g goal refl))
+          ap (λ (z : Reply). reply_with z s) (one_root s goal a.found b.found (f goal refl) (g goal refl))
 
   by_collection : (k : ℕ) → DoesCollect s d t k → DoesCollect s e u k → IsAlike d e
   by_collection k a b = record {
@@ -248,10 +248,10 @@ module _ (n : Numbers) (s : State) (d e : Entry) (t u : State) (w : IsWellFormed
       by_outcomes _ _ (ap (λ c. new_object n s c r fields fin) callers) a.1 b.1
   by_way (makes_handle r make target) a b = by_making r make target a b
   by_way (collects k) a b = by_collection k a b
-  by_way (answers_place h) a b = by_place h a b
+  by_way (replies_place h) a b = by_place h a b
   by_way (gives_back kind) a b = by_trim kind a b
   by_way (adds_entry v key) a b = by_adding v key a b
-  by_way (answers_root r) a b = by_root r a b
+  by_way (replies_root r) a b = by_root r a b
 
 -- steps of one command of a caller from one state are of one entry, where their full lines are the same
 pub one_entry : (n : Numbers) (s : State) (d e : Entry) (t u : State) (number : ℕ) → IsWellFormed n s

@@ -149,7 +149,7 @@ fn words_that_the_command_does_not_take_are_not_valid(rt: HostRuntime) -> Result
 }
 
 #[test]
-fn options_stand_anywhere_and_may_be_unused(rt: HostRuntime) -> Result<(), Fail> {
+fn options_come_anywhere_and_may_be_unused(rt: HostRuntime) -> Result<(), Fail> {
     let alloc = rt.alloc();
     let tables: [&[&str]; 4] = [
         &["", "solo"],

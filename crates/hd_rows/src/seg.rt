@@ -35,7 +35,7 @@ fn chains_keep_their_order(rt: HostRuntime) -> Result<(), Memory> {
 }
 
 #[test]
-fn an_extra_stands_in_the_data_block(rt: HostRuntime) -> Result<(), Memory> {
+fn an_extra_is_in_the_data_block(rt: HostRuntime) -> Result<(), Memory> {
     let mut seg = Seg::open(rt.alloc(), 3)?;
     let Ok(Grown::Two(block, extras)) = seg.give_block(Kind::Dependent) else {
         return Err(Memory);

@@ -39,7 +39,7 @@ fn entries_go_with_their_keys() -> [Row; 3] {
 // Chains of entries, and of entries and dependent handles.
 fn chains() -> [Row; 3] {
     [
-        // A key that is the value of another entry, which stands after it in the table.
+        // A key that is the value of another entry, which comes after it in the table.
         runs(
             "new r0 0\nnew r1 0\nnew r2 0\ncadd r1 r2\ncadd r0 r1\ndrop r1\ndrop r2\ncollect 2\n\
              cfind r3 r0\ncfind r4 r3\ncremove r0\ndrop r3\ndrop r4\ncollect 2\n",
@@ -201,7 +201,7 @@ fn keys_and_slots_are_refused(rt: HostRuntime) -> Result<(), Fail> {
     assert_rows(&rt, &listed_without_entries())
 }
 
-// Lines, and how many times they stand in a script one after another; how the text of the script
+// Lines, and how many times they come in a script one after another; how the text of the script
 // up to them ends.
 type Part = (&'static str, u32, &'static str);
 

@@ -185,11 +185,11 @@ module _ {S K : Type 0} (seen : S → SourceView) (shown : K → SinkView) (aske
     no_audit None none is = none_status old new f is
     no_audit (Some r) none is = cc
 
-    answers : (a : Option Request) → AuditCause a old new f → IfSome a (λ r. ¬ (Rose old.faults new.faults) →
+    decides : (a : Option Request) → AuditCause a old new f → IfSome a (λ r. ¬ (Rose old.faults new.faults) →
         ¬ (Rose before.faults after.faults) → (bytes : List ℕ) → old.left ≡ Some bytes
         → JudgesTo r.limits bytes o.status)
-    answers None is = tt
-    answers (Some r) is = λ well. λ heard. λ bytes. λ left.
+    decides None is = tt
+    decides (Some r) is = λ well. λ heard. λ bytes. λ left.
         judges_to old new r.limits o.status well bytes left f is
         (sym (all o.status refl (λ five. heard (rose five))).0)
 
@@ -220,7 +220,7 @@ module _ {S K : Type 0} (seen : S → SourceView) (shown : K → SinkView) (aske
           | inr is ↦ inr (inl is)
         ],
       );
-      answers = answers asked cause;
+      decides = decides asked cause;
       nothing = reports.kept;
     }
 

@@ -39,7 +39,7 @@ pub use Rattle.hd_model.specs.declared.data.Reply.{Reply}
 pub use Rattle.hd_model.specs.declared.data.RootId.{RootId}
 pub use Rattle.hd_model.specs.declared.limits.TheConstants.{BLOCKS, CALLERS, HEAP, LOAD_CALLERS, MOST_BYTES, MOST_ROUNDS}
 pub use Rattle.hd_run.specs.Bounds.{numbers_for}
-pub use Rattle.hd_run.specs.Claims.{Answers, AreBytesRefused, AsksForLoad, AsksToRead, HasLine, IsStatus, KeepsCount, KeepsRun, Promise, RefusesScript, RunsWhole, StopsForMemory, Together}
+pub use Rattle.hd_run.specs.Claims.{DecidesStatus, AreBytesRefused, AsksForLoad, AsksToRead, HasLine, IsStatus, KeepsCount, KeepsRun, Promise, RefusesScript, RunsWhole, StopsForMemory, Together}
 pub use Rattle.hd_run.specs.Ending.{Cause, CauseBy, FaultCause, IsLoadScript, IsProgram, Keeps, Lists, RanBy, ReadProgram, ReadWhole, RefusedBy, RunBy, RunCause, ScriptBy, StoppedAtBy, journal_in, kept_of, kept_that, numbers_by, run_ending, world_of, world_that}
 pub use Rattle.hd_run.specs.Modes.{form_by, form_of, lines_form, mode_of, runs_alone, traits_of}
 pub use Rattle.hd_run.specs.Report.{HasFewCallers, HasSumOf, IsWritable, Reports, Writes, fault_status, form_for, memory_text, ran_text, status_of, stopped_text, text_for, whole_text}

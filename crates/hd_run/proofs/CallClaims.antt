@@ -1,5 +1,5 @@
 -- What a call promises, from the cause of its ending and its report.
-use Rattle.hd_run.proofs.Basics.{Alone, Answers, AreBytesRefused, AsksForLoad, AsksToRead, BadLine, Bool, Cause, CauseBy, Cmd, Done, Ending, Entry, Fault, FaultCause, GaveCount, HasLine, IfSome, IsErr, IsFaultOfWords, IsProgram, IsStatus, KeepsCount, KeepsRun, Kept, Lines, List, Load, MOST_BYTES, Mode, NoMemory, None, Nothing, Ok, Option, Outcome, OverSize, Promise, ReadProgram, Refused, RefusedBy, RefusesScript, Reports, Request, RootId, Rose, RunsWhole, ScriptBy, Shared, SinkView, Some, SourceView, Stopped, StopsForMemory, Summary, Took, Unread, Usage, Worked, [], ap, append-nil, arith, false, fault_status, form_by, form_for, form_of, inl, inr, journal_in, kept_of, length, length-append, lit<, ran_text, refl, run_from_solo, status_of, stopped_text, subst, sym, text_for, traits_of, true, world_of, world_that, ℕ, ◌++◌, ◌∙◌, ◌≡◌, ◌≢◌, ◌≤◌, ◌⊎◌}
+use Rattle.hd_run.proofs.Basics.{Alone, DecidesStatus, AreBytesRefused, AsksForLoad, AsksToRead, BadLine, Bool, Cause, CauseBy, Cmd, Done, Ending, Entry, Fault, FaultCause, GaveCount, HasLine, IfSome, IsErr, IsFaultOfWords, IsProgram, IsStatus, KeepsCount, KeepsRun, Kept, Lines, List, Load, MOST_BYTES, Mode, NoMemory, None, Nothing, Ok, Option, Outcome, OverSize, Promise, ReadProgram, Refused, RefusedBy, RefusesScript, Reports, Request, RootId, Rose, RunsWhole, ScriptBy, Shared, SinkView, Some, SourceView, Stopped, StopsForMemory, Summary, Took, Unread, Usage, Worked, [], ap, append-nil, arith, false, fault_status, form_by, form_for, form_of, inl, inr, journal_in, kept_of, length, length-append, lit<, ran_text, refl, run_from_solo, status_of, stopped_text, subst, sym, text_for, traits_of, true, world_of, world_that, ℕ, ◌++◌, ◌∙◌, ◌≡◌, ◌≢◌, ◌≤◌, ◌⊎◌}
 use Rattle.std.specs.Io.KnownBytes.{Consumes, IsAtEnd}
 use Rattle.hd_model.specs.Grammar.{script_of}
 use Rattle.hd_model.proofs.RunCounts.{handles_are_made_less_freed}
@@ -139,19 +139,21 @@ module _ (old new : SourceView) where
 
   module _ (status : ℕ) (unfailed : ¬ (Rose old.faults new.faults)) (bytes : List ℕ)
       (left : old.left ≡ Some bytes) where
-    refused_answers : (f : Fault) → FaultCause old new f → status ≡ fault_status f → Answers bytes status
-    refused_answers Usage cause is ne = absurd cause
-    refused_answers Unread cause is ne = absurd (unfailed (unread_rose cause))
-    refused_answers OverSize cause is ne =
+    refused_decides : (f : Fault) → FaultCause old new f → status ≡ fault_status f
+        → DecidesStatus bytes status
+    refused_decides Usage cause is ne = absurd cause
+    refused_decides Unread cause is ne = absurd (unfailed (unread_rose cause))
+    refused_decides OverSize cause is ne =
         let few = among old.left new.left bytes cause.bytes left cause.gave.consumed in
         inl (is, inl (omega (arith, few, cause.count)))
-    refused_answers (BadLine k) (read, whole, fault) is ne =
+    refused_decides (BadLine k) (read, whole, fault) is ne =
         let same = all_of old.left new.left bytes read left whole.all.gave.consumed whole.all.end in
         inl (is, inr (subst (λ v. IsErr (script_of v)) same (subst IsErr (sym fault) refl)))
-    refused_answers NoMemory cause is ne = absurd (ne is)
+    refused_decides NoMemory cause is ne = absurd (ne is)
 
-    whole_answers : (lists : List (List Cmd)) → ReadProgram old new lists → status ≡ 0 → Answers bytes status
-    whole_answers lists read is ne =
+    whole_decides : (lists : List (List Cmd)) → ReadProgram old new lists → status ≡ 0
+        → DecidesStatus bytes status
+    whole_decides lists read is ne =
         let whole = read.read in
         let same = all_of old.left new.left bytes read.bytes left whole.all.gave.consumed whole.all.end in
         inr (
@@ -159,14 +161,14 @@ module _ (old new : SourceView) where
           subst (λ v. ¬ (AreBytesRefused v)) same (not_refused lists read.bytes whole.within read.program),
         )
 
-    answers_of : (asked : Option Request) (e : Ending) → AsksToRead asked → Cause asked old new e →
-        status ≡ status_of e → Answers bytes status
-    answers_of None e reads cause is = absurd reads
-    answers_of (Some r) (Refused f) reads cause is =
-        refused_answers f (subst (λ b. RefusedBy b old new f) reads cause) is
-    answers_of (Some r) (Stopped run) reads cause is = λ ne. absurd (ne is)
-    answers_of (Some r) (Done run roots) reads (lists, script, all) is =
-        whole_answers lists (subst (λ b. ScriptBy b r old new lists) reads script) is
+    decides_of : (asked : Option Request) (e : Ending) → AsksToRead asked → Cause asked old new e →
+        status ≡ status_of e → DecidesStatus bytes status
+    decides_of None e reads cause is = absurd reads
+    decides_of (Some r) (Refused f) reads cause is =
+        refused_decides f (subst (λ b. RefusedBy b old new f) reads cause) is
+    decides_of (Some r) (Stopped run) reads cause is = λ ne. absurd (ne is)
+    decides_of (Some r) (Done run roots) reads (lists, script, all) is =
+        whole_decides lists (subst (λ b. ScriptBy b r old new lists) reads script) is
 
   -- a load is done, or memory ran out
   load_status : (asked : Option Request) (e : Ending) → AsksForLoad asked → Cause asked old new e →
@@ -333,8 +335,8 @@ module _ {S K : Type 0} (seen : S → SourceView) (shown : K → SinkView) (sour
             | inl done ↦ inl (sym is ∙ done)
             | inr memory ↦ inr (sym is ∙ memory)
           ];
-      answers = λ reads. λ well. λ heard. λ bytes. λ left.
-          answers_of old new o.status well bytes left asked e reads cause
+      decides = λ reads. λ well. λ heard. λ bytes. λ left.
+          decides_of old new o.status well bytes left asked e reads cause
           (sym (all o.status refl (λ five. heard (rose five))).0);
       journal = run_kept;
       handles = kept_handles o.kept run_kept;

@@ -27,8 +27,8 @@ module _ (c : Command) (app : app_of c ≡ program) (words : List (String Global
   AreMatches taken = IfOk taken (HasMatchesOf (app_of c) (map string_bytes words))
 
   -- what is returned is what the matches ask for, or the refusal of an error
-  abbrev Answers : Result ArgMatches Error → Result Request Fault → Type 0
-  Answers taken answer = IfOk taken (λ m. answer ≡ request_or_usage (asked_by (rows_of (found_of m))))
+  abbrev IsRequestOf : Result ArgMatches Error → Result Request Fault → Type 0
+  IsRequestOf taken answer = IfOk taken (λ m. answer ≡ request_or_usage (asked_by (rows_of (found_of m))))
       × IfErr taken (λ e. IsErrAnd answer (IsRefusal (kind_of e)))
 
   is_free : is_simple_and_free (app_of c) ≡ true
@@ -48,7 +48,7 @@ module _ (c : Command) (app : app_of c ≡ program) (words : List (String Global
       ((matches (ap is_simple app ∙ simple)).0 ∙ ap (λ (a : App). matches_of a (map string_bytes words)) app)
 
   pub value : (taken : Result ArgMatches Error) (answer : Result Request Fault) → AreKinds taken
-      → AreMatches taken → Answers taken answer → IfOk answer (λ r. Some r ≡ request_of words)
+      → AreMatches taken → IsRequestOf taken answer → IfOk answer (λ r. Some r ≡ request_of words)
   value (Ok m) answer kinds matches says =
       subst (λ (r : Result Request Fault). IfOk r (λ q. Some q ≡ request_of words)) (sym says.0)
       (subst (λ (asked : Option Request). IfOk (request_or_usage asked) (λ q. Some q ≡ request_of words))
@@ -57,7 +57,7 @@ module _ (c : Command) (app : app_of c ≡ program) (words : List (String Global
   value (Err e) (Err f) kinds matches says = tt
 
   pub fault : (taken : Result ArgMatches Error) (answer : Result Request Fault) → AreKinds taken
-      → AreMatches taken → Answers taken answer → IfErr answer (IsFaultOfWords (request_of words))
+      → AreMatches taken → IsRequestOf taken answer → IfErr answer (IsFaultOfWords (request_of words))
   fault (Ok m) answer kinds matches says =
       subst (λ (r : Result Request Fault). IfErr r (IsFaultOfWords (request_of words))) (sym says.0)
       (subst (λ (asked : Option Request). IfErr (request_or_usage asked) (IsFaultOfWords (request_of words)))

@@ -69,7 +69,7 @@ pub record AuditPromise {S K : Type 0} (seen : S → SourceView) (shown : K → 
   pub words : asked ≡ None →
       (source.1 ≡ source.0) × ((o.status ≡ 2) ⊎ (o.status ≡ 5) ⊎ (o.status ≡ 6))
   -- of valid words, where nothing failed and the source states its bytes
-  pub answers : IfSome asked (λ r. ¬ (Rose (seen source.0).faults (seen source.1).faults) →
+  pub decides : IfSome asked (λ r. ¬ (Rose (seen source.0).faults (seen source.1).faults) →
       ¬ (Rose (shown sink.0).faults (shown sink.1).faults) →
       (bytes : List ℕ) → (seen source.0).left ≡ Some bytes → JudgesTo r.limits bytes o.status)
   -- whatever the status, nothing is kept

@@ -62,8 +62,8 @@ abbrev pub AreBytesRefused : List ℕ → Type 0
 AreBytesRefused bytes = (MOST_BYTES < length bytes) ⊎ IsNoProgram bytes
 
 -- of bytes that were left the status is 3 where they are refused, and else 0, unless memory ran out
-abbrev pub Answers : List ℕ → ℕ → Type 0
-Answers bytes status =
+abbrev pub DecidesStatus : List ℕ → ℕ → Type 0
+DecidesStatus bytes status =
     status ≢ 6 → ((status ≡ 3) × AreBytesRefused bytes) ⊎ ((status ≡ 0) × ¬ (AreBytesRefused bytes))
 
 -- what is kept has a journal that is a run, and of callers in turn where one thread ran it
@@ -118,10 +118,10 @@ pub record Promise {S K : Type 0} (seen : S → SourceView) (shown : K → SinkV
   pub goes_on : AsksForLoad asked → ¬ (Rose (shown sink.0).faults (shown sink.1).faults) →
       (o.status ≡ 0) ⊎ (o.status ≡ 6)
   -- of valid words for a mode that reads, where nothing failed and the source states its bytes
-  pub answers : AsksToRead asked →
+  pub decides : AsksToRead asked →
       ¬ (Rose (seen source.0).faults (seen source.1).faults) →
       ¬ (Rose (shown sink.0).faults (shown sink.1).faults) →
-      (bytes : List ℕ) → (seen source.0).left ≡ Some bytes → Answers bytes o.status
+      (bytes : List ℕ) → (seen source.0).left ≡ Some bytes → DecidesStatus bytes o.status
   -- whatever the status: the journal of what is kept is a run, and its live handles are those that were made,
   -- less those that were freed
   pub journal : KeepsRun o.kept

@@ -2,7 +2,7 @@
 use Rattle.hd_seg.proofs.Basics.{Addr, All, All-set, AllPairs, Block, BlockUse, Contains, Global, Handle, HasUnused, IsBlocks, IsLinked, IsListed, IsSome, IsTable, Kind, List, None, Option, Some, Uses, Vec, [], ap, arith, block_at, block_kind_of, cases_eq, chain_of, extra_data, extras_at, few_kinds, get, get-empty, get_or, get_or-map, get_or-set_other, get_or-set_same, get_or_at, get_or_default, get_or_from_slice_get, get_or_read, handles_of, has_handles, inl, inr, is_some, kind_at, kind_in, kind_number, len, len-empty, length, length-append, length-map, length-set, map, map-set, mapped, nat_cmp, option_copied, refl, same_number, set, slice_get, slice_get-get_or, slice_get_past, slice_get_read, slice_get_within, subst, suc, sum_by-set, sym, true, true≢false, use_at, use_of, uses_in, vec_capacity, ℕ, ◌++◌, ◌+◌, ◌<◌, ◌∙◌, ◌∷◌, ◌≡◌, ◌≢◌, ◌≤◌}
 use Rattle.std.specs.{Borrow.Bor, Slice.IsItemAt}
 use Rattle.hd_seg.specs.declared.row.BlockKind.{BlockKind}
-use Rattle.hd_seg.proofs.FunctionMaps.{get-mapped, within, len-mapped_le, unanswered}
+use Rattle.hd_seg.proofs.FunctionMaps.{get-mapped, within, len-mapped_le, unmapped}
 use Rattle.hd_seg.specs.declared.row.BlockKind.TheVariants as block
 
 -- nothing is not something
@@ -168,7 +168,7 @@ module _ {number given : ℕ} {table : List Block} {chains : List (List ℕ)}
   pub one_left : len (mapped 1 number (use_at table)) < number → HasUnused table 1
   one_left few =
       let found : (q : ℕ) × ((1 ≤ q) × ((q < 1 + number) × (use_at table q ≡ None))) =
-      unanswered 1 number (use_at table) few in
+      unmapped 1 number (use_at table) few in
       record {
         number = found.0;
         low = found.1.0;

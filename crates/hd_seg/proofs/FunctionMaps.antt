@@ -152,11 +152,11 @@ len-mapped_le first (suc n) f =
     omega (arith, len-mapped first n f, at_most_one (is_some (f first)), len-mapped_le (first + 1) n f)
 
 -- where there are fewer, a key has no value
-pub unanswered : {A : Type 0} (first n : ℕ) (f : ℕ → Option A) → len (mapped first n f) < n
+pub unmapped : {A : Type 0} (first n : ℕ) (f : ℕ → Option A) → len (mapped first n f) < n
     → (q : ℕ) × ((first ≤ q) × ((q < first + n) × (f q ≡ None)))
-unanswered first zero f few = absurd (omega arith)
-unanswered {A} first (suc n) f few =
-    here (f first) refl (λ one. unanswered (first + 1) n f (omega (arith, len-mapped first n f, one)))
+unmapped first zero f few = absurd (omega arith)
+unmapped {A} first (suc n) f few =
+    here (f first) refl (λ one. unmapped (first + 1) n f (omega (arith, len-mapped first n f, one)))
   where
     here : (o : Option A) → f first ≡ o
         → (◌≡◌ {A = ℕ} (cond (is_some (f first)) 1 0) 1

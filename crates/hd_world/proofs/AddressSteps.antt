@@ -1,7 +1,7 @@
 -- What each command does with the pinned addresses.
-use Rattle.hd_world.proofs.StoreWords.{Addr, AnswersPlace, Bool, Cmd, CollectedSteps, Done, Entry, Err, FinMap, GrowsFor, Handle, HasCollected, HasNames, HasPlace, HasRun, Id, IsOffer, IsOutcome, IsPlainStep, IsValid, KeepsNames, KeepsPlaces, LeavesHeap, Machine, MayAnswer, MayOffer, MayRun, Moves, None, Ok, Option, Outcome, Refusal, Reply, Report, Result, Slot, Some, State, Step, StepOf, TakesSteps, Zero, aged_by, answer_place, answers, ap, asks_of, class_of, cond, done_of, empty, entry_of, false, get, get_inserted, handle_at, handle_register_of, if◌then◌else◌, insert, is_collect, kept_places, key_register, name_in, nat_cmp, no_room, nothing_at, option_and_then, option_map_or, pinned_by, pinned_in, pinned_target, pins, refl, refuses, register_of, same_Some, subst, sym, touched_by, true, true≢false, with_place, with_places, ℕ, ◌<◌, ◌∙◌, ◌≡◌, ◌≤◌}
+use Rattle.hd_world.proofs.StoreWords.{Addr, RepliesPlace, Bool, Cmd, CollectedSteps, Done, Entry, Err, FinMap, GrowsFor, Handle, HasCollected, HasNames, HasPlace, HasRun, Id, IsOffer, IsOutcome, IsPlainStep, IsValid, KeepsNames, KeepsPlaces, LeavesHeap, Machine, MayReturn, MayOffer, MayRun, Moves, None, Ok, Option, Outcome, Refusal, Reply, Report, Result, Slot, Some, State, Step, StepOf, TakesSteps, Zero, aged_by, reply_place, reply_with, ap, asks_of, class_of, cond, done_of, empty, entry_of, false, get, get_inserted, handle_at, handle_register_of, if◌then◌else◌, insert, is_collect, kept_places, key_register, name_in, nat_cmp, no_room, nothing_at, option_and_then, option_map_or, pinned_by, pinned_in, pinned_target, pins, refl, refuses, register_of, same_Some, subst, sym, touched_by, true, true≢false, with_place, with_places, ℕ, ◌<◌, ◌∙◌, ◌≡◌, ◌≤◌}
 use Rattle.hd_model.specs.Aging.{is_refused}
-use Rattle.hd_model.specs.Command.{answer_root}
+use Rattle.hd_model.specs.Command.{reply_root}
 use Rattle.hd_model.specs.Anchors.{ReturnsRoot}
 use Rattle.hd_model.proofs.{OutcomePlaces.step_placed, Journals.ages_placed}
 use Rattle.hd_world.specs.declared.done.CallerCommand.{CallerCommand}
@@ -82,9 +82,9 @@ names-kept true old new has a x is = has a x is
 names-kept false old new same a x is = ap (λ names. get names a) same ∙ is
 
 -- `addr`: what the handle pins decides the reply and the state
-abbrev answered : State → Result Id Refusal → ℕ → Outcome
-answered s (Ok id) place = answers (reply.Place place) (with_place s id place)
-answered s (Err refused) place = refuses refused s
+abbrev returned : State → Result Id Refusal → ℕ → Outcome
+returned s (Ok id) place = reply_with (reply.Place place) (with_place s id place)
+returned s (Err refused) place = refuses refused s
 
 abbrev target_of : Result Id Refusal → Option Id
 target_of (Ok id) = Some id
@@ -93,11 +93,11 @@ target_of (Err refused) = None
 module _ (s : State) where
   -- what is pinned, as a result, an option and an outcome
   abbrev Agree : Result Id Refusal → Option Id → (ℕ → Outcome) → Type 0
-  Agree r target answer = (target ≡ target_of r) × ((place : ℕ) → answer place ≡ answered s r place)
+  Agree r target answer = (target ≡ target_of r) × ((place : ℕ) → answer place ≡ returned s r place)
 
   agree_at : (b : Bool) (t : Option Id)
       → Agree (if b then option_map_or Ok t (Err refusal.Null) else Err refusal.WrongKind) (cond b t None)
-      (λ place. if b then option_map_or (λ id. answers (reply.Place place) (with_place s id place)) t
+      (λ place. if b then option_map_or (λ id. reply_with (reply.Place place) (with_place s id place)) t
       (refuses refusal.Null s) else refuses refusal.WrongKind s)
   agree_at true None = (refl, λ place. refl)
   agree_at true (Some id) = (refl, λ place. refl)
@@ -107,12 +107,12 @@ module _ (s : State) where
       → Agree (option_map_or (λ handle. if pins handle then option_map_or Ok handle.target (Err refusal.Null)
       else Err refusal.WrongKind) o (Err refusal.NotLive)) (pinned_by o)
       (λ place. option_map_or (λ handle. if pins handle then option_map_or
-      (λ id. answers (reply.Place place) (with_place s id place)) handle.target (refuses refusal.Null s)
+      (λ id. reply_with (reply.Place place) (with_place s id place)) handle.target (refuses refusal.Null s)
       else refuses refusal.WrongKind s) o (refuses refusal.NotLive s))
   agree_by None = (refl, λ place. refl)
   agree_by (Some handle) = agree_at (pins handle) handle.target
 
-  agree : (caller h : ℕ) → Agree (pinned_in s caller h) (pinned_target s caller h) (answer_place s caller h)
+  agree : (caller h : ℕ) → Agree (pinned_in s caller h) (pinned_target s caller h) (reply_place s caller h)
   agree caller h = by (handle_register_of s caller h)
     where
       by : (o : Option Slot)
@@ -121,35 +121,36 @@ module _ (s : State) where
           (Err refusal.NotLive))
           o (Err refusal.EmptyRegister)) (option_and_then (λ slot. pinned_by (handle_at s slot)) o)
           (λ place. option_map_or (λ slot. option_map_or (λ handle. if pins handle then option_map_or
-          (λ id. answers (reply.Place place) (with_place s id place)) handle.target (refuses refusal.Null s)
+          (λ id. reply_with (reply.Place place) (with_place s id place)) handle.target
+          (refuses refusal.Null s)
           else refuses refusal.WrongKind s) (handle_at s slot) (refuses refusal.NotLive s)) o
           (refuses refusal.EmptyRegister s))
       by None = (refl, λ place. refl)
       by (Some slot) = agree_by (handle_at s slot)
 
   -- the address of what is pinned is returned
-  pinned_answer : (caller h : ℕ) (x : Id) → pinned_target s caller h ≡ Some x → (place : ℕ)
-      → answer_place s caller h place ≡ answers (reply.Place place) (with_place s x place)
-  pinned_answer caller h x is place = by (pinned_in s caller h) (agree caller h)
+  pinned_reply : (caller h : ℕ) (x : Id) → pinned_target s caller h ≡ Some x → (place : ℕ)
+      → reply_place s caller h place ≡ reply_with (reply.Place place) (with_place s x place)
+  pinned_reply caller h x is place = by (pinned_in s caller h) (agree caller h)
     where
-      by : (r : Result Id Refusal) → Agree r (pinned_target s caller h) (answer_place s caller h)
-          → answer_place s caller h place ≡ answers (reply.Place place) (with_place s x place)
-      by (Ok id) a = a.1 place ∙ ap (λ i. answers (reply.Place place) (with_place s i place))
+      by : (r : Result Id Refusal) → Agree r (pinned_target s caller h) (reply_place s caller h)
+          → reply_place s caller h place ≡ reply_with (reply.Place place) (with_place s x place)
+      by (Ok id) a = a.1 place ∙ ap (λ i. reply_with (reply.Place place) (with_place s i place))
           (same_Some id x (sym a.0 ∙ is))
       by (Err refused) a = absurd (no_some x (sym is ∙ a.0))
 
 module _ (m : Machine) (caller h : ℕ) (known : caller < m.numbers.callers) (low : h < 16) where
-  came_to : {w : Outcome} {after : State} (answer : Reply) → answers answer after ≡ w
+  came_to : {w : Outcome} {after : State} (answer : Reply) → reply_with answer after ≡ w
       → IsOutcome (entry_with caller (cmd.AddrOf h) answer) w after
   came_to {w} {after} answer is = subst (λ o. IsOutcome (entry_with caller (cmd.AddrOf h) answer) o after) is
       (record { reply = refl; slot = refl; grown = refl; after = refl })
 
-  pub addr-answers : (at : Addr) → HasPlace m at → Ok (name_in m.names at) ≡ pinned_in m.state caller h
+  pub addr-replies : (at : Addr) → HasPlace m at → Ok (name_in m.names at) ≡ pinned_in m.state caller h
       → KeepsPlaces m (entry_with caller (cmd.AddrOf h) (reply.Place at.0)) m
-  addr-answers at has is p are =
+  addr-replies at has is p are =
       let id = name_in m.names at in
       let pinned = subst (λ r. Agree (with_places m.state p) r (pinned_target m.state caller h)
-      (answer_place (with_places m.state p) caller h)) (sym is) (agree (with_places m.state p) caller h) in
+      (reply_place (with_places m.state p) caller h)) (sym is) (agree (with_places m.state p) caller h) in
       record {
         places = insert p id.0 at.0;
         step = record {
@@ -157,7 +158,7 @@ module _ (m : Machine) (caller h : ℕ) (known : caller < m.numbers.callers) (lo
           valid = low;
           does = record {
             place = at.0;
-            may = λ x same. subst (λ y. MayAnswer (with_places m.state p) y at.0)
+            may = λ x same. subst (λ y. MayReturn (with_places m.state p) y at.0)
                 (same_Some id x (sym pinned.0 ∙ same)) (has.may p are);
             outcome = came_to (reply.Place at.0) (sym (pinned.1 at.0));
           };
@@ -173,7 +174,7 @@ module _ (m : Machine) (caller h : ℕ) (known : caller < m.numbers.callers) (lo
       → KeepsPlaces m (entry_with caller (cmd.AddrOf h) (reply.Refused refused)) m
   addr-refused refused is p are =
       let none = subst (λ r. Agree (with_places m.state p) r (pinned_target m.state caller h)
-      (answer_place (with_places m.state p) caller h)) (sym is) (agree (with_places m.state p) caller h) in
+      (reply_place (with_places m.state p) caller h)) (sym is) (agree (with_places m.state p) caller h) in
       record {
         places = p;
         step = record {
@@ -241,13 +242,13 @@ module _ (m k : Machine) (e : Entry) (keeps : KeepsPlaces m e k) (h place : ℕ)
   moved : Moves m e k empty
   moved = keeps empty (λ y b is. absurd (nothing_at y b is))
 
-  does : AnswersPlace (with_places m.state empty) e (with_places k.state moved.places) h
+  does : RepliesPlace (with_places m.state empty) e (with_places k.state moved.places) h
   does = subst (StepOf m.numbers (with_places m.state empty) e (with_places k.state moved.places)) same
       moved.step.does
 
-  outcome_is : answer_place (with_places m.state empty) e.caller h does.place
-      ≡ answers (reply.Place does.place) (with_place (with_places m.state empty) x does.place)
-  outcome_is = pinned_answer (with_places m.state empty) e.caller h x pinned does.place
+  outcome_is : reply_place (with_places m.state empty) e.caller h does.place
+      ≡ reply_with (reply.Place does.place) (with_place (with_places m.state empty) x does.place)
+  outcome_is = pinned_reply (with_places m.state empty) e.caller h x pinned does.place
 
   abbrev place_in : Reply → ℕ
   place_in (reply.Place p) = p
@@ -302,7 +303,7 @@ module _ (m : Machine) (caller r : ℕ) where
 
   root_step : (found : Reply) (done : Done)
       → ((goal : Id) → register_of m.state caller r ≡ Some goal → ReturnsRoot m.state goal found)
-      → IsOutcome (asking done) (answer_root m.state caller r found) m.state
+      → IsOutcome (asking done) (reply_root m.state caller r found) m.state
       → IsPlainStep m (cmd.GcRoot r) m (asking done)
   root_step found done is_root outcome = record {
     plain = refl;
@@ -312,9 +313,9 @@ module _ (m : Machine) (caller r : ℕ) where
     ages = ages_stay (is_refused done.reply);
   }
 
-  root_outcome : (found : Reply) (w : Outcome) → answer_root m.state caller r found ≡ w → w.after ≡ m.state
+  root_outcome : (found : Reply) (w : Outcome) → reply_root m.state caller r found ≡ w → w.after ≡ m.state
       → (done : Done) → done ≡ record { reply = w.reply; slot = w.slot; grown = Zero }
-      → IsOutcome (asking done) (answer_root m.state caller r found) m.state
+      → IsOutcome (asking done) (reply_root m.state caller r found) m.state
   root_outcome found w is same done of = record {
     reply = ap (λ (d : Done). d.reply) of ∙ ap (λ (o : Outcome). o.reply) (sym is);
     slot = ap (λ (d : Done). d.slot) of ∙ ap (λ (o : Outcome). o.slot) (sym is);
@@ -322,8 +323,8 @@ module _ (m : Machine) (caller r : ℕ) where
     after = sym same ∙ ap (λ (o : Outcome). o.after) (sym is);
   }
 
-  abbrev answer_by : Reply → Option Id → Outcome
-  answer_by found o = option_map_or (λ _. answers found m.state) o (refuses refusal.Null m.state)
+  abbrev reply_by : Reply → Option Id → Outcome
+  reply_by found o = option_map_or (λ _. reply_with found m.state) o (refuses refusal.Null m.state)
 
   pub root-returned : (goal : Id) → register_of m.state caller r ≡ Some goal → (found : Reply)
       → ReturnsRoot m.state goal found → (done : Done)
@@ -332,13 +333,13 @@ module _ (m : Machine) (caller r : ℕ) where
   root-returned goal is found is_root done of =
       root_step found done
       (λ x same. subst (λ y. ReturnsRoot m.state y found) (same_Some goal x (sym is ∙ same)) is_root)
-      (root_outcome found (answers found m.state) (ap (answer_by found) is) refl done of)
+      (root_outcome found (reply_with found m.state) (ap (reply_by found) is) refl done of)
 
   pub root-refused : register_of m.state caller r ≡ None → (refused : Refusal) → refused ≡ refusal.Null
       → IsPlainStep m (cmd.GcRoot r) m (asking (done_of (Err refused)))
   root-refused none refused is =
       root_step reply.Unrooted (done_of (Err refused)) (λ x same. absurd (no_some x (sym same ∙ none)))
-      (root_outcome reply.Unrooted (refuses refusal.Null m.state) (ap (answer_by reply.Unrooted) none) refl
+      (root_outcome reply.Unrooted (refuses refusal.Null m.state) (ap (reply_by reply.Unrooted) none) refl
       (done_of (Err refused)) (ap (λ (q : Refusal). done_of (Err q)) is))
 
 -- so was a search of the weak table

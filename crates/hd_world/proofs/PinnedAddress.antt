@@ -1,5 +1,5 @@
 -- The address of an object may be returned as its pinned address.
-use Rattle.hd_world.proofs.StoreWords.{Addr, AreAddresses, FinMap, HasPlace, Id, IsFreePlace, IsSome, IsStored, Machine, MatchOption, MayAnswer, Meet, None, Option, Parts, Placed, Some, ap, arith, cases_eq, cells_of, get, get_beside, get_inserted, has_object, inl, inr, insert, is_some, machine_of, name_in, names_of, nat_cmp, object_by_id, object_named, placed_at, range_at, refl, region_of, same_Some, size_of, state_of, subst, sym, true, with_places, ℕ, ◌<◌, ◌^◌, ◌∙◌, ◌≡◌}
+use Rattle.hd_world.proofs.StoreWords.{Addr, AreAddresses, FinMap, HasPlace, Id, IsFreePlace, IsSome, IsStored, Machine, MatchOption, MayReturn, Meet, None, Option, Parts, Placed, Some, ap, arith, cases_eq, cells_of, get, get_beside, get_inserted, has_object, inl, inr, insert, is_some, machine_of, name_in, names_of, nat_cmp, object_by_id, object_named, placed_at, range_at, refl, region_of, same_Some, size_of, state_of, subst, sym, true, with_places, ℕ, ◌<◌, ◌^◌, ◌∙◌, ◌≡◌}
 use Rattle.hd_heap.specs.Sound.{IsSound}
 use Rattle.hd_model.proofs.SceneCollection.{mapped_value}
 use Rattle.hd_world.proofs.{IdentityReadings.no_some, IdentityReadings.names-get, NamedAddresses.object-named, NamedAddresses.known_object, StateCounts.read-size}
@@ -82,8 +82,8 @@ module _ (f : Parts) (stored : IsStored f) (sound : IsSound f.heap) where
             (range_at other (object_by_id (state_of f) i))) (sym mine) meet);
       }
 
-      may_answer : MayAnswer (with_places (state_of f) p) (name_in (names_of f.heap) at) at.0
-      may_answer = by (get p (name_in (names_of f.heap) at).0) refl
+      may_return : MayReturn (with_places (state_of f) p) (name_in (names_of f.heap) at) at.0
+      may_return = by (get p (name_in (names_of f.heap) at).0) refl
         where
           by : (o : Option ℕ) → get p (name_in (names_of f.heap) at).0 ≡ o
               → MatchOption o (IsFreePlace (with_places (state_of f) p) (name_in (names_of f.heap) at) at.0)
@@ -107,7 +107,7 @@ pub has-place : (f : Parts) (m : Machine) → machine_of f ≡ m → IsStored f 
     → IsSome (get m.names at.0) → HasPlace m at
 has-place f m view stored sound at known =
     subst (λ (n : Machine). HasPlace n at) view (record {
-      may = λ p are. may_answer f stored sound at
+      may = λ p are. may_return f stored sound at
           (subst (λ (n : Machine). IsSome (get n.names at.0)) (sym view) known) p are;
       addresses = λ p are. addresses_with f stored sound at
           (subst (λ (n : Machine). IsSome (get n.names at.0)) (sym view) known) p are;

@@ -1,6 +1,6 @@
 -- The state of a store is that of its heap, and what keeps its pinned address is kept at it.
 use Rattle.hd_world.proofs.StoreWords.{AreAddresses, Cmd, Entry, FinMap, Id, IsFreePlace, IsOfHeap, IsOverHeap, IsPinned, IsStored, IsStoredAt, KeepsPlaces, Machine, MatchOption, None, Numbers, Parts, Some, State, ap, cases_eq, cond, empty, false, get, get_beside, get_inserted, inl, inr, insert, is_collect, is_pinned, machine_of, names_of, nat_cmp, nothing_at, objects_by_id, pinned_decides, pinned_target, refl, rows_by_id, same_Some, subst, sym, true, true≢false, weak_by_id, with_places, ℕ, ◌∙◌, ◌≡◌, ◌⊎◌}
-use Rattle.hd_model.proofs.Effects.{Effect, answers_place, collects, effect}
+use Rattle.hd_model.proofs.Effects.{Effect, replies_place, collects, effect}
 use Rattle.hd_world.proofs.{IdentityReadings.names-get, AddressSteps.returns-address}
 use Rattle.hd_model.specs.declared.data.Reply.TheVariants as reply
 use Rattle.hd_model.specs.declared.command.Cmd.TheVariants as cmd
@@ -39,7 +39,7 @@ module _ (n : Numbers) (s : State) (e : Entry) (x a : ℕ) where
   place_stays c t (collects did) is (inl not) = absurd (true≢false not)
   place_stays c t (collects did) is (inr pinned) =
       did.collects.places x ∙ ap (λ b. cond b (get s.places x) None) pinned ∙ is
-  place_stays c t (answers_place slot handle id place found target may reply) is why =
+  place_stays c t (replies_place slot handle id place found target may reply) is why =
       elim (cases_eq x id.0) [
         | inl same ↦ ap (get (insert s.places id.0 place)) same ∙ get_inserted s.places id.0 place ∙ ap Some
             (subst (λ o. MatchOption o (IsFreePlace s id place) (λ own. place ≡ own))

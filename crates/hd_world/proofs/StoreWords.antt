@@ -34,17 +34,17 @@ pub use Rattle.hd_model.specs.Ages.{HasSoundCards, age_of, clump_of, clumps_of, 
 pub use Rattle.hd_model.specs.Aging.{AgedRun, aged_by, lowered_at, lowered_by_new, lowered_to}
 pub use Rattle.hd_model.specs.Class.{class_of}
 pub use Rattle.hd_model.specs.Collect.{Collects, CollectsState, cleared, is_lost, swept}
-pub use Rattle.hd_model.specs.Command.{Outcome, answer_place, answers, entry_value, fresh_object, idle_slot, is_idle, refuses, slot_of_key, value_at}
+pub use Rattle.hd_model.specs.Command.{Outcome, reply_place, reply_with, entry_value, fresh_object, idle_slot, is_idle, refuses, slot_of_key, value_at}
 pub use Rattle.hd_model.specs.Heap.{HasIdentities, Heap, Placed, Region, card_of, cells_of, has_object, id_at, id_in, is_carded, is_in_use, object_at, object_in, placed_at, region_at, region_generation, used_of}
 pub use Rattle.hd_model.specs.Kinds.{is_kind, is_paired, kind_number, kind_of, secondary_register}
-pub use Rattle.hd_model.specs.Places.{IsFreePlace, MayAnswer, Meet, is_pinned, range_at, with_places}
+pub use Rattle.hd_model.specs.Places.{IsFreePlace, MayReturn, Meet, is_pinned, range_at, with_places}
 pub use Rattle.hd_model.specs.Reach.{IsPinned}
 pub use Rattle.hd_model.specs.Role.{Role, attaches, holds, long, pins, role, role_of, short}
 pub use Rattle.hd_model.specs.RootText.{held_by, held_of, root_id, root_in, roots_in, roots_of}
 pub use Rattle.hd_model.specs.Run.{Run, stay}
 pub use Rattle.hd_model.specs.Scene.{IsField, IsReading, Scene, fields_at, fields_in, generation_at, generation_in, is_object, joined, scene_of}
 pub use Rattle.hd_model.specs.State.{BlockUse, Extra, Handle, IsFree, Numbers, Object, State, WeakEntry, block_of, count, count_of, extra_data, field_of, first_slot, given_of, handle_at, handle_register_of, handles_of, identity_of, last_serial, nothing, object_by_id, register_of, rename_extra, rename_handle, rename_object, row_of, secondary, secondary_of, size_of, start_of, static_of, strength, total_size, use_of, weak_handle, with_handle, with_object, with_place, with_queue, with_register, with_serial, with_static, with_weak, without_handle, without_use}
-pub use Rattle.hd_model.specs.Step.{AnswersPlace, IsLeastUnused, IsOutcome, Step, StepOf, blocks_needed, pinned_by, pinned_target, with_growth}
+pub use Rattle.hd_model.specs.Step.{RepliesPlace, IsLeastUnused, IsOutcome, Step, StepOf, blocks_needed, pinned_by, pinned_target, with_growth}
 pub use Rattle.hd_model.specs.Table.{IsGrowth, IsTable, Queue, Table, chain_of, empty_table, fits, fits_in, grown_by, is_secondary, is_single, kind_at, kind_in, live_at, row_at, with_row, without_block, without_row}
 pub use Rattle.hd_model.specs.Text.{collections_of, is_collect}
 pub use Rattle.hd_model.specs.Touched.{touched_by}

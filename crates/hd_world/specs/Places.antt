@@ -3,7 +3,7 @@ use Rattle.std.specs.Prelude.{◌≡◌, ◌↔◌, ℕ, Bool, true, false, Some
 use Rattle.std.specs.FinMap.{FinMap, get, insert, retain_keys}
 use Rattle.std.specs.Ordering.{nat_cmp}
 use Rattle.hd_model.specs.{declared.data.Id.Id, declared.data.Addr.Addr, declared.data.Entry.Entry, declared.data.Report.Report, State.State, Step.Step, Aging.aged_by, Ages.grown, Collect.CollectsState, Heap.is_set}
-use Rattle.hd_model.specs.Places.{is_pinned, with_places, MayAnswer}
+use Rattle.hd_model.specs.Places.{is_pinned, with_places, MayReturn}
 use Rattle.hd_plan.specs.Commit.{NeedsCard}
 use Rattle.hd_world.specs.{Reading.name_in, Store.Machine, StateHeap.IsCompactStore, StateHeap.LeavesHeap}
 
@@ -59,7 +59,7 @@ pub record HasCollected (old new : Machine) (n : ℕ) (report : Report) : Type 0
 pub record HasPlace (m : Machine) (at : Addr) : Type 0 where
   pub may :
       (before : FinMap nat_cmp ℕ) → AreAddresses m.names before
-      → MayAnswer (with_places m.state before) (name_in m.names at) at.0
+      → MayReturn (with_places m.state before) (name_in m.names at) at.0
   pub addresses :
       (before : FinMap nat_cmp ℕ) → AreAddresses m.names before
       → AreAddresses m.names (insert before (name_in m.names at).0 at.0)

@@ -71,7 +71,7 @@ class_asks adding (class.StoresSecondary h) = no_room
 class_asks adding class.Frees = no_room
 class_asks adding (class.GivesBack kind) = block_back kind
 class_asks adding (class.Collects n) = no_room
-class_asks adding (class.AnswersPlace h) = no_room
+class_asks adding (class.RepliesPlace h) = no_room
 class_asks adding (class.AddsEntry k v) =
     cond (needs_new (adding k)) (handle_slot kinds.Dependent) no_room
 class_asks adding (class.LooksUp k) = no_room

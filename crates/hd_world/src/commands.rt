@@ -84,7 +84,7 @@ pub(crate) fn run<L: Ledger>(
         return Ok(asked.entry(Ok(done)));
     }
     if let Cmd::AddrOf { s } = asked.cmd {
-        return Ok(asked.entry(places::answer_place(store, asked.caller, s)));
+        return Ok(asked.entry(places::reply_place(store, asked.caller, s)));
     }
     if let Cmd::CAdd { k, v } = asked.cmd {
         let done = on_entries::add_entry(store, asked.caller, k, v, offer, steps);

@@ -43,7 +43,7 @@ fn pinned_in(store: &Store, caller: u32, h: u8) -> Result<Addr, Refusal>
 }
 
 /// `addr hS`.
-pub(crate) fn answer_place(store: &Store, caller: u32, h: u8) -> Result<Done, Refusal>
+pub(crate) fn reply_place(store: &Store, caller: u32, h: u8) -> Result<Done, Refusal>
     requires caller { caller < store.now.numbers.callers }
     requires register { h < REGISTERS }
     ensures { let asked : CallerCommand = record { caller = caller; cmd = cmds.AddrOf h } in

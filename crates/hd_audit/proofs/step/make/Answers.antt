@@ -36,9 +36,9 @@ returns-in-Trim c =
 pub returns-in-AddrOf : goal.returns-in-AddrOf
 returns-in-AddrOf c =
     subst
-    (λ k. IfOk c.answer_place.result (λ r.
-    Comes c.args.caller c.args.choice.now c.args.machine.now c.answer_place.new.machine r k))
-    (sym c.in-AddrOf.is) c.answer_place.ensures
+    (λ k. IfOk c.reply_place.result (λ r.
+    Comes c.args.caller c.args.choice.now c.args.machine.now c.reply_place.new.machine r k))
+    (sym c.in-AddrOf.is) c.reply_place.ensures
 
 pub returns-in_ok-report-in-Collect : goal.returns-in_ok-report-in-Collect
 returns-in_ok-report-in-Collect c =
@@ -56,10 +56,10 @@ returns-in_ok-report-in-Collect c =
     (collect_goes c.args.caller c.args.choice.now old new c.in-Collect.n found.report found.ensures.collects
     found.ensures.numbers))
 
-pub returns-in_ok-answer_root-in-GcRoot : goal.returns-in_ok-answer_root-in-GcRoot
-returns-in_ok-answer_root-in-GcRoot c =
+pub returns-in_ok-reply_root-in-GcRoot : goal.returns-in_ok-reply_root-in-GcRoot
+returns-in_ok-reply_root-in-GcRoot c =
     let old = c.args.machine.now in
-    let found = c.in_ok-answer_root-in-GcRoot in
+    let found = c.in_ok-reply_root-in-GcRoot in
     subst
     (λ (k : Cmd). (x : Cmd)
     → GoesBy c.args.caller x (way_of old.state c.args.caller k) c.args.choice.now old old

@@ -40,9 +40,9 @@ leave-requires-clause-follows g c =
     (took u c.args.seat.now.view) c.enter-world.ensures.view refl
     (all g (goal.at.leave-requires-clause-follows g c).After-step_surely-entry).follows
 
-pub let_go-requires-clause-slot : goal.let_go-requires-clause-slot
-let_go-requires-clause-slot g c =
-    let at = goal.at.let_go-requires-clause-slot g c in
+pub release_freed-requires-clause-slot : goal.release_freed-requires-clause-slot
+release_freed-requires-clause-slot g c =
+    let at = goal.at.release_freed-requires-clause-slot g c in
     rw c.freed-freed.ensures
     (subst (λ (s : Known WorldView). IfSome
     (freed_in c.step_surely-entry.new.world.state c.step_surely-entry.result.slot)
@@ -55,7 +55,7 @@ returns g c =
     let e = c.step_surely-entry.result in
     let w = c.step_surely-entry.new.world in
     let seat = c.args.seat.now in
-    let n = c.let_go.new.seat.view in
+    let n = c.release_freed.new.seat.view in
     let left = left g at.After-leave in
     let away : ReleasesFreed seat.view.limits.blocks (freed_in w.state e.slot)
     (gave_back ghosts c.enter-world.result w (took c.enter-world.result seat.view)) n =
@@ -63,7 +63,7 @@ returns g c =
     ReleasesFreed seat.view.limits.blocks (freed_in w.state e.slot) s.view n) left
     (subst (λ b. ReleasesFreed b (freed_in w.state e.slot) c.leave.new.seat.view n) c.requires.turn.blocks
     (subst (λ (f : Option (Slot × Kind)). ReleasesFreed c.args.custody.now.blocks f c.leave.new.seat.view n)
-    c.freed-freed.ensures c.let_go.ensures.gone)) in
+    c.freed-freed.ensures c.release_freed.ensures.gone)) in
     subst (λ (t : TableId). Turned seat (record { table = t; view = n }) c.args.number c.args.cmd e.reply)
-    (sym (c.let_go.ensures.table ∙ ap (λ (s : Known WorldView). s.table) left))
+    (sym (c.release_freed.ensures.table ∙ ap (λ (s : Known WorldView). s.table) left))
     ((all g at.After-step_surely-entry).turned seat.table n away)

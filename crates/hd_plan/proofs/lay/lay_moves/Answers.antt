@@ -17,18 +17,18 @@ loop-object-init g c =
       capacity = refl;
     }
 
-pub lay_one-laid-requires-clause-can_put : goal.lay_one-laid-requires-clause-can_put
-lay_one-laid-requires-clause-can_put g c =
+pub lay_object-laid-requires-clause-can_put : goal.lay_object-laid-requires-clause-can_put
+lay_object-laid-requires-clause-can_put g c =
     may_put c.args.heap.now c.args.n c.regions-regions.ensures.sound (g.M.Marker.promoted c.args.marker.now)
     (g.M.Marker.pinned c.args.marker.now) c.loop-object.moves.items c.loop-object.cursors _
     c.loop-object.invariant.laying c.requires.spare
 
-pub lay_one-laid-requires-clause-condemned : goal.lay_one-laid-requires-clause-condemned
-lay_one-laid-requires-clause-condemned g c =
+pub lay_object-laid-requires-clause-condemned : goal.lay_object-laid-requires-clause-condemned
+lay_object-laid-requires-clause-condemned g c =
     c.requires.survey.condemned c.loop-object.object-index c.loop-object-test.true
 
-pub lay_one-laid-requires-clause-fields : goal.lay_one-laid-requires-clause-fields
-lay_one-laid-requires-clause-fields g c =
+pub lay_object-laid-requires-clause-fields : goal.lay_object-laid-requires-clause-fields
+lay_object-laid-requires-clause-fields g c =
     c.requires.survey.fields c.loop-object.object-index c.loop-object-test.true
 
 pub push_reserved-requires : goal.push_reserved-requires
@@ -47,18 +47,18 @@ loop-object-preserved g c =
       laying =
           subst
           (λ (ms : List Move). IsLaying h c.args.n promoted pinned ms
-          c.lay_one-laid.new.cursors (before c.args.objects.now (k + 1)))
+          c.lay_object-laid.new.cursors (before c.args.objects.now (k + 1)))
           (sym c.push_reserved.ensures.items)
           (subst (λ j.
-          IsLaying h c.args.n promoted pinned (c.loop-object.moves.items ++ c.lay_one-laid.result ∷ [])
-          c.lay_one-laid.new.cursors (before c.args.objects.now j)) (sym (add-one k))
+          IsLaying h c.args.n promoted pinned (c.loop-object.moves.items ++ c.lay_object-laid.result ∷ [])
+          c.lay_object-laid.new.cursors (before c.args.objects.now j)) (sym (add-one k))
           (laying_next h c.args.n c.regions-regions.ensures.sound promoted pinned c.loop-object.moves.items
-          c.loop-object.cursors c.lay_one-laid.new.cursors (before c.args.objects.now k) _
-          c.lay_one-laid.result c.loop-object.invariant.laying c.requires.spare
-          (next_at c.requires.survey k c.loop-object-test.true) c.lay_one-laid.ensures.from
-          c.lay_one-laid.ensures.laid));
+          c.loop-object.cursors c.lay_object-laid.new.cursors (before c.args.objects.now k) _
+          c.lay_object-laid.result c.loop-object.invariant.laying c.requires.spare
+          (next_at c.requires.survey k c.loop-object-test.true) c.lay_object-laid.ensures.from
+          c.lay_object-laid.ensures.laid));
       count = ap length c.push_reserved.ensures.items
-          ∙ push_length c.loop-object.moves.items c.lay_one-laid.result
+          ∙ push_length c.loop-object.moves.items c.lay_object-laid.result
           ∙ (let count = c.loop-object.invariant.count in omega arith);
       capacity = c.push_reserved.ensures.capacity ∙ c.loop-object.invariant.capacity;
     }

@@ -18,10 +18,10 @@ returns-in-AddrOf g c =
     let m = c.args.store.now in
     let steps = c.args.steps.now in
     others-run m m c.args.asked c.args.offer (cmd.AddrOf c.in-AddrOf.s) c.in-AddrOf.is refl
-    c.answer_place.result steps steps c.requires c.answer_place.ensures
+    c.reply_place.result steps steps c.requires c.reply_place.ensures
     (others-steps
     (entry_of (record { caller = c.args.asked.caller; cmd = cmd.AddrOf c.in-AddrOf.s })
-    (done_of c.answer_place.result)) is_collect refl (λ n. refl) m steps refl)
+    (done_of c.reply_place.result)) is_collect refl (λ n. refl) m steps refl)
     c.entry-in-AddrOf.result c.entry-in-AddrOf.ensures
 
 pub returns : goal.returns

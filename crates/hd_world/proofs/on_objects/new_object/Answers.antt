@@ -1,4 +1,4 @@
-use Rattle.hd_world.proofs.StoreWords.{Done, KeepsNames, Machine, Outcome, Some, Zero, answers, ap, false, fresh_object, get_inserted, identity_of, if◌then◌else◌, last_serial, le-ltb, name_in, nat_lt, refuses, subst, sym, total_size, unwrap_or, with_object, with_register, with_serial, ◌+◌, ◌∙◌, ◌≡◌}
+use Rattle.hd_world.proofs.StoreWords.{Done, KeepsNames, Machine, Outcome, Some, Zero, reply_with, ap, false, fresh_object, get_inserted, identity_of, if◌then◌else◌, last_serial, le-ltb, name_in, nat_lt, refuses, subst, sym, total_size, unwrap_or, with_object, with_register, with_serial, ◌+◌, ◌∙◌, ◌≡◌}
 use Rattle.hd_world.proofs.on_objects.new_object.Goals.{In-Ok}
 use Rattle.hd_model.specs.declared.data.Refusal.TheVariants as refusal
 use Rattle.hd_model.specs.declared.data.Reply.TheVariants as reply
@@ -10,7 +10,7 @@ made c =
     let s = c.args.store.now.state in
     let serial = last_serial s c.args.caller + 1 in
     let id = identity_of c.args.caller serial in
-    answers (reply.Object id)
+    reply_with (reply.Object id)
     (with_register
     (with_serial (with_object s id (fresh_object c.args.fields c.args.fin)) c.args.caller serial)
     c.args.caller c.args.d (Some id))
@@ -52,7 +52,7 @@ returns-in-Ok-clause-done c =
     let ages = ap (λ (m : Machine). m.ages) c.set_register.ensures
     ∙ ap (λ (m : Machine). m.ages) c.in-Ok.ensures.made in (
       c.of.ensures
-          ∙ ap (λ i. replied (answers (reply.Object i) c.args.store.now.state)) id
+          ∙ ap (λ i. replied (reply_with (reply.Object i) c.args.store.now.state)) id
           ∙ ap (λ b. replied (if b then full at else made at)) (sym (has_room at)),
       λ i. record { numbers = numbers i; state = state i; names = new.names; ages = ages i; heap = new.heap },
     )

@@ -1,6 +1,6 @@
 use Rattle.std.proofs.Common.{sym, ◌∙◌}
 use Rattle.hd_audit.proofs.RootReplies.{found_chain, found_none, root_null}
-use Rattle.hd_audit.proofs.machine.Machine.answer_root.Goals as goal
+use Rattle.hd_audit.proofs.machine.Machine.reply_root.Goals as goal
 
 pub returns-in_default : goal.returns-in_default
 returns-in_default c =

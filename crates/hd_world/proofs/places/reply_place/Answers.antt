@@ -1,8 +1,8 @@
 use Rattle.hd_world.proofs.StoreWords.{Done, KeepsPlaces, None, Zero, entry_of, subst, sym, ◌∙◌}
-use Rattle.hd_world.proofs.AddressSteps.{addr-answers, addr-refused}
+use Rattle.hd_world.proofs.AddressSteps.{addr-replies, addr-refused}
 use Rattle.hd_model.specs.declared.command.Cmd.TheVariants as cmd
 use Rattle.hd_model.specs.declared.data.Reply.TheVariants as reply
-use Rattle.hd_world.proofs.places.answer_place.Goals as goal
+use Rattle.hd_world.proofs.places.reply_place.Goals as goal
 
 pub returns-in-Err : goal.returns-in-Err
 returns-in-Err c =
@@ -16,5 +16,5 @@ returns-in-Ok c =
     KeepsPlaces m (entry_of (record { caller = c.args.caller; cmd = cmd.AddrOf c.args.h }) d) m)
     (sym (c.of.ensures
     ∙ (λ i. record { reply = reply.Place (c.place.ensures.value i); slot = None; grown = Zero })))
-    (addr-answers m c.args.caller c.args.h c.requires.caller c.requires.register c.in-Ok.at
+    (addr-replies m c.args.caller c.args.h c.requires.caller c.requires.register c.in-Ok.at
     c.place.ensures.place c.in-Ok.ensures.value)

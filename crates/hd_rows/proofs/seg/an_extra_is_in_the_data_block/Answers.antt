@@ -8,7 +8,7 @@ use Rattle.hd_model.specs.State.{Extra, secondary, handles_of, extra_data}
 use Rattle.hd_model.specs.Table.{Table, IsGrowth, grown_by, fits_in}
 use Rattle.hd_model.proofs.ReadAfterWrite.{get_beside}
 use Rattle.hd_seg.proofs.FunctionMaps.{get-insert_same}
-use Rattle.hd_rows.proofs.seg.an_extra_stands_in_the_data_block.Goals as goal
+use Rattle.hd_rows.proofs.seg.an_extra_is_in_the_data_block.Goals as goal
 
 pub put_row-requires-clause-vacant : goal.put_row-requires-clause-vacant
 put_row-requires-clause-vacant g c =
