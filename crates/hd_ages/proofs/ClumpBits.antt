@@ -1,5 +1,5 @@
 -- The rows of a clump, and the due clumps of a block, by the bits of a mask.
-use Rattle.hd_ages.proofs.Basics.{Bool, List, None, Some, Table, [], ap, arith, bit_at, bit_at_above, cond, contains_key, drop, false, filter, map, range_with_len, refl, slice_get, suc, sym, true, zero, ℕ, ◌*◌, ◌+◌, ◌-◌, ◌<◌, ◌==◌, ◌^◌, ◌∙◌, ◌∷◌, ◌≡◌, ◌≤◌}
+use Rattle.hd_ages.proofs.Basics.{Bool, CLUMP, List, None, ROWS, Some, Table, [], ap, arith, bit_at, bit_at_above, cond, contains_key, drop, false, filter, map, range_with_len, refl, slice_get, suc, sym, true, zero, ℕ, ◌*◌, ◌+◌, ◌-◌, ◌<◌, ◌==◌, ◌^◌, ◌∙◌, ◌∷◌, ◌≡◌, ◌≤◌}
 use Rattle.hd_mask.specs.Mask.{set_bits}
 use Rattle.hd_mask.proofs.SetBits.{set_from, none_from}
 use Rattle.hd_ages.specs.Walk.{slots_in}
@@ -49,13 +49,13 @@ set_by_bits test m first k few small bits =
     ∙ ap (λ n. filter test (range_with_len n k)) (let e : first + 0 ≡ first = omega arith in e)
 
 -- the live rows of a clump
-pub rows_by_bits : (t : Table) (m first clump : ℕ) → m < 2 ^ 16 → first ≡ 16 * clump + 64
-    → ((i : ℕ) → i < 16 → bit_at m i ≡ cond (contains_key t.rows (first + i)) 1 0)
+pub rows_by_bits : (t : Table) (m first clump : ℕ) → m < 2 ^ 16 → first ≡ CLUMP * clump + ROWS
+    → ((i : ℕ) → i < CLUMP → bit_at m i ≡ cond (contains_key t.rows (first + i)) 1 0)
     → map (λ row. first + row) (set_bits m) ≡ slots_in t clump
 unfolding slots_in
 rows_by_bits t m first clump small is bits =
-    set_by_bits (λ slot. contains_key t.rows slot) m first 16 (omega arith) small bits
-    ∙ ap (λ n. filter (λ slot. contains_key t.rows slot) (range_with_len n 16)) is
+    set_by_bits (λ slot. contains_key t.rows slot) m first CLUMP (omega arith) small bits
+    ∙ ap (λ n. filter (λ slot. contains_key t.rows slot) (range_with_len n CLUMP)) is
 
 -- a list by its first and its rest
 pub first_and_rest : (xs ys : List ℕ) (x : ℕ) → slice_get xs 0 ≡ Some x → ys ≡ drop 1 xs → xs ≡ x ∷ ys

@@ -1,5 +1,5 @@
 -- A walk goes on as before where rows got other contents, but the same slots are live.
-use Rattle.hd_ages.proofs.Basics.{Addr, DueRows, Handle, IsOn, IsSameTable, IsSome, List, None, Option, Rewrites, Some, Table, [], ap, blocks_after, cases_eq, clumps_by, contains_key, due_clumps, filter_agree, get, has_handles, is_some, map, range_with_len, refl, set_bits, slots_of, subst, sym, ℕ, ⊎_elim, ◌*◌, ◌++◌, ◌+◌, ◌∙◌, ◌∷◌, ◌≡◌, ◌≤◌}
+use Rattle.hd_ages.proofs.Basics.{Addr, CLUMP, DueRows, Handle, IsOn, IsSameTable, IsSome, List, None, Option, ROWS, Rewrites, Some, Table, [], ap, blocks_after, cases_eq, clumps_by, contains_key, due_clumps, filter_agree, get, has_handles, is_some, map, range_with_len, refl, set_bits, slots_of, subst, sym, ℕ, ⊎_elim, ◌*◌, ◌++◌, ◌+◌, ◌∙◌, ◌∷◌, ◌≡◌, ◌≤◌}
 use Rattle.hd_ages.specs.Walk.{slots_in, clumps_to_come, slots_to_come}
 
 -- the same slots of two tables are live
@@ -38,7 +38,7 @@ module _ (old new : Table) (same : IsSameTable old new) (ages : List ℕ) where
     in_same : (c : ℕ) → slots_in new c ≡ slots_in old c
     unfolding slots_in
     in_same c = filter_agree (λ slot. contains_key new.rows slot) (λ slot. contains_key old.rows slot) live
-        (range_with_len (16 * c + 64) 16)
+        (range_with_len (CLUMP * c + ROWS) CLUMP)
 
     of_same : (cs : List ℕ) → slots_of new cs ≡ slots_of old cs
     of_same [] = refl

@@ -4,8 +4,8 @@ use Rattle.hd_model.specs.{declared.data.Id.Id, declared.data.Slot.Slot}
 use Rattle.hd_model.proofs.ReadAfterWrite.{get_inserted, get_beside, get_removed, get_left}
 use Rattle.hd_model.proofs.WeakSlots.{key_found, key_none}
 use Rattle.hd_audit.specs.Judge.{Judge}
-use Rattle.hd_audit.specs.Collecting.{Applies, ChangesAt, Findings, IsOnce, emptied, gone, grown_up, id_of, idled, taken_off}
-use Rattle.hd_audit.proofs.Changes.{Changed, Part, changed_at, changed_one, changes_on, handles, is_member, objects, read, rest_then, write}
+use Rattle.hd_audit.specs.Collecting.{Applies, ChangesAt, Findings, IsOnce, emptied, gone, raised_object, id_of, idled, unregistered_object}
+use Rattle.hd_audit.proofs.MapChanges.{Changed, Part, changed_at, changed_one, changes_on, handles, is_member, objects, read, rest_then, write}
 
 -- a change of one entry of a map
 module _ {A : Type 0} (f : Option A → Option A) (m : FinMap nat_cmp A) (k : ℕ) where
@@ -38,18 +38,20 @@ idled_again (Some c) = refl
 
 -- an object that is there
 pub taken_is : (s : State) (k : ℕ) → IsSome (get s.objects k)
-    → Some (record (object_by_id s (id_of k)) { registered = false }) ≡ option_map taken_off (get s.objects k)
+    → Some (record (object_by_id s (id_of k)) { registered = false }) ≡ option_map unregistered_object
+    (get s.objects k)
 taken_is s k some = by (get s.objects k) refl some
   where
     by : (o : Option (Object Id)) → get s.objects k ≡ o → IsSome o
-        → Some (record (object_by_id s (id_of k)) { registered = false }) ≡ option_map taken_off o
+        → Some (record (object_by_id s (id_of k)) { registered = false }) ≡ option_map unregistered_object o
     by None e h = absurd (false≢true h)
     by (Some o) e h = ap (λ (q : Object Id). Some (record q { registered = false }))
         (ap (λ q. unwrap_or q (record { fields = []; value = 0; generation = 0; registered = false })) e)
 
 pub raised_is : (n : ℕ) (s : State) (k g : ℕ) → IsSome (get s.objects k)
     → g ≡ raised n (object_by_id s (id_of k)).generation
-    → Some (record (object_by_id s (id_of k)) { generation = g }) ≡ option_map (grown_up n) (get s.objects k)
+    → Some (record (object_by_id s (id_of k)) { generation = g }) ≡ option_map (raised_object n)
+    (get s.objects k)
 raised_is n s k g some is =
     ap (λ j. Some (record (object_by_id s (id_of k)) { generation = j })) is ∙ by (get s.objects k) refl some
   where
@@ -58,9 +60,9 @@ raised_is n s k g some is =
           generation = raised n
               (object_by_id s (id_of k)).generation;
         })
-        ≡ option_map (grown_up n) o
+        ≡ option_map (raised_object n) o
     by None e h = absurd (false≢true h)
-    by (Some o) e h = ap (λ (q : Object Id). Some (grown_up n q))
+    by (Some o) e h = ap (λ (q : Object Id). Some (raised_object n q))
         (ap (λ q. unwrap_or q (record { fields = []; value = 0; generation = 0; registered = false })) e)
 
 -- the slot of a key is that of its entry
@@ -102,9 +104,9 @@ module _ (n : ℕ) (f : Findings) (a b c d e g h i j k : Judge)
     (dep_rest : g ≡ record e { state = record e.state { handles = g.state.handles } })
     (places : ChangesAt gone f.unpinned g.state.places h.state.places)
     (places_rest : h ≡ record g { state = record g.state { places = h.state.places } })
-    (joins : ChangesAt (option_map taken_off) f.joins h.state.objects i.state.objects)
+    (joins : ChangesAt (option_map unregistered_object) f.joins h.state.objects i.state.objects)
     (joins_rest : i ≡ record h { state = record h.state { objects = i.state.objects } })
-    (kept : ChangesAt (option_map (grown_up n)) f.kept i.state.objects j.state.objects)
+    (kept : ChangesAt (option_map (raised_object n)) f.kept i.state.objects j.state.objects)
     (kept_rest : j ≡ record i { state = record i.state { objects = j.state.objects } })
     (removed : ChangesAt gone f.removed j.state.objects k.state.objects)
     (removed_rest : k ≡ record j { state = record j.state { objects = k.state.objects } }) where
@@ -187,7 +189,8 @@ module _ (n : ℕ) (f : Findings) (a b c d e g h i j k : Judge)
         (subst (λ m. ChangesAt gone f.unpinned g.state.places m) places_after places);
     unregistered = i.state.objects;
     risen = j.state.objects;
-    joins = subst (λ m. ChangesAt (option_map taken_off) f.joins m i.state.objects) objects_before joins;
+    joins = subst (λ m. ChangesAt (option_map unregistered_object) f.joins m i.state.objects) objects_before
+        joins;
     survivors = kept;
     objects = removed;
     rest = ap (λ (q : Judge). q.state) all_rest

@@ -24,7 +24,7 @@ use Rattle.hd_script.proofs.Digits.{with_digit, worth_grows}
 use Rattle.std.proofs.lemmas.Str.Parse.{IsNumeralModel, IsDigitsTest, FoldsDigits, numerals_by_fold}
 use Rattle.std.proofs.lemmas.Fmt.{digits_value-decimal}
 use Rattle.std.specs.Fmt.{digits, digits_onto, digit_glyph}
-use Rattle.hd_audit.specs.Choice.{HasChoice, after, after_blank, leading_from, leading, slot_in, added_in, grown_in, place_in, choice_in}
+use Rattle.hd_audit.specs.Choice.{HasChoice, after_mark, after_blank, leading_from, leading, slot_in, added_in, grown_in, place_in, choice_in}
 
 -- ---- marks
 
@@ -34,19 +34,19 @@ lacks mark bytes = list_all (λ b. not (eqb b mark)) bytes
 
 -- the bytes after the first mark are those after the one that none comes before
 after_at : (mark : ℕ) (bytes rest : List ℕ) → lacks mark bytes ≡ true
-    → after mark (bytes ++ mark ∷ rest) ≡ Some rest
-after_at mark [] rest h = cond-true (eqb mark mark) (Some rest) (after mark rest) (eq-eqb mark mark refl)
+    → after_mark mark (bytes ++ mark ∷ rest) ≡ Some rest
+after_at mark [] rest h = cond-true (eqb mark mark) (Some rest) (after_mark mark rest) (eq-eqb mark mark refl)
 after_at mark (b ∷ bytes) rest h =
     let both = and_parts (not (eqb b mark)) (lacks mark bytes) h in
-    cond-false (eqb b mark) (Some (bytes ++ mark ∷ rest)) (after mark (bytes ++ mark ∷ rest))
+    cond-false (eqb b mark) (Some (bytes ++ mark ∷ rest)) (after_mark mark (bytes ++ mark ∷ rest))
     (not-true (eqb b mark) both.0)
     ∙ after_at mark bytes rest both.1
 
-after_none : (mark : ℕ) (bytes : List ℕ) → lacks mark bytes ≡ true → after mark bytes ≡ None
+after_none : (mark : ℕ) (bytes : List ℕ) → lacks mark bytes ≡ true → after_mark mark bytes ≡ None
 after_none mark [] h = refl
 after_none mark (b ∷ bytes) h =
     let both = and_parts (not (eqb b mark)) (lacks mark bytes) h in
-    cond-false (eqb b mark) (Some bytes) (after mark bytes) (not-true (eqb b mark) both.0)
+    cond-false (eqb b mark) (Some bytes) (after_mark mark bytes) (not-true (eqb b mark) both.0)
     ∙ after_none mark bytes both.1
 
 pub lacks-append : (mark : ℕ) (xs ys : List ℕ) → lacks mark xs ≡ true → lacks mark ys ≡ true
@@ -285,16 +285,17 @@ added_two block other low lower =
     ∙ (λ i. Two (number_leads block (44 ∷ more) low refl i) (number_leads other newline lower refl i))
 
 -- what is read of a growth, by what is after its marks
-grown_by : (line : List ℕ) (plus minus : Option (List ℕ)) → after 43 line ≡ plus → after 45 line ≡ minus
+grown_by : (line : List ℕ) (plus minus : Option (List ℕ)) → after_mark 43 line ≡ plus
+    → after_mark 45 line ≡ minus
     → grown_in line
     ≡ option_map_or added_in plus (option_map_or (λ (rest : List ℕ). Back (leading rest)) minus Zero)
 grown_by line plus minus p m = λ i. option_map_or added_in (p i)
     (option_map_or (λ (rest : List ℕ). Back (leading rest)) (m i) Zero)
 
-grown_plus : (line rest : List ℕ) → after 43 line ≡ Some rest → grown_in line ≡ added_in rest
+grown_plus : (line rest : List ℕ) → after_mark 43 line ≡ Some rest → grown_in line ≡ added_in rest
 grown_plus line rest p =
     ap (λ (o : Option (List ℕ)). option_map_or added_in o
-    (option_map_or (λ (t : List ℕ). Back (leading t)) (after 45 line) Zero)) p
+    (option_map_or (λ (t : List ℕ). Back (leading t)) (after_mark 45 line) Zero)) p
 
 -- after a head of plain bytes
 module _ (head : List ℕ) (plain : ArePlain head) where
@@ -318,20 +319,20 @@ module _ (head : List ℕ) (plain : ArePlain head) where
   -- after the slot, a blank and a mark
   mark_after : (mark : ℕ) (slot : Option Slot) (rest : List ℕ) → IsMark mark → is_plain mark ≡ false
       → lacks mark (codes " @") ≡ true → lacks mark (codes " ") ≡ true
-      → after mark (head ++ (slot_text slot ++ 32 ∷ mark ∷ rest)) ≡ Some rest
+      → after_mark mark (head ++ (slot_text slot ++ 32 ∷ mark ∷ rest)) ≡ Some rest
   mark_after mark slot rest free other m blank =
       let text = slot_text slot in
       let before = text ++ codes " " in
       let lacking = lacks-append mark head before (head_lacks mark other)
       (lacks-append mark text (codes " ") (slot_lacks mark slot free m) blank) in
-      ap (after mark) (ap (λ (t : List ℕ). head ++ t) (sym (append_assoc text (codes " ") (mark ∷ rest)))
+      ap (after_mark mark) (ap (λ (t : List ℕ). head ++ t) (sym (append_assoc text (codes " ") (mark ∷ rest)))
       ∙ sym (append_assoc head before (mark ∷ rest)))
       ∙ after_at mark (head ++ before) rest lacking
 
   -- no mark, where the growth has none
   none_after : (mark : ℕ) (slot : Option Slot) (rest : List ℕ) → IsMark mark → is_plain mark ≡ false
       → lacks mark (codes " @") ≡ true → lacks mark rest ≡ true
-      → after mark (head ++ (slot_text slot ++ rest)) ≡ None
+      → after_mark mark (head ++ (slot_text slot ++ rest)) ≡ None
   none_after mark slot rest free other m lacking =
       after_none mark (head ++ (slot_text slot ++ rest))
       (lacks-append mark head (slot_text slot ++ rest) (head_lacks mark other)

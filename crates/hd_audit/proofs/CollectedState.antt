@@ -7,8 +7,8 @@ use Rattle.hd_model.proofs.PropertyCounts.{counts_like, counts_join, counts_name
 use Rattle.hd_model.proofs.WeakSlots.{handle_row, weak_row, row_cases, rows_cleared, weak_attaches}
 use Rattle.hd_model.proofs.IdleCollection.{cleared_same, raised_older}
 use Rattle.hd_model.proofs.KindExtras.{attaching_kind}
-use Rattle.hd_audit.proofs.Changes.{is_member, stays_none}
-use Rattle.hd_audit.specs.Collecting.{id_of, is_role, role_number, Lists, loses_as, is_stale, resurrects, survives, is_removed, emptied, taken_off, grown_up, ChangesAt, gone, idled, report_of, Findings, Finds, Applies}
+use Rattle.hd_audit.proofs.MapChanges.{is_member, stays_none}
+use Rattle.hd_audit.specs.Collecting.{id_of, is_role, role_number, Lists, loses_as, is_stale, resurrects, survives, is_removed, emptied, unregistered_object, raised_object, ChangesAt, gone, idled, report_of, Findings, Finds, Applies}
 
 -- the length of a list of what has a property is the number of what has it
 counts_listed : {A : Type 0} (P : A → Type 0) (xs : List A) → Lists P xs → Counts P (length xs)
@@ -234,11 +234,12 @@ module _ (reach kept : Id → Bool) where
       registered = o.registered && not b;
     }
 
-    joined_object : (t : FinMap nat_cmp (Object Id)) → ChangesAt (option_map taken_off) f.joins s.objects t
+    joined_object : (t : FinMap nat_cmp (Object Id)) → ChangesAt (option_map unregistered_object) f.joins
+        s.objects t
         → (k : ℕ) (o : Object Id) → get s.objects k ≡ Some o → get t k ≡ Some (unqueued (woken (id_of k)) o)
     joined_object t change k o e =
         ⊎_elim
-        (λ yes. change.there k (found.joins.all k yes) ∙ ap (option_map taken_off) e
+        (λ yes. change.there k (found.joins.all k yes) ∙ ap (option_map unregistered_object) e
         ∙ ap (λ b. Some (with_registered b)) (sym (and_false o.registered) ∙ ap
         (λ b. o.registered && not b) (sym yes)))
         (λ no. change.beside k (λ c. true≢false (sym (found.joins.each k c) ∙ no)) ∙ e
@@ -263,7 +264,7 @@ module _ (reach kept : Id → Bool) where
         and_true false = refl
 
     -- a kept object once the survivors' generations are raised
-    risen_object : (a t : FinMap nat_cmp (Object Id)) → ChangesAt (option_map (grown_up n)) f.kept a t
+    risen_object : (a t : FinMap nat_cmp (Object Id)) → ChangesAt (option_map (raised_object n)) f.kept a t
         → (k : ℕ) (o : Object Id) → get s.objects k ≡ Some o → kept (id_of k) ≡ true
         → get a k ≡ Some (unqueued (woken (id_of k)) o)
         → get t k ≡ Some (survivor n (woken (id_of k)) o)
@@ -271,7 +272,7 @@ module _ (reach kept : Id → Bool) where
         ⊎_elim
         (λ young. change.there k (found.survivors.all k (ap (survives n (kept (id_of k))) e
         ∙ and_from (nat_le o.generation n) (kept (id_of k)) young stays))
-        ∙ ap (option_map (grown_up n)) before)
+        ∙ ap (option_map (raised_object n)) before)
         (λ old. change.beside k
         (λ c. true≢false (sym (and_parts (nat_le o.generation n) (kept (id_of k))
         (sym (ap (survives n (kept (id_of k))) e) ∙ found.survivors.each k c)).0 ∙ old))
@@ -291,8 +292,9 @@ module _ (reach kept : Id → Bool) where
         → get t.objects k ≡ cond (kept (id_of k)) (option_map (survivor n (woken (id_of k))) o) None
     object_after t a k None e =
         stays_none gone k a.objects refl
-        (stays_none (option_map (grown_up n)) k a.survivors refl
-        (stays_none (option_map taken_off) k a.joins refl e)) ∙ sym (cond_none (kept (id_of k)) None refl)
+        (stays_none (option_map (raised_object n)) k a.survivors refl
+        (stays_none (option_map unregistered_object) k a.joins refl e)) ∙ sym
+        (cond_none (kept (id_of k)) None refl)
     object_after t a k (Some o) e =
         ⊎_elim
         (λ yes. a.objects.beside k

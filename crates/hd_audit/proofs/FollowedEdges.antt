@@ -7,7 +7,7 @@ use Rattle.hd_model.specs.Scene.{fields_in}
 use Rattle.hd_model.specs.State.{State}
 use Rattle.hd_audit.specs.Attaching.{ListsAttached, secondaries}
 use Rattle.hd_audit.specs.Marked.{Marked, with_marks, with_targets}
-use Rattle.hd_audit.specs.Searching.{Found, Searching, with_origins, with_referenced}
+use Rattle.hd_audit.specs.Searching.{SearchView, Searching, with_origins, with_referenced}
 use Rattle.hd_audit.specs.declared.marks.Attached.{Attached}
 use Rattle.hd_audit.specs.declared.rooting.Origin.{Origin}
 use Rattle.hd_audit.proofs.AttachedLists.{edge_from, edge_to}
@@ -36,8 +36,8 @@ module _ (s : State) (a : Attached) (id : ℕ) where
         nearer IsNext m n o id taken
         (gains_edges n f o (fields_in (get s.objects id)) (secondaries a id) by_fields by_lists)
 
-  -- it was the first one that was come by
-  module _ {origin : Origin} {m f g h : Found} (taken : m ≡ record f { left = (id, origin) ∷ f.left })
+  -- it was the first one that was found
+  module _ {origin : Origin} {m f g h : SearchView} (taken : m ≡ record f { left = (id, origin) ∷ f.left })
       (by_fields : g ≡ with_referenced f (fields_in (get s.objects id))
       (record { from = origin.from; edges = origin.edges + 1 }))
       (by_lists : h ≡ with_origins g (secondaries a id)

@@ -8,10 +8,11 @@ use Rattle.hd_model.specs.State.{BlockUse, Numbers, State, IsAllFree, first_slot
 use Rattle.hd_model.specs.WellFormed.{IsWellFormed}
 use Rattle.hd_model.proofs.WeakSlots.{idle_found}
 use Rattle.hd_audit.specs.Inside.{IsUnnamed, slots_of}
+use Rattle.hd_model.specs.declared.limits.TheConstants.{ROWS}
 
 module _ (n : Numbers) (s : State) (w : IsWellFormed n s) where
-  used_low : (slot : ℕ) (u : BlockUse) → use_of s (slot / 64) ≡ Some u → slot < slots_of n.blocks
-  used_low slot u is = omega (arith, (w.handles.blocks (slot / 64) (ap is_some is)).1)
+  used_low : (slot : ℕ) (u : BlockUse) → use_of s (slot / ROWS) ≡ Some u → slot < slots_of n.blocks
+  used_low slot u is = omega (arith, (w.handles.blocks (slot / ROWS) (ap is_some is)).1)
 
   -- an idle slot of the weak table
   pub idle_is_low : (slot : Slot) → idle_slot s ≡ Some slot → slot.0 < slots_of n.blocks
@@ -23,7 +24,7 @@ module _ (n : Numbers) (s : State) (w : IsWellFormed n s) where
   -- a block whose slots are all free
   pub all_free_of : (k : Kind) (block : ℕ) → IsAllFree s k block → use_of s block ≡ Some (handles_of k)
   all_free_of k block free =
-      let at : (block * 64) / 64 ≡ block = omega arith in
+      let at : (block * ROWS) / ROWS ≡ block = omega arith in
       ap (use_of s) (sym at) ∙ (free (first_slot block) at).of_kind
 
   pub all_free_low : (k : Kind) (block : ℕ) → IsAllFree s k block → block ≤ n.blocks

@@ -25,6 +25,7 @@ use Rattle.hd_audit.specs.SoFar.{IsJudged, entries_of}
 use Rattle.hd_audit.specs.Choice.{HasChoice, choice_in}
 use Rattle.hd_audit.proofs.StepNumbers.{step_low}
 use Rattle.hd_audit.proofs.ChoiceLines.{line_has_choice}
+use Rattle.hd_model.specs.declared.limits.TheConstants.{BLOCKS, CALLERS, MOST_COMMANDS}
 
 -- what is left of a list begins with the command after those that were taken
 after_taken : (xs ys : List Cmd) (c : Cmd) → slice_get (xs ++ ys) (length xs) ≡ Some c → ys ≡ c ∷ drop 1 ys
@@ -64,8 +65,8 @@ pub record NextEntry (n : Numbers) (lists : List (List Cmd)) (s : State) (done l
   pub chosen : HasChoice entry (choice_in line)
 
 module _ (n : Numbers) (lists : List (List Cmd)) (callers : n.callers ≡ length lists)
-    (few_callers : n.callers ≤ 16) (few_blocks : n.blocks ≤ 256)
-    (total : sum_by (λ (list : List Cmd). length list) lists ≤ 100000) where
+    (few_callers : n.callers ≤ CALLERS) (few_blocks : n.blocks ≤ BLOCKS)
+    (total : sum_by (λ (list : List Cmd). length list) lists ≤ MOST_COMMANDS) where
   -- nothing is judged yet
   judged_none : (left : ℕ) → left ≡ sum_by (λ (list : List Cmd). length list) lists
       → IsJudged n lists (start_of n) (replicate n.callers 0) left 0 []
@@ -88,7 +89,8 @@ module _ (n : Numbers) (lists : List (List Cmd)) (callers : n.callers ≡ length
 -- as a judge begins
 pub judged_open : (n : Numbers) (lists : List (List Cmd)) (heap blocks callers : ℕ)
     → n ≡ record { heap = heap; blocks = blocks; callers = callers } → callers ≡ length lists → AreLists lists
-    → blocks ≤ 256 → (s : State) → s ≡ start_of n → (done : List ℕ) → done ≡ replicate callers 0 → (left : ℕ)
+    → blocks ≤ BLOCKS → (s : State) → s ≡ start_of n → (done : List ℕ) → done ≡ replicate callers 0
+    → (left : ℕ)
     → left ≡ sum_by (λ (list : List Cmd). length list) lists → IsJudged n lists s done left 0 []
 judged_open n lists heap blocks callers is each right few s start done none left total =
     let same : n.callers ≡ callers = ap (λ (x : Numbers). x.callers) is in
@@ -121,7 +123,7 @@ module _ {n : Numbers} {lists : List (List Cmd)} {s : State} {done : List ℕ} {
       let few = count_by-le-length (λ (e : Entry). makes_object e.cmd e.reply) j.journal in
       omega (arith, made, few, j.few)
 
-  pub lines_fit : length lines + left ≤ 100000
+  pub lines_fit : length lines + left ≤ MOST_COMMANDS
   lines_fit =
       let same = ap (λ (l : List (List ℕ)). length l) j.lines_are ∙ length_lines full_line [] j.journal in
       omega (arith, same, j.few)

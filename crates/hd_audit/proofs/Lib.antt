@@ -8,7 +8,7 @@ pub mod PlaceWays
 pub mod RowMaps
 pub mod TableCalls
 mod ChoiceLines
-pub mod Ways
+pub mod StepWays
 pub mod WeakCalls
 pub mod AttachedLists
 pub mod MarkedSets
@@ -21,9 +21,9 @@ pub mod JudgedLines
 pub mod LinesSoFar
 pub mod StepNumbers
 pub mod TakenLines
-pub mod Verdicts
+pub mod LineVerdicts
 pub mod AppliedSteps
-pub mod Changes
+pub mod MapChanges
 pub mod CollectedState
 pub mod FoundLists
 pub mod ListBuilds

@@ -10,11 +10,12 @@ use Rattle.hd_audit.specs.declared.lines.Verdict.{Verdict}
 use Rattle.hd_audit.specs.Judging.{IsRight}
 use Rattle.hd_audit.specs.SoFar.{Ends, IsAt, TakesLine}
 use Rattle.hd_audit.proofs.JudgedLines.{lines_fit, objects_fit}
-use Rattle.hd_audit.proofs.Verdicts.{missing_line, wrong_line}
+use Rattle.hd_audit.proofs.LineVerdicts.{missing_line, wrong_line}
+use Rattle.hd_model.specs.declared.limits.TheConstants.{MOST_COMMANDS}
 
 module _ {n : Numbers} {lists : List (List Cmd)} {j : Judged} {bytes rest : List ℕ} {count : ℕ}
     (at : IsAt n lists j bytes rest count) where
-  pub few_lines : count + j.left ≤ 100000
+  pub few_lines : count + j.left ≤ MOST_COMMANDS
   few_lines = let low = lines_fit at.along in let same = at.count_is in omega (arith, low, same)
 
   pub few_objects : len j.machine.state.objects < 2 ^ 32

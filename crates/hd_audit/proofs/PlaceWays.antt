@@ -24,7 +24,7 @@ use Rattle.hd_model.proofs.ReadAfterWrite.{get_inserted, get_beside}
 use Rattle.hd_audit.specs.declared.choice.Choice.{Choice}
 use Rattle.hd_audit.specs.Judge.{Judge}
 use Rattle.hd_audit.specs.Commands.{WayComesTo, entry_by, made_of, pinned_in}
-use Rattle.hd_audit.proofs.Ways.{same_entry}
+use Rattle.hd_audit.proofs.StepWays.{same_entry}
 
 -- to put what is there changes nothing
 insert_same : {A : Type 0} (m : FinMap nat_cmp A) (k : ℕ) (v : A) → get m k ≡ Some v → insert m k v ≡ m

@@ -8,7 +8,7 @@ use Rattle.hd_model.proofs.Members.{first_in, later_in, member_cases, not_in_non
 use Rattle.hd_model.proofs.ReadAfterWrite.{get_inserted, inserted_from, len_new, get_beside}
 use Rattle.hd_model.specs.Anchors.{IsShortest, IsUnrooted, LeadsIn}
 use Rattle.hd_model.specs.declared.data.Id.{Id}
-use Rattle.hd_audit.specs.Searching.{Found, IsFoundBy, Searching, rank, start_at, with_origin, with_origins, with_referenced, with_starts}
+use Rattle.hd_audit.specs.Searching.{SearchView, IsFoundBy, Searching, rank, start_at, with_origin, with_origins, with_referenced, with_starts}
 use Rattle.hd_audit.specs.declared.rooting.Origin.{Origin}
 use Rattle.hd_audit.proofs.MarkedSets.{IsAmong, number}
 
@@ -19,14 +19,14 @@ abbrev Rises : List (ℕ × Origin) → Type 0
 Rises ps = AllPairs (λ p q. rank p.1 ≤ rank q.1) ps
 
 -- what was found with an origin, and was not before
-pub record IsNew (J : ℕ → Type 0) (next : Origin) (f g : Found) (x : ℕ) (o : Origin) : Type 0 where
+pub record IsNew (J : ℕ → Type 0) (next : Origin) (f g : SearchView) (x : ℕ) (o : Origin) : Type 0 where
   pub wanted : J x
   pub origin : o ≡ next
   pub left : Contains g.left (x, o)
   pub more : len f.found < len g.found
 
--- g is f after the objects of J were come by with an origin
-pub record Reaches (J : ℕ → Type 0) (next : Origin) (f g : Found) : Type 0 where
+-- g is f after the objects of J were found with an origin
+pub record Reaches (J : ℕ → Type 0) (next : Origin) (f g : SearchView) : Type 0 where
   pub keeps : (x : ℕ) (o : Origin) → get f.found x ≡ Some o → get g.found x ≡ Some o
   pub joins : (x : ℕ) → J x
       → (o : Origin) × ((get g.found x ≡ Some o) × ((o ≡ next) ⊎ (get f.found x ≡ Some o)))
@@ -39,7 +39,7 @@ pub record Reaches (J : ℕ → Type 0) (next : Origin) (f g : Found) : Type 0 w
   pub even : len g.found + length f.left ≡ len f.found + length g.left
 
 -- nothing is new
-reaches_old : (J : ℕ → Type 0) (next : Origin) (f : Found)
+reaches_old : (J : ℕ → Type 0) (next : Origin) (f : SearchView)
     → ((x : ℕ) → J x → (o : Origin) × (get f.found x ≡ Some o)) → Reaches J next f f
 reaches_old J next f had = record {
   keeps = λ x o h. h;
@@ -52,13 +52,14 @@ reaches_old J next f had = record {
   even = refl;
 }
 
-reaches_none : (J : ℕ → Type 0) (next : Origin) (f : Found) → ((x : ℕ) → J x → ⊥) → Reaches J next f f
+reaches_none : (J : ℕ → Type 0) (next : Origin) (f : SearchView) → ((x : ℕ) → J x → ⊥) → Reaches J next f f
 reaches_none J next f none = reaches_old J next f (λ x j. absurd (none x j))
 
-abbrev come : Found → ℕ → Origin → Found
+abbrev come : SearchView → ℕ → Origin → SearchView
 come f id o = record { found = insert f.found id o; left = f.left ++ (id, o) ∷ [] }
 
-pub reaches_one : (f : Found) (id : ℕ) (next : Origin) → Reaches (λ y. y ≡ id) next f (with_origin f id next)
+pub reaches_one : (f : SearchView) (id : ℕ) (next : Origin) → Reaches (λ y. y ≡ id) next f
+    (with_origin f id next)
 reaches_one f id next = by (contains_key f.found id) refl
   where
     by : (b : Bool) → contains_key f.found id ≡ b → Reaches (λ y. y ≡ id) next f (cond b f (come f id next))
@@ -104,7 +105,7 @@ reaches_one f id next = by (contains_key f.found id) refl
           even = omega (arith, more, longer);
         }
 
-pub reaches_then : (J K : ℕ → Type 0) (next : Origin) (f g h : Found) → Reaches J next f g
+pub reaches_then : (J K : ℕ → Type 0) (next : Origin) (f g h : SearchView) → Reaches J next f g
     → Reaches K next g h
     → Reaches (λ y. J y ⊎ K y) next f h
 reaches_then J K next f g h p q = record {
@@ -145,7 +146,7 @@ reaches_then J K next f g h p q = record {
   even = let a = p.even in let b = q.even in omega (arith, a, b);
 }
 
-pub reaches_like : (J K : ℕ → Type 0) (next : Origin) (f g : Found) → ((y : ℕ) → J y → K y)
+pub reaches_like : (J K : ℕ → Type 0) (next : Origin) (f g : SearchView) → ((y : ℕ) → J y → K y)
     → ((y : ℕ) → K y → J y) → Reaches J next f g → Reaches K next f g
 reaches_like J K next f g to back p = record {
   keeps = p.keeps;
@@ -160,7 +161,7 @@ reaches_like J K next f g to back p = record {
   even = p.even;
 }
 
-pub reaches_list : (f : Found) (ids : List ℕ) (next : Origin)
+pub reaches_list : (f : SearchView) (ids : List ℕ) (next : Origin)
     → Reaches (λ y. Contains ids y) next f (with_origins f ids next)
 reaches_list f [] next = reaches_none (λ y. Contains [] y) next f (λ y h. not_in_none y h)
 reaches_list f (x ∷ xs) next =
@@ -172,7 +173,7 @@ reaches_list f (x ∷ xs) next =
     (with_origins (with_origin f x next) xs next) (reaches_one f x next)
     (reaches_list (with_origin f x next) xs next))
 
-pub reaches_referenced : (f : Found) (os : List (Option Id)) (next : Origin)
+pub reaches_referenced : (f : SearchView) (os : List (Option Id)) (next : Origin)
     → Reaches (IsAmong os) next f (with_referenced f os next)
 reaches_referenced f [] next = reaches_none (IsAmong []) next f (λ y h. not_in_none (Some (number y)) h)
 reaches_referenced f (None ∷ os) next =
@@ -192,9 +193,9 @@ reaches_referenced f (Some x ∷ os) next =
     (with_referenced (with_origin f x.0 next) os next) (reaches_one f x.0 next)
     (reaches_referenced (with_origin f x.0 next) os next))
 
--- ---- the anchors are come by first
+-- ---- the anchors are found first
 
-pub record Started (f : Found) : Type 0 where
+pub record Started (f : SearchView) : Type 0 where
   pub each : (x : ℕ) (o : Origin) → get f.found x ≡ Some o → (o ≡ start_at x) × Contains f.left (x, o)
   pub left : (p : ℕ × Origin) → Contains f.left p → get f.found p.0 ≡ Some p.1
   pub rising : Rises f.left
@@ -209,7 +210,7 @@ none_started = record {
 start_rank : (o : Origin) (x : ℕ) → o ≡ start_at x → rank o ≡ x
 start_rank o x e = let is : rank o ≡ 0 * 2 ^ 64 + x = ap rank e in omega (arith, is)
 
-start_step : (f : Found) (k : ℕ) → Started f → ((p : ℕ × Origin) → Contains f.left p → p.0 < k)
+start_step : (f : SearchView) (k : ℕ) → Started f → ((p : ℕ × Origin) → Contains f.left p → p.0 < k)
     → Started (with_origin f k (start_at k))
 start_step f k s low =
     let r = reaches_one f k (start_at k) in
@@ -222,14 +223,14 @@ start_step f k s low =
           let l = low p h in let g = start_rank (start_at k) k refl in omega (arith, e, l, g));
     }
 
--- all of a rising list were come by
-pub record HasStarted (f g : Found) (ids : List ℕ) : Type 0 where
+-- all of a rising list were found
+pub record HasStarted (f g : SearchView) (ids : List ℕ) : Type 0 where
   pub started : Started g
   pub keeps : (x : ℕ) (o : Origin) → get f.found x ≡ Some o → get g.found x ≡ Some o
   pub all : (x : ℕ) → Contains ids x → IsSome (get g.found x)
   pub only : (x : ℕ) (o : Origin) → get g.found x ≡ Some o → (get f.found x ≡ Some o) ⊎ Contains ids x
 
-pub starts_all : (f : Found) (ids : List ℕ) → Started f → AllPairs (λ x y. x < y) ids
+pub starts_all : (f : SearchView) (ids : List ℕ) → Started f → AllPairs (λ x y. x < y) ids
     → ((p : ℕ × Origin) (k : ℕ) → Contains f.left p → Contains ids k → p.0 < k)
     → HasStarted f (with_starts f ids) ids
 starts_all f [] s rising low = record {
@@ -267,12 +268,12 @@ some_found m x o found is =
     omega (arith, none, some)
 
 module _ (E : Id → Id → Type 0) (Anchor : Id → Type 0) where
-  -- the anchors were come by, and nothing else
+  -- the anchors were found, and nothing else
   pub search_started : (ids : List ℕ) → AllPairs (λ x y. x < y) ids → ((x : ℕ) → Contains ids x → x < 2 ^ 64)
       → ((x : Id) → Contains ids x.0 → Anchor x) → ((x : Id) → Anchor x → Contains ids x.0)
       → Searching E Anchor (with_starts (record { found = empty; left = [] }) ids)
   search_started ids rising small are all =
-      let none : Found = record { found = empty; left = [] } in
+      let none : SearchView = record { found = empty; left = [] } in
       let f = with_starts none ids in
       let h = starts_all none ids none_started rising (λ p k c d. absurd (not_in_none p c)) in
       let within : (x : ℕ) (o : Origin) → get f.found x ≡ Some o → Contains ids x = λ x o e.
@@ -296,8 +297,8 @@ module _ (E : Id → Id → Type 0) (Anchor : Id → Type 0) where
         short = λ x o e. some_found f.found x o e (h.started.each x o e).0;
       }
 
-  -- an object is followed: all that it has an edge to was come by with one edge more
-  pub search_step : (J : ℕ → Type 0) (f g : Found) (id : ℕ) (o next : Origin)
+  -- an object is followed: all that it has an edge to was found with one edge more
+  pub search_step : (J : ℕ → Type 0) (f g : SearchView) (id : ℕ) (o next : Origin)
       → Searching E Anchor (record f { left = (id, o) ∷ f.left })
       → next ≡ record { from = o.from; edges = o.edges + 1 } → Reaches J next f g
       → ((y : Id) → E (number id) y → J y.0) → ((y : Id) → J y.0 → E (number id) y) → Searching E Anchor g
@@ -361,7 +362,7 @@ module _ (E : Id → Id → Type 0) (Anchor : Id → Type 0) where
                 (λ old. let b = s.below y.0 q old in omega (arith, b, low, ranks)) rest.1;
           }
 
-  module _ (f : Found) (s : Searching E Anchor f) (none : f.left ≡ []) where
+  module _ (f : SearchView) (s : Searching E Anchor f) (none : f.left ≡ []) where
     -- each object that a chain leads to was found no later than along that chain
     complete : {k : ℕ} {from x : Id} → Anchor from → LeadsIn E k from x
         → IsFoundBy f x.0 (k * 2 ^ 64 + from.0)
@@ -415,17 +416,17 @@ small_all ids fits x c =
     omega (arith, f, e)
 
 -- an object that is taken may have one edge more
-pub may_count : (E : Id → Id → Type 0) (Anchor : Id → Type 0) (m f : Found) (id : ℕ) (o : Origin)
+pub may_count : (E : Id → Id → Type 0) (Anchor : Id → Type 0) (m f : SearchView) (id : ℕ) (o : Origin)
     → Searching E Anchor m → m ≡ record f { left = (id, o) ∷ f.left } → len m.found < 2 ^ 63
     → o.edges + 1 < 2 ^ 64
 may_count E Anchor m f id o s taken few =
     let here : Contains m.left (id, o) =
-    subst (λ (z : Found). Contains z.left (id, o)) (sym taken) (first_in (id, o) f.left) in
+    subst (λ (z : SearchView). Contains z.left (id, o)) (sym taken) (first_in (id, o) f.left) in
     let short = s.short id o (s.left (id, o) here) in
     omega (arith, short, few)
 
--- all that an object has an edge to was come by
-pub reaches_edges : (f m g : Found) (fields : List (Option Id)) (secondaries : List ℕ) (next : Origin)
+-- all that an object has an edge to was found
+pub reaches_edges : (f m g : SearchView) (fields : List (Option Id)) (secondaries : List ℕ) (next : Origin)
     → m ≡ with_referenced f fields next → g ≡ with_origins m secondaries next
     → Reaches (λ y. IsAmong fields y ⊎ Contains secondaries y) next f g
 reaches_edges f m g fields secondaries next a b =
@@ -434,7 +435,7 @@ reaches_edges f m g fields secondaries next a b =
     (subst (Reaches (λ y. Contains secondaries y) next m) (sym b) (reaches_list m secondaries next))
 
 -- each step brings a search nearer to its end
-pub nearer_found : (J : ℕ → Type 0) (m f g : Found) (next : Origin) (p : ℕ × Origin)
+pub nearer_found : (J : ℕ → Type 0) (m f g : SearchView) (next : Origin) (p : ℕ × Origin)
     → m ≡ record f { left = p ∷ f.left } → Reaches J next f g → len m.found < 2 ^ 63
     → (2 ^ 63 + length g.left) - len g.found < (2 ^ 63 + length m.left) - len m.found
 nearer_found J m f g next p taken r few =

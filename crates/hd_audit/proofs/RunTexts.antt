@@ -15,7 +15,7 @@ use Rattle.hd_print.proofs.JudgedRuns.{next_number}
 use Rattle.hd_print.proofs.RightLines.{end_bytes, none_of_all}
 use Rattle.hd_audit.specs.Laws.{RunsHaveNoWrongLine}
 use Rattle.hd_audit.proofs.ChoiceLines.{lacks, lacks-append, line_lacks, numeral_lacks}
-use Rattle.hd_audit.proofs.Verdicts.{none_ends}
+use Rattle.hd_audit.proofs.LineVerdicts.{none_ends}
 
 -- ---- a line is cut off again
 

@@ -28,6 +28,7 @@ use Rattle.hd_model.specs.Kinds.{is_kind, kind_of}
 use Rattle.hd_model.proofs.WeakSlots.{idle_found}
 use Rattle.hd_model.proofs.Outcomes.{on_field_cases, on_handle_cases, on_handle_of_cases, on_object_cases, option_cases, test_cases}
 use Rattle.hd_audit.proofs.ChoiceLines.{IsLow, IsLowGrowth, IsLowSlot}
+use Rattle.hd_model.specs.declared.limits.TheConstants.{BLOCKS, CALLERS, ROWS}
 
 -- the address in a reply
 abbrev place_of : Reply → Option ℕ
@@ -63,7 +64,7 @@ is_there (Some x) d h = refl
 root_is : {s : State} (goal : Id) (r : Reply) → ReturnsRoot s goal r → place_of r ≡ None
 root_is goal r is_root = ⊎_elim (λ chain. ap place_of chain.reply_is) (λ none. ap place_of none.1) is_root
 
-module _ (n : Numbers) (s : State) (w : IsWellFormed n s) (few : n.blocks ≤ 256) where
+module _ (n : Numbers) (s : State) (w : IsWellFormed n s) (few : n.blocks ≤ BLOCKS) where
   used_low : (slot : Slot) → IsSome (use_of s (block_of slot)) → slot.0 < 2 ^ 32
   used_low slot used = let within = (w.handles.blocks (block_of slot) used).1 in omega (arith, within, few)
 
@@ -78,7 +79,7 @@ module _ (n : Numbers) (s : State) (w : IsWellFormed n s) (few : n.blocks ≤ 25
 
   first_low : (slot : Slot) (block : ℕ) → block ≤ n.blocks → slot ≡ first_slot block → slot.0 < 2 ^ 32
   first_low slot block within is =
-      let number : slot.0 ≡ block * 64 = ap (λ (x : Slot). x.0) is in omega (arith, number, within, few)
+      let number : slot.0 ≡ block * ROWS = ap (λ (x : Slot). x.0) is in omega (arith, number, within, few)
 
   given_low : (wanted : Kind) (grown : Grown) (slot : Slot) → MayGive n s wanted grown slot
       → (slot.0 < 2 ^ 32) × IsLowGrowth grown
@@ -302,7 +303,7 @@ module _ (n : Numbers) (s : State) (w : IsWellFormed n s) (few : n.blocks ≤ 25
         (λ goal named. plain is.found s (root_is goal is.found (is.is_root goal named)))) is.outcome
 
     -- the numbers of a step's entry that are read off its line are below 2^32
-    pub step_low : (e : Entry) (t : State) → n.callers ≤ 16 → Step n s e t → IsLow e
+    pub step_low : (e : Entry) (t : State) → n.callers ≤ CALLERS → Step n s e t → IsLow e
     step_low e t callers step =
         let low = of_way e t (way_of s e.caller e.cmd) (way_plain e.caller e.cmd) step.does in
         record {

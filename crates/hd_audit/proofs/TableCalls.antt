@@ -13,6 +13,7 @@ use Rattle.hd_audit.specs.View.{handle_of, use_of}
 use Rattle.hd_audit.specs.Judge.{TableView}
 use Rattle.hd_audit.specs.Inside.{IsLeast, IsTable, rows_in, uses_in, slots_of}
 use Rattle.hd_audit.proofs.RowMaps.{get-seen, put-seen, clear-seen, count_put, count_taken, none-seen, within-seen, len-put_old, len-some, len-seen}
+use Rattle.hd_model.specs.declared.limits.TheConstants.{BLOCKS, ROWS}
 
 -- the table of a number of blocks with these handles and uses
 abbrev pub seen : ℕ → List (Option Row) → List (Option Use) → TableView
@@ -186,15 +187,15 @@ module _ {count : ℕ} {rows : List (Option Row)} {some : ℕ} {uses : List (Opt
       ∙ (λ i. record (view i) { uses = remove (view i).uses k })
 
 -- a table in which nothing is yet
-pub opened : (count : ℕ) (rows : List (Option Row)) (uses : List (Option Use)) → count ≤ 256
-    → rows ≡ replicate (64 * (count + 1)) None → uses ≡ replicate (count + 1) None
+pub opened : (count : ℕ) (rows : List (Option Row)) (uses : List (Option Use)) → count ≤ BLOCKS
+    → rows ≡ replicate (ROWS * (count + 1)) None → uses ≡ replicate (count + 1) None
     → IsTable count rows 0 uses 0
 opened count rows uses limit no_rows no_uses = record {
   limit = limit;
-  slots = ap length no_rows ∙ length-replicate (64 * (count + 1)) None;
+  slots = ap length no_rows ∙ length-replicate (ROWS * (count + 1)) None;
   blocks = ap length no_uses ∙ length-replicate (count + 1) None;
   live =
-      sym (ap (λ xs. len (rows_in xs)) no_rows ∙ ap len (none-seen handle_of (64 * (count + 1)))
+      sym (ap (λ xs. len (rows_in xs)) no_rows ∙ ap len (none-seen handle_of (ROWS * (count + 1)))
       ∙ len-empty nat_cmp (Handle Id));
   given =
       sym (ap (λ xs. len (uses_in xs)) no_uses ∙ ap len (none-seen use_of (count + 1))
@@ -202,9 +203,9 @@ opened count rows uses limit no_rows no_uses = record {
 }
 
 pub seen_open : (count : ℕ) (rows : List (Option Row)) (uses : List (Option Use))
-    → rows ≡ replicate (64 * (count + 1)) None → uses ≡ replicate (count + 1) None
+    → rows ≡ replicate (ROWS * (count + 1)) None → uses ≡ replicate (count + 1) None
     → seen count rows uses ≡ record { blocks = count; handles = map.empty; uses = map.empty }
 seen_open count rows uses no_rows no_uses =
-    let handles = ap rows_in no_rows ∙ none-seen handle_of (64 * (count + 1)) in
+    let handles = ap rows_in no_rows ∙ none-seen handle_of (ROWS * (count + 1)) in
     let uses = ap uses_in no_uses ∙ none-seen use_of (count + 1) in
     λ i. record { blocks = count; handles = handles i; uses = uses i }

@@ -18,7 +18,7 @@ use Rattle.hd_audit.specs.declared.choice.Choice.{Choice}
 use Rattle.hd_audit.specs.SoFar.{IsJudged}
 use Rattle.hd_audit.specs.Choice.{HasChoice, choice_in}
 use Rattle.hd_audit.proofs.JudgedLines.{NextEntry, judged_more, next_entry}
-use Rattle.hd_audit.proofs.Verdicts.{line_after, run_text, wrong_end}
+use Rattle.hd_audit.proofs.LineVerdicts.{line_after, run_text, wrong_end}
 
 -- the number of a caller's next entry, by a count that was read
 pub number_read : {n : Numbers} {lists : List (List Cmd)} {s : State} {done : List ℕ} {left collections : ℕ}

@@ -18,6 +18,7 @@ use Rattle.hd_audit.specs.Judge.{WeakView}
 use Rattle.hd_audit.specs.Inside.{IsWeak, HasEntry, IsUnnamed, held_in, slots_of, slot_with, idle_in}
 use Rattle.hd_audit.specs.Neighbours.{IsLeastKey}
 use Rattle.hd_audit.proofs.RowMaps.{get-seen, put-seen, none-seen, within-seen}
+use Rattle.hd_model.specs.declared.limits.TheConstants.{BLOCKS, ROWS}
 
 abbrev Held : Type 0
 Held = FinMap nat_cmp (Option (WeakEntry Id))
@@ -257,11 +258,11 @@ module _ {count : ℕ} {slots : List (Option (Option Pair))} {keys : FinMap nat_
 
 -- a weak table that holds nothing
 pub opened : (count : ℕ) (slots : List (Option (Option Pair))) (keys : FinMap nat_cmp ℕ)
-    (free : FinMap nat_cmp (Unit {0})) → count ≤ 256 → slots ≡ replicate (64 * (count + 1)) None
+    (free : FinMap nat_cmp (Unit {0})) → count ≤ BLOCKS → slots ≡ replicate (ROWS * (count + 1)) None
     → keys ≡ map.empty → free ≡ map.empty → IsWeak count slots keys free
 opened count slots keys free limit no_slots no_keys no_free = record {
   limit = limit;
-  size = ap length no_slots ∙ length-replicate (64 * (count + 1)) None;
+  size = ap length no_slots ∙ length-replicate (ROWS * (count + 1)) None;
   keyed = λ slot e at. absurd (none-some (Some e) (sym (nothing slot) ∙ at));
   named = λ key slot at. absurd
       (none-some slot (sym (ap (λ m. get m key) no_keys ∙ get-empty nat_cmp key) ∙ at));
@@ -273,10 +274,11 @@ opened count slots keys free limit no_slots no_keys no_free = record {
     nothing : (slot : ℕ) → get (held_in slots) slot ≡ None
     nothing slot =
         ap (λ xs. get (held_in xs) slot) no_slots
-        ∙ ap (λ m. get m slot) (none-seen (option_map entry_of) (64 * (count + 1))) ∙ get-empty nat_cmp slot
+        ∙ ap (λ m. get m slot) (none-seen (option_map entry_of) (ROWS * (count + 1))) ∙ get-empty nat_cmp slot
 
-pub seen_open : (count : ℕ) (slots : List (Option (Option Pair))) → slots ≡ replicate (64 * (count + 1)) None
+pub seen_open : (count : ℕ) (slots : List (Option (Option Pair))) → slots ≡ replicate (ROWS * (count + 1))
+    None
     → seen count slots ≡ record { blocks = count; held = map.empty }
 seen_open count slots none =
-    let held = ap held_in none ∙ none-seen (option_map entry_of) (64 * (count + 1)) in
+    let held = ap held_in none ∙ none-seen (option_map entry_of) (ROWS * (count + 1)) in
     λ i. record { blocks = count; held = held i }

@@ -10,9 +10,9 @@ use Rattle.hd_model.specs.declared.data.Entry.{Entry}
 use Rattle.hd_audit.specs.declared.choice.Choice.{Choice}
 
 -- the bytes after the first mark
-abbrev pub after : ℕ → List ℕ → Option (List ℕ)
-after mark [] = None
-after mark (b ∷ bytes) = if b == mark then Some bytes else after mark bytes
+abbrev pub after_mark : ℕ → List ℕ → Option (List ℕ)
+after_mark mark [] = None
+after_mark mark (b ∷ bytes) = if b == mark then Some bytes else after_mark mark bytes
 
 -- the number with which bytes begin, after the digits of another, modulo 2^32
 abbrev pub leading_from : ℕ → List ℕ → ℕ
@@ -25,19 +25,21 @@ leading bytes = leading_from 0 bytes
 
 -- the slot, after its mark `@`
 abbrev pub slot_in : List ℕ → Option Slot
-slot_in line = option_map (λ rest. record { 0 = leading rest }) (after 64 line)
+slot_in line = option_map (λ rest. record { 0 = leading rest }) (after_mark 64 line)
 
 -- the blocks, after their mark `+` or `-`
 abbrev pub added_in : List ℕ → Grown
-added_in rest = option_map_or (λ more. Two (leading rest) (leading more)) (after 44 rest) (One (leading rest))
+added_in rest =
+    option_map_or (λ more. Two (leading rest) (leading more)) (after_mark 44 rest) (One (leading rest))
 
 abbrev pub grown_in : List ℕ → Grown
 grown_in line =
-    option_map_or added_in (after 43 line) (option_map_or (λ rest. Back (leading rest)) (after 45 line) Zero)
+    option_map_or added_in (after_mark 43 line)
+    (option_map_or (λ rest. Back (leading rest)) (after_mark 45 line) Zero)
 
 -- the number of the fourth word
 abbrev pub after_blank : List ℕ → List ℕ
-after_blank bytes = unwrap_or (after 32 bytes) []
+after_blank bytes = unwrap_or (after_mark 32 bytes) []
 
 abbrev pub place_in : List ℕ → ℕ
 place_in line = leading (after_blank (after_blank (after_blank line)))

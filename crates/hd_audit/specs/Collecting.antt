@@ -1,9 +1,10 @@
 -- What a collection of the judge finds before it changes anything, as lists, and what it then does to the
 -- state.
-use Rattle.std.specs.Prelude.{◌≡◌, ◌≢◌, ℕ, ◌<◌, ◌≤◌, ◌^◌, ◌==◌, ◌&&◌, ◌++◌, ◌+◌, length, not, nat_le, Bool, true, false, List, map, Option, Some, None, option_map, is_some, Contains, AllPairs, Decides}
+use Rattle.std.specs.Prelude.{◌≡◌, ◌≢◌, ℕ, ◌<◌, ◌≤◌, ◌^◌, ◌==◌, ◌&&◌, ◌++◌, ◌+◌, ◌*◌, length, not, nat_le, Bool, true, false, List, map, Option, Some, None, option_map, is_some, Contains, AllPairs, Decides}
 use Rattle.std.specs.FinMap.{FinMap, get}
 use Rattle.std.specs.Ordering.{nat_cmp}
 use Rattle.hd_model.specs.{declared.data.Id.Id, declared.data.Report.Report}
+use Rattle.hd_model.specs.declared.limits.TheConstants.{BLOCKS, ROWS}
 use Rattle.hd_model.specs.State.{Object, Handle, WeakEntry, State, without_secondary}
 use Rattle.hd_model.specs.Role.{Role, holds, short, long, attaches, role}
 use Rattle.hd_model.specs.Collect.{is_lost}
@@ -88,11 +89,16 @@ Passing test = Lists (λ k. test k ≡ true)
 abbrev pub emptied : Handle Id → Handle Id
 emptied h = record { kind = h.kind; target = None; extra = without_secondary h.extra }
 
-abbrev pub taken_off : Object Id → Object Id
-taken_off o = record { fields = o.fields; value = o.value; generation = o.generation; registered = false }
+abbrev pub unregistered_object : Object Id → Object Id
+unregistered_object o = record {
+  fields = o.fields;
+  value = o.value;
+  generation = o.generation;
+  registered = false;
+}
 
-abbrev pub grown_up : ℕ → Object Id → Object Id
-grown_up n o = record {
+abbrev pub raised_object : ℕ → Object Id → Object Id
+raised_object n o = record {
   fields = o.fields;
   value = o.value;
   generation = raised n o.generation;
@@ -156,8 +162,8 @@ pub record Applies (n : ℕ) (f : Findings) (s t : State) : Type 0 where
   pub places : ChangesAt gone f.unpinned s.places t.places
   pub unregistered : FinMap nat_cmp (Object Id)
   pub risen : FinMap nat_cmp (Object Id)
-  pub joins : ChangesAt (option_map taken_off) f.joins s.objects unregistered
-  pub survivors : ChangesAt (option_map (grown_up n)) f.kept unregistered risen
+  pub joins : ChangesAt (option_map unregistered_object) f.joins s.objects unregistered
+  pub survivors : ChangesAt (option_map (raised_object n)) f.kept unregistered risen
   pub objects : ChangesAt gone f.removed risen t.objects
   pub rest : t ≡ record s {
     objects = t.objects;
@@ -176,10 +182,10 @@ pub record IsFound (n : ℕ) (s : State) (f : Findings) : Type 0 where
   pub finds : Finds n s reach kept f
 
 pub record AreFew (f : Findings) : Type 0 where
-  pub short : length f.short ≤ 16448
-  pub long : length f.long ≤ 16448
-  pub dep : length f.dep ≤ 16448
-  pub entries : length f.entries ≤ 16448
+  pub short : length f.short ≤ ROWS * (BLOCKS + 1)
+  pub long : length f.long ≤ ROWS * (BLOCKS + 1)
+  pub dep : length f.dep ≤ ROWS * (BLOCKS + 1)
+  pub entries : length f.entries ≤ ROWS * (BLOCKS + 1)
   pub joins : length f.joins < 2 ^ 32
   pub kept : length f.kept < 2 ^ 32
   pub removed : length f.removed < 2 ^ 32

@@ -10,7 +10,7 @@ use Rattle.hd_audit.specs.declared.collecting.SlotTest.{SlotTest}
 use Rattle.hd_audit.specs.declared.collecting.SlotTest.TheVariants as slot_test
 use Rattle.hd_audit.specs.declared.collecting.Test.{Test}
 use Rattle.hd_audit.specs.declared.collecting.Test.TheVariants as test
-use Rattle.hd_audit.specs.Collecting.{Findings, gone, grown_up, is_outside, loses_at, removed_at, resurrects_at, stale_at, survives_at, taken_off}
+use Rattle.hd_audit.specs.Collecting.{Findings, gone, raised_object, is_outside, loses_at, removed_at, resurrects_at, stale_at, survives_at, unregistered_object}
 
 abbrev pub findings_of : Found → Findings
 findings_of f = record {
@@ -38,6 +38,6 @@ passes test.IsOutside marked s = is_outside marked
 
 -- an object after a change
 abbrev pub changed_by : Change → Option (Object Id) → Option (Object Id)
-changed_by change.TakesOff = option_map taken_off
-changed_by (change.Raises n) = option_map (grown_up n)
+changed_by change.Unregisters = option_map unregistered_object
+changed_by (change.Raises n) = option_map (raised_object n)
 changed_by change.Removes = gone

@@ -1,7 +1,7 @@
 // What a line states of its entry beside the reply. It is read loosely: the line is compared with
 // that of the entry afterwards.
 ghost use Rattle.std.specs.Prelude.{◌≡◌, option_map};
-ghost use Rattle.hd_audit.specs.Choice.{after, leading, slot_in, grown_in, after_blank, place_in, choice_in};
+ghost use Rattle.hd_audit.specs.Choice.{after_mark, leading, slot_in, grown_in, after_blank, place_in, choice_in};
 
 use hd_model::{Grown, Slot};
 
@@ -32,7 +32,7 @@ impl Choice {
 fn slot_in(line: &[u8]) -> Option<Slot>
     ensures { result ≡ slot_in line.now }
 {
-    match after(line, b'@') {
+    match after_mark(line, b'@') {
         Some(rest) => Some(Slot(leading(rest))),
         None => None,
     }
@@ -42,13 +42,13 @@ fn slot_in(line: &[u8]) -> Option<Slot>
 fn grown_in(line: &[u8]) -> Grown
     ensures { result ≡ grown_in line.now }
 {
-    if let Some(rest) = after(line, b'+') {
-        return match after(rest, b',') {
+    if let Some(rest) = after_mark(line, b'+') {
+        return match after_mark(rest, b',') {
             Some(more) => Grown::Two(leading(rest), leading(more)),
             None => Grown::One(leading(rest)),
         };
     }
-    match after(line, b'-') {
+    match after_mark(line, b'-') {
         Some(rest) => Grown::Back(leading(rest)),
         None => Grown::Zero,
     }
@@ -65,15 +65,15 @@ fn place_in(line: &[u8]) -> u32
 fn after_blank(bytes: &[u8]) -> &[u8]
     ensures { result.now ≡ after_blank bytes.now }
 {
-    match after(bytes, b' ') {
+    match after_mark(bytes, b' ') {
         Some(rest) => rest,
         None => &[],
     }
 }
 
 // The bytes after the first mark.
-fn after(bytes: &[u8], mark: u8) -> Option<&[u8]>
-    ensures { option_map (λ rest. rest.now) result ≡ after mark bytes.now }
+fn after_mark(bytes: &[u8], mark: u8) -> Option<&[u8]>
+    ensures { option_map (λ rest. rest.now) result ≡ after_mark mark bytes.now }
 {
     let mut rest = bytes;
     'bytes: while let Some((first, more)) = rest.split_first() {

@@ -1,12 +1,12 @@
 // A collection. First it finds, by what is reached and what is kept, all that it is to change, as
 // lists; then it changes that.
-ghost use Rattle.std.specs.Prelude.{◌≡◌, ◌≢◌, ℕ, ◌+◌, ◌<◌, ◌≤◌, ◌^◌, [], ◌∷◌, ◌++◌, cond, filter, map, option_map, length, slice_index, Some, None, IsSome, IfOk, AllPairs};
+ghost use Rattle.std.specs.Prelude.{◌≡◌, ◌≢◌, ℕ, ◌+◌, ◌*◌, ◌<◌, ◌≤◌, ◌^◌, [], ◌∷◌, ◌++◌, cond, filter, map, option_map, length, slice_index, Some, None, IsSome, IfOk, AllPairs};
 ghost use Rattle.std.specs.FinMap.{get, keys};
-ghost use Rattle.hd_model.specs.declared.limits.TheConstants.{OLDEST, REGISTERS};
+ghost use Rattle.hd_model.specs.declared.limits.TheConstants.{BLOCKS, OLDEST, REGISTERS, ROWS};
 ghost use Rattle.hd_model.specs.{Ages.raised, Collect.CollectsState, Reach.IsRoot, Scene.scene_of, WellFormed.IsWellFormed};
 ghost use Rattle.hd_audit.specs.{Inside.slots_of, Marked.is_marked, View.role_as};
 ghost use Rattle.hd_audit.specs.Marking.{AddsEach, AddsMarks, Below, IsInRegisters, no_marks, older_at, pinned_at};
-ghost use Rattle.hd_audit.specs.Collecting.{Applies, AreFew, ChangesAt, IsFound, IsOnce, Passing, emptied, gone, grown_up, id_of, idled, is_role, is_unpinned, loses_at, removed_at, report_of, resurrects_at, role_number, stale_at, survives_at, taken_off};
+ghost use Rattle.hd_audit.specs.Collecting.{Applies, AreFew, ChangesAt, IsFound, IsOnce, Passing, emptied, gone, raised_object, id_of, idled, is_role, is_unpinned, loses_at, removed_at, report_of, resurrects_at, role_number, stale_at, survives_at, unregistered_object};
 ghost use Rattle.hd_audit.specs.Found.{changed_by, findings_of, passes, slot_passes};
 
 use crate::data::Role;
@@ -52,7 +52,7 @@ enum Test {
 // is raised by a collection of one, or it is removed.
 #[derive(Clone, Copy)]
 enum Change {
-    TakesOff,
+    Unregisters,
     Raises(u8),
     Removes,
 }
@@ -134,7 +134,7 @@ impl Machine {
         self.empty(&found.long);
         self.empty(&found.dep);
         self.forget(&found.unpinned);
-        self.change_objects(Change::TakesOff, &found.joins);
+        self.change_objects(Change::Unregisters, &found.joins);
         self.change_objects(Change::Raises(n), &found.kept);
         self.change_objects(Change::Removes, &found.removed);
         Ok(())
@@ -143,7 +143,7 @@ impl Machine {
     // The number of slots that there may be.
     fn slots(&self) -> u32
         ensures value { result ≡ slots_of self.now.numbers.blocks }
-        ensures few { result ≤ 16448 }
+        ensures few { result ≤ ROWS * (BLOCKS + 1) }
         ensures handles { (slot : ℕ) → IsSome (get self.now.state.handles slot) → slot < result }
         ensures entries { (slot : ℕ) → IsSome (get self.now.state.weak slot) → slot < result }
     {
@@ -230,7 +230,7 @@ impl Machine {
     fn slots_passing(&self, test: SlotTest, marks: &Marks) -> Result<Vec<u32>, Memory>
         ensures slots { IfOk result (λ slots.
             Passing (slot_passes test (is_marked marks.now) self.now.state) slots.items) }
-        ensures few { IfOk result (λ slots. length slots.items ≤ 16448) }
+        ensures few { IfOk result (λ slots. length slots.items ≤ ROWS * (BLOCKS + 1)) }
     {
         let mut slots = Vec::new(self.alloc);
         for slot in 0..self.slots() {
@@ -443,15 +443,15 @@ impl Machine {
             self.new ≡ record self.old { state = record self.old.state { objects = objects } } }
     {
         match change {
-            Change::TakesOff => self.take_off(id),
+            Change::Unregisters => self.unregister(id),
             Change::Raises(n) => self.raise(n, id),
             Change::Removes => self.remove_object(id),
         }
     }
 
     // An object, if there is one, is registered for finalization no longer.
-    fn take_off(&mut self, id: u64)
-        ensures each { ChangesAt (option_map taken_off) (id ∷ []) self.old.state.objects
+    fn unregister(&mut self, id: u64)
+        ensures each { ChangesAt (option_map unregistered_object) (id ∷ []) self.old.state.objects
             self.new.state.objects }
         ensures rest { let objects = self.new.state.objects in
             self.new ≡ record self.old { state = record self.old.state { objects = objects } } }
@@ -474,7 +474,7 @@ impl Machine {
 
     // Raises the generation of an object, if there is one.
     fn raise(&mut self, n: u8, id: u64)
-        ensures each { ChangesAt (option_map (grown_up n)) (id ∷ []) self.old.state.objects
+        ensures each { ChangesAt (option_map (raised_object n)) (id ∷ []) self.old.state.objects
             self.new.state.objects }
         ensures rest { let objects = self.new.state.objects in
             self.new ≡ record self.old { state = record self.old.state { objects = objects } } }

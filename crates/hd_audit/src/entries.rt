@@ -8,7 +8,7 @@ use crate::choice::Choice;
 use crate::data::WeakEntry;
 use crate::machine::Machine;
 use crate::made::Made;
-use crate::making::{grow, may_give, table_full};
+use crate::making::{may_give, table_full, use_blocks};
 use hd_model::limits::REGISTERS;
 use hd_model::{Grown, Kind, Memory, Refusal, Reply};
 
@@ -45,7 +45,7 @@ pub(crate) fn add_entry(
     if !may_give(machine, Kind::Dependent, choice.grown, slot) {
         return Ok(None);
     }
-    grow(machine, Kind::Dependent, choice.grown);
+    use_blocks(machine, Kind::Dependent, choice.grown);
     machine.put_entry(slot, entry)?;
     Ok(Some(Ok(Made::in_slot(slot, choice.grown))))
 }

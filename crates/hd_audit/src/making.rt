@@ -83,7 +83,7 @@ pub(crate) fn may_give(machine: &Machine, kind: Kind, grown: Grown, slot: Slot) 
 }
 
 /// Uses the blocks by which the table grows.
-pub(crate) fn grow(machine: &mut Machine, kind: Kind, grown: Grown)
+pub(crate) fn use_blocks(machine: &mut Machine, kind: Kind, grown: Grown)
     requires { Grows machine.old kind grown }
     ensures { let after = with_growth machine.old.state kind grown in
         machine.new ≡ record machine.old { state = after } }
@@ -139,7 +139,7 @@ pub(crate) fn make_handle(
     }
     let target = machine.register(caller, t);
     let extra = extra_by(machine, caller, make, target);
-    grow(machine, kind, choice.grown);
+    use_blocks(machine, kind, choice.grown);
     let handle = Handle {
         kind,
         target,

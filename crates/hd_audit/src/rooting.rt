@@ -1,5 +1,5 @@
 // The search for why an object lives: breadth first from the anchors, which are taken by identity.
-// So an object is first come by along a shortest chain, and along one from the least anchor that
+// So an object is first found along a shortest chain, and along one from the least anchor that
 // has one.
 ghost use Rattle.std.specs.Prelude.{◌≡◌, ℕ, ◌<◌, ◌^◌, ◌↔◌, [], ◌∷◌, Option, Some, IfOk, MatchOption, AllPairs, Contains};
 ghost use Rattle.std.specs.FinMap as map;
@@ -28,7 +28,7 @@ struct Origin {
     edges: u64,
 }
 
-// The objects that were come by, and those whose edges are still to be followed.
+// The found objects, and those whose edges are still to be followed.
 #[derive(Drop)]
 struct Search {
     found: Numbered<Origin>,
@@ -36,11 +36,11 @@ struct Search {
 }
 
 impl Model for Search {
-    ghost use Rattle.hd_audit.specs.Searching.{Found, found_code};
+    ghost use Rattle.hd_audit.specs.Searching.{SearchView, search_view_code};
 
-    ghost Value = { Found };
+    ghost Value = { SearchView };
 
-    ghost coded = { found_code };
+    ghost coded = { search_view_code };
 
     ghost view = { λ s. record { left = s.left.items; found = s.found } };
 }
@@ -55,8 +55,8 @@ impl Search {
         }
     }
 
-    // Comes by an object, unless it did before.
-    fn come_by(&mut self, id: u64, origin: Origin) -> Result<(), Memory>
+    // Adds an object, if it is not among the found ones.
+    fn add(&mut self, id: u64, origin: Origin) -> Result<(), Memory>
         ensures { IfOk result (λ _. self.new ≡ with_origin self.old id origin) }
     {
         if self.found.has(id) {
@@ -69,17 +69,17 @@ impl Search {
         }
     }
 
-    // Comes by what is referenced, if anything.
-    fn come_by_some(&mut self, target: Option<Id>, origin: Origin) -> Result<(), Memory>
+    // Adds what is referenced, if anything.
+    fn add_some(&mut self, target: Option<Id>, origin: Origin) -> Result<(), Memory>
         ensures { IfOk result (λ _. self.new ≡ with_reference self.old target origin) }
     {
         match target {
-            Some(id) => self.come_by(id.0, origin),
+            Some(id) => self.add(id.0, origin),
             None => Ok(()),
         }
     }
 
-    // Comes by the anchors.
+    // Adds the anchors.
     fn start(&mut self, anchors: &[u64]) -> Result<(), Memory>
         ensures started { IfOk result (λ _. self.new ≡ with_starts self.old anchors.now) }
         ensures small { IfOk result (λ _. (x : ℕ) → Contains anchors.now x → x < 2 ^ 64) }
@@ -89,7 +89,7 @@ impl Search {
                 from: Id(*id),
                 edges: 0,
             };
-            self.come_by(*id, origin)?;
+            self.add(*id, origin)?;
         }
         Ok(())
     }
@@ -125,7 +125,7 @@ impl Search {
         self.left.pop_front()
     }
 
-    // How an object was come by.
+    // The origin of an object, if it is found.
     fn origin(&self, id: u64) -> Option<Origin>
         ensures { result ≡ map.get self.now.found id }
     {
@@ -135,7 +135,7 @@ impl Search {
         }
     }
 
-    // Comes by what the fields of an object reference.
+    // Adds what the fields of an object reference.
     fn follow_fields(&mut self, machine: &Machine, id: u64, next: Origin) -> Result<(), Memory>
         ensures { let fields = fields_in (map.get machine.now.state.objects id) in
             IfOk result (λ _. self.new ≡ with_referenced self.old fields next) }
@@ -144,12 +144,12 @@ impl Search {
             return Ok(());
         };
         for field in &object.fields {
-            self.come_by_some(*field, next)?;
+            self.add_some(*field, next)?;
         }
         Ok(())
     }
 
-    // Comes by what is attached to an object.
+    // Adds what is attached to an object.
     fn follow_secondaries(
         &mut self,
         attached: &Attached,
@@ -163,7 +163,7 @@ impl Search {
             return Ok(());
         };
         for secondary in list {
-            self.come_by(*secondary, next)?;
+            self.add(*secondary, next)?;
         }
         Ok(())
     }

@@ -11,3 +11,4 @@ pub use Rattle.hd_cells.specs.Cells.{HoldsObject, IsBody, IsFirstIn, IsGap, IsIn
 pub use Rattle.hd_cells.specs.Headers.{IsEnd, IsHeader}
 pub use Rattle.hd_cells.specs.Object.{Object, new_object, no_object, with_field, with_registered, with_value}
 pub use Rattle.hd_cells.specs.Region.{Contents, IsFirstFrom, IsLaidOut, IsObject, empty_region, fields_at, object_at, with_object, with_put, without_object}
+pub use Rattle.hd_cells.specs.declared.cells.TheConstants.{CELLS, FIELDS, HEADER, NONE, PARTS, REGISTERED}

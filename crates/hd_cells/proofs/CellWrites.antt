@@ -1,5 +1,5 @@
 -- Lemmas on the writes into a region's cells: what callers see after each.
-use Rattle.hd_cells.proofs.Basics.{Bool, Contents, IsBody, IsGap, IsLaid, IsLaidOut, IsObject, IsTiled, IsWhole, List, None, Object, [], ap, arith, cases_eq, cell, cond, contents_of, count_at, drop, empty_region, ended, ext_get_or, extent_at, false, fields_at, get_or, get_or-drop, get_or-replicate, get_or-set_other, get_or-set_same, get_or-take, inl, inr, le-leb, leb, length, length-drop, length-replicate, length-set, length-take, lt-leb, nat_cmp, nat_cmp_total, new_object, object_at, objects_of, refl, replicate, set, subst, sym, take, true, with_field, with_object, with_put, with_registered, with_value, without_object, ℕ, ◌%◌, ◌++◌, ◌+◌, ◌<◌, ◌^◌, ◌∙◌, ◌∷◌, ◌≡◌, ◌≢◌, ◌≤◌}
+use Rattle.hd_cells.proofs.Basics.{Bool, CELLS, Contents, FIELDS, HEADER, IsBody, IsGap, IsLaid, IsLaidOut, IsObject, IsTiled, IsWhole, List, NONE, None, Object, PARTS, REGISTERED, [], ap, arith, cases_eq, cell, cond, contents_of, count_at, drop, empty_region, ended, ext_get_or, extent_at, false, fields_at, get_or, get_or-drop, get_or-replicate, get_or-set_other, get_or-set_same, get_or-take, inl, inr, le-leb, leb, length, length-drop, length-replicate, length-set, length-take, lt-leb, nat_cmp, nat_cmp_total, new_object, object_at, objects_of, refl, replicate, set, subst, sym, take, true, with_field, with_object, with_put, with_registered, with_value, without_object, ℕ, ◌%◌, ◌++◌, ◌+◌, ◌<◌, ◌^◌, ◌∙◌, ◌∷◌, ◌≡◌, ◌≢◌, ◌≤◌}
 use Rattle.hd_cells.specs.Cells.{object_in}
 use Rattle.hd_cells.proofs.RegionTiles.{extent_at-body, extent_at-gap, same_fields, longer_tiling, none_beyond, as_gap}
 use Rattle.hd_cells.proofs.Contents.{laid_region, laid_contents, get-objects, held, IsRead, changed_region, rewritten_region, empty_laid_out}
@@ -7,10 +7,11 @@ use Rattle.hd_cells.proofs.ObjectStarts.{empty_indexed, whole}
 use Rattle.std.specs.FinMap as map
 
 -- the fields and the registration that the second cell of an object encodes
-shape_parts : (n : ℕ) (on : Bool) (s : ℕ) → n < 256 → s ≡ cond on (n + 256) n → (s % 256 ≡ n) × (s < 512)
-    × (leb 256 s ≡ on)
-shape_parts n true s few e = (omega (arith, e), omega (arith, e), le-leb 256 s (omega (arith, e)))
-shape_parts n false s few e = (omega (arith, e), omega (arith, e), lt-leb 256 s (omega (arith, e)))
+shape_parts : (n : ℕ) (on : Bool) (s : ℕ) → n < REGISTERED → s ≡ cond on (n + REGISTERED) n
+    → (s % REGISTERED ≡ n) × (s < 512)
+    × (leb REGISTERED s ≡ on)
+shape_parts n true s few e = (omega (arith, e), omega (arith, e), le-leb REGISTERED s (omega (arith, e)))
+shape_parts n false s few e = (omega (arith, e), omega (arith, e), lt-leb REGISTERED s (omega (arith, e)))
 
 -- a write to one cell leaves each other cell
 other_cells : (c : List ℕ) (j v k : ℕ) → (k ≡ j → ⊥) → cell (set c j v) k ≡ cell c k
@@ -18,8 +19,8 @@ other_cells c j v k ne = get_or-set_other c j k v 0 ne
 
 module _ {c : List ℕ} {fill : ℕ} {r : Contents} (read : IsRead c fill r) (at : ℕ) (is : IsObject r at) where
   -- a write after the identity of an object, which stays an object of its length
-  one_cell_body : (j v : ℕ) → at < j → j < 256 → cell (set c j v) (at + 1) < 512
-      → count_at (set c j v) at ≡ count_at c at → (at + 3 ≤ j → v < 2 ^ 32) → IsBody (set c j v) at
+  one_cell_body : (j v : ℕ) → at < j → j < CELLS → cell (set c j v) (at + 1) < 512
+      → count_at (set c j v) at ≡ count_at c at → (at + HEADER ≤ j → v < 2 ^ 32) → IsBody (set c j v) at
   one_cell_body j v low inside shaped counts fits =
       let b = (held read at is).is_body in
       let len = read.len in
@@ -27,21 +28,22 @@ module _ {c : List ℕ} {fill : ℕ} {r : Contents} (read : IsRead c fill r) (at
         identified = λ e. b.identified (sym (other_cells c j v at (λ e. omega (arith, e))) ∙ e);
         shaped = shaped;
         few_fields = rw counts b.few_fields;
-        addresses = λ i below. elim (cases_eq (at + 3 + i) j) [
+        addresses = λ i below. elim (cases_eq (at + HEADER + i) j) [
           | inl same ↦
               let P : ℕ → Type 0 = λ k. cell (set c j v) k < 2 ^ 32 in
               let written : cell (set c j v) j ≡ v = get_or-set_same c j v 0 (omega arith) in
               let value : v < 2 ^ 32 = fits (omega arith) in
               subst P (sym same) (rw written value)
           | inr other ↦
-              let kept : cell (set c j v) (at + 3 + i) ≡ cell c (at + 3 + i) =
-              other_cells c j v (at + 3 + i) other in
+              let kept : cell (set c j v) (at + HEADER + i) ≡ cell c (at + HEADER + i) =
+              other_cells c j v (at + HEADER + i) other in
               rw kept (b.addresses i (omega arith))
         ];
       }
 
-  pub one_cell_written : (j v : ℕ) (o : Object) → at < j → j < at + (count_at c at + 3)
-      → cell (set c j v) (at + 1) < 512 → count_at (set c j v) at ≡ count_at c at → (at + 3 ≤ j → v < 2 ^ 32)
+  pub one_cell_written : (j v : ℕ) (o : Object) → at < j → j < at + (count_at c at + HEADER)
+      → cell (set c j v) (at + 1) < 512 → count_at (set c j v) at ≡ count_at c at
+      → (at + HEADER ≤ j → v < 2 ^ 32)
       → object_in (set c j v) at ≡ o → IsRead (set c j v) fill (with_object r at o)
   one_cell_written j v o low high shaped counts fits e =
       let h = held read at is in
@@ -71,22 +73,23 @@ module _ {c : List ℕ} {fill : ℕ} {r : Contents} (read : IsRead c fill r) (at
       let len = read.len in
       let first = other_cells c (at + 2) v at (λ e. omega (arith, e)) in
       let shape = other_cells c (at + 2) v (at + 1) (λ e. omega (arith, e)) in
-      let counts : count_at (set c (at + 2) v) at ≡ count_at c at = ap (λ (x : ℕ). x % 256) shape in
+      let counts : count_at (set c (at + 2) v) at ≡ count_at c at = ap (λ (x : ℕ). x % REGISTERED) shape in
       let b = h.is_body in
       let identities : cell (set c (at + 2) v) at ≡ (object_at r at).identity = first ∙ sym h.identity in
-      let fields : take (count_at (set c (at + 2) v) at) (drop (at + 3) (set c (at + 2) v)) ≡ fields_at r at =
+      let fields : take (count_at (set c (at + 2) v) at) (drop (at + HEADER) (set c (at + 2) v)) ≡ fields_at r
+      at =
       same_fields c (set c (at + 2) v) at (count_at c at) (count_at (set c (at + 2) v) at)
       (length-set c (at + 2) v) counts (λ k low high. other_cells c (at + 2) v k (λ e. omega (arith, e)))
       ∙ sym h.fields in
       let values : cell (set c (at + 2) v) (at + 2) ≡ v = get_or-set_same c (at + 2) v 0 (omega arith) in
-      let flags : leb 256 (cell (set c (at + 2) v) (at + 1)) ≡ (object_at r at).registered =
-      ap (leb 256) shape ∙ sym h.registered in
+      let flags : leb REGISTERED (cell (set c (at + 2) v) (at + 1)) ≡ (object_at r at).registered =
+      ap (leb REGISTERED) shape ∙ sym h.registered in
       one_cell_written (at + 2) v (with_value (object_at r at) v) (omega arith) (omega arith)
       (rw shape b.shaped) counts (λ low. absurd (omega arith))
       (λ i. record { identity = identities i; fields = fields i; value = values i; registered = flags i })
 
   -- the registration
-  pub registration_written : (on : Bool) (s : ℕ) → s ≡ cond on (count_at c at + 256) (count_at c at)
+  pub registration_written : (on : Bool) (s : ℕ) → s ≡ cond on (count_at c at + CELLS) (count_at c at)
       → IsRead (set c (at + 1) s) fill (with_object r at (with_registered (object_at r at) on))
   unfolding object_in
   registration_written on s is_shape =
@@ -100,50 +103,53 @@ module _ {c : List ℕ} {fill : ℕ} {r : Contents} (read : IsRead c fill r) (at
       let first = other_cells c (at + 1) s at (λ e. omega (arith, e)) in
       let shape : cell (set c (at + 1) s) (at + 1) ≡ s = get_or-set_same c (at + 1) s 0 (omega arith) in
       let third = other_cells c (at + 1) s (at + 2) (λ e. omega (arith, e)) in
-      let counts : count_at (set c (at + 1) s) at ≡ count_at c at = ap (λ (x : ℕ). x % 256) shape ∙ parts.0 in
+      let counts : count_at (set c (at + 1) s) at ≡ count_at c at =
+      ap (λ (x : ℕ). x % REGISTERED) shape ∙ parts.0 in
       let identities : cell (set c (at + 1) s) at ≡ (object_at r at).identity = first ∙ sym h.identity in
-      let fields : take (count_at (set c (at + 1) s) at) (drop (at + 3) (set c (at + 1) s)) ≡ fields_at r at =
+      let fields : take (count_at (set c (at + 1) s) at) (drop (at + HEADER) (set c (at + 1) s)) ≡ fields_at r
+      at =
       same_fields c (set c (at + 1) s) at (count_at c at) (count_at (set c (at + 1) s) at)
       (length-set c (at + 1) s) counts (λ k low high. other_cells c (at + 1) s k (λ e. omega (arith, e)))
       ∙ sym h.fields in
       let values : cell (set c (at + 1) s) (at + 2) ≡ (object_at r at).value = third ∙ sym h.value in
-      let flags : leb 256 (cell (set c (at + 1) s) (at + 1)) ≡ on = ap (leb 256) shape ∙ parts.2 in
+      let flags : leb REGISTERED (cell (set c (at + 1) s) (at + 1)) ≡ on = ap (leb REGISTERED) shape ∙ parts.2
+      in
       one_cell_written (at + 1) s (with_registered (object_at r at) on) (omega arith) (omega arith)
       (rw shape parts.1) counts (λ low. absurd (omega arith))
       (λ i. record { identity = identities i; fields = fields i; value = values i; registered = flags i })
 
   -- the fields after a write to one of them
   fields_written : (i v : ℕ) → i < count_at c at → (m : ℕ) → m ≡ count_at c at
-      → take m (drop (at + 3) (set c (at + 3 + i) v)) ≡ set (fields_at r at) i v
+      → take m (drop (at + HEADER) (set c (at + HEADER + i) v)) ≡ set (fields_at r at) i v
   fields_written i v below m e =
       let h = held read at is in
       let end = h.high in
       let within = h.within in
       let len = read.len in
       let count = h.count in
-      let d = set c (at + 3 + i) v in
-      let length_d : length d ≡ length c = length-set c (at + 3 + i) v in
-      let length_new = length-take m (drop (at + 3) d) in
-      let length_rest = length-drop (at + 3) d in
+      let d = set c (at + HEADER + i) v in
+      let length_d : length d ≡ length c = length-set c (at + HEADER + i) v in
+      let length_new = length-take m (drop (at + HEADER) d) in
+      let length_rest = length-drop (at + HEADER) d in
       let length_set = length-set (fields_at r at) i v in
       ext_get_or 0 _ _ (omega arith) (λ k short.
       let inside : k < m = omega arith in
-      let read : get_or (take m (drop (at + 3) d)) k 0 ≡ cell d (at + 3 + k) =
-      get_or-take m (drop (at + 3) d) k 0 inside ∙ get_or-drop (at + 3) d k 0 in
+      let read : get_or (take m (drop (at + HEADER) d)) k 0 ≡ cell d (at + HEADER + k) =
+      get_or-take m (drop (at + HEADER) d) k 0 inside ∙ get_or-drop (at + HEADER) d k 0 in
       elim (cases_eq k i) [
         | inl same ↦
-            let P : ℕ → Type 0 = λ n. cell d (at + 3 + n) ≡ get_or (set (fields_at r at) i v) n 0 in
-            read ∙ subst P (sym same) (get_or-set_same c (at + 3 + i) v 0 (omega arith)
+            let P : ℕ → Type 0 = λ n. cell d (at + HEADER + n) ≡ get_or (set (fields_at r at) i v) n 0 in
+            read ∙ subst P (sym same) (get_or-set_same c (at + HEADER + i) v 0 (omega arith)
             ∙ sym (get_or-set_same (fields_at r at) i v 0 (omega arith)))
         | inr other ↦
-            read ∙ other_cells c (at + 3 + i) v (at + 3 + k) (λ e. other (omega (arith, e)))
+            read ∙ other_cells c (at + HEADER + i) v (at + HEADER + k) (λ e. other (omega (arith, e)))
             ∙ sym (h.field k (omega arith))
             ∙ sym (get_or-set_other (fields_at r at) i k v 0 other)
       ])
 
   -- a field
   pub field_written : (i v : ℕ) → i < length (fields_at r at) → v < 2 ^ 32
-      → IsRead (set c (at + 3 + i) v) fill (with_object r at (with_field (object_at r at) i v))
+      → IsRead (set c (at + HEADER + i) v) fill (with_object r at (with_field (object_at r at) i v))
   unfolding object_in
   field_written i v below fits =
       let h = held read at is in
@@ -152,18 +158,18 @@ module _ {c : List ℕ} {fill : ℕ} {r : Contents} (read : IsRead c fill r) (at
       let len = read.len in
       let count = h.count in
       let b = h.is_body in
-      let d = set c (at + 3 + i) v in
-      let first = other_cells c (at + 3 + i) v at (λ e. omega (arith, e)) in
-      let shape = other_cells c (at + 3 + i) v (at + 1) (λ e. omega (arith, e)) in
-      let third = other_cells c (at + 3 + i) v (at + 2) (λ e. omega (arith, e)) in
-      let counts : count_at d at ≡ count_at c at = ap (λ (x : ℕ). x % 256) shape in
+      let d = set c (at + HEADER + i) v in
+      let first = other_cells c (at + HEADER + i) v at (λ e. omega (arith, e)) in
+      let shape = other_cells c (at + HEADER + i) v (at + 1) (λ e. omega (arith, e)) in
+      let third = other_cells c (at + HEADER + i) v (at + 2) (λ e. omega (arith, e)) in
+      let counts : count_at d at ≡ count_at c at = ap (λ (x : ℕ). x % REGISTERED) shape in
       let identities : cell d at ≡ (object_at r at).identity = first ∙ sym h.identity in
-      let fields : take (count_at d at) (drop (at + 3) d) ≡ set (fields_at r at) i v =
+      let fields : take (count_at d at) (drop (at + HEADER) d) ≡ set (fields_at r at) i v =
       fields_written i v (omega arith) (count_at d at) counts in
       let values : cell d (at + 2) ≡ (object_at r at).value = third ∙ sym h.value in
-      let flags : leb 256 (cell d (at + 1)) ≡ (object_at r at).registered = ap (leb 256) shape
+      let flags : leb REGISTERED (cell d (at + 1)) ≡ (object_at r at).registered = ap (leb REGISTERED) shape
       ∙ sym h.registered in
-      one_cell_written (at + 3 + i) v (with_field (object_at r at) i v) (omega arith) (omega arith)
+      one_cell_written (at + HEADER + i) v (with_field (object_at r at) i v) (omega arith) (omega arith)
       (rw shape b.shaped) counts (λ low. fits)
       (λ j. record { identity = identities j; fields = fields j; value = values j; registered = flags j })
 
@@ -177,7 +183,7 @@ reset_seen c = laid_contents (reset_laid c) map.empty refl
 pub reset_laid_out : (c : List ℕ) → IsLaidOut (contents_of c 0)
 reset_laid_out c = subst IsLaidOut (sym (reset_seen c)) empty_laid_out
 
-pub reset_whole : (c starts : List ℕ) → ((k : ℕ) → k < 86 → get_or starts k 0 ≡ 255) → IsWhole c 0 starts
+pub reset_whole : (c starts : List ℕ) → ((k : ℕ) → k < PARTS → get_or starts k 0 ≡ NONE) → IsWhole c 0 starts
 reset_whole c starts none = whole (laid_region (reset_laid c)) (reset_seen c) (empty_indexed starts none)
 
 -- the cells after an object without references was put at the allocation pointer
@@ -186,12 +192,13 @@ pub record IsNew (c d : List ℕ) (fill id n s : ℕ) : Type 0 where
   pub before : (k : ℕ) → k < fill → cell d k ≡ cell c k
   pub first : cell d fill ≡ id
   pub shape : cell d (fill + 1) ≡ s
-  pub nulls : (k : ℕ) → fill + 2 ≤ k → k < fill + n + 3 → cell d k ≡ 0
+  pub nulls : (k : ℕ) → fill + 2 ≤ k → k < fill + n + HEADER → cell d k ≡ 0
 
 -- three cells are written, and the rest is cleared
-pub cells_new : (c d : List ℕ) (fill id n s : ℕ) → fill + n + 3 ≤ 256 → length c ≡ 256 → length d ≡ 256
-    → ((k : ℕ) → fill + 3 ≤ k → k < fill + n + 3 → cell d k ≡ 0)
-    → ((k : ℕ) → k < fill + 3 → cell d k ≡ cell (set (set (set c fill id) (fill + 1) s) (fill + 2) 0) k)
+pub cells_new : (c d : List ℕ) (fill id n s : ℕ) → fill + n + HEADER ≤ CELLS → length c ≡ CELLS
+    → length d ≡ CELLS
+    → ((k : ℕ) → fill + HEADER ≤ k → k < fill + n + HEADER → cell d k ≡ 0)
+    → ((k : ℕ) → k < fill + HEADER → cell d k ≡ cell (set (set (set c fill id) (fill + 1) s) (fill + 2) 0) k)
     → IsNew c d fill id n s
 cells_new c d fill id n s room long lengths cleared kept =
     let one = set c fill id in
@@ -218,37 +225,40 @@ cells_new c d fill id n s room long lengths cleared kept =
 
 -- an object put at the allocation pointer
 module _ {c : List ℕ} {fill : ℕ} {r : Contents} (read : IsRead c fill r) where
-  put_at_fill : (d : List ℕ) (id n : ℕ) (on : Bool) (s : ℕ) → id ≢ 0 → n ≤ 61 → fill + n + 3 ≤ 256
-      → s ≡ cond on (n + 256) n → IsNew c d fill id n s → IsRead d (fill + n + 3)
+  put_at_fill : (d : List ℕ) (id n : ℕ) (on : Bool) (s : ℕ) → id ≢ 0 → n ≤ FIELDS → fill + n + HEADER ≤ CELLS
+      → s ≡ cond on (n + REGISTERED) n → IsNew c d fill id n s → IsRead d (fill + n + HEADER)
       (with_put (contents_of c fill) (new_object id n on))
   unfolding object_in
   put_at_fill d id n on s identified few room is_shape put =
       let laid = read.region in
       let parts = shape_parts n on s (omega arith) is_shape in
-      let count : count_at d fill ≡ n = ap (λ (x : ℕ). x % 256) put.shape ∙ parts.0 in
+      let count : count_at d fill ≡ n = ap (λ (x : ℕ). x % REGISTERED) put.shape ∙ parts.0 in
       let new : IsBody d fill = record {
         identified = λ e. identified (sym put.first ∙ e);
         shaped = rw put.shape parts.1;
         few_fields = rw count few;
         addresses = λ i below. omega (
           arith,
-          put.nulls (fill + 3 + i) (omega arith) (omega (arith, below, count)),
+          put.nulls (fill + HEADER + i) (omega arith) (omega (arith, below, count)),
         );
       } in
       let reach = extent_at-body new in
       let zero_here : ℕ = 0 in
-      let fields : take (count_at d fill) (drop (fill + 3) d) ≡ replicate n zero_here =
-      let lengths : length (take (count_at d fill) (drop (fill + 3) d)) ≡ length (replicate n zero_here) =
-      (let known = length-take (count_at d fill) (drop (fill + 3) d) in
+      let fields : take (count_at d fill) (drop (fill + HEADER) d) ≡ replicate n zero_here =
+      let lengths : length (take (count_at d fill) (drop (fill + HEADER) d)) ≡ length (replicate n zero_here)
+      =
+      (let known = length-take (count_at d fill) (drop (fill + HEADER) d) in
       let also = length-replicate n zero_here in
-      omega (arith, known, length-drop (fill + 3) d, also, put.lengths, read.len, count, room)) in
+      omega (arith, known, length-drop (fill + HEADER) d, also, put.lengths, read.len, count, room)) in
       ext_get_or 0 _ _ lengths (λ i short.
-      let inside : i < n = omega (arith, short, length-take (count_at d fill) (drop (fill + 3) d), count) in
-      get_or-take (count_at d fill) (drop (fill + 3) d) i 0 (omega (arith, inside, count))
-      ∙ get_or-drop (fill + 3) d i 0 ∙ put.nulls (fill + 3 + i) (omega arith) (omega (arith, inside))
+      let inside : i < n = omega (arith, short, length-take (count_at d fill) (drop (fill + HEADER) d), count)
+      in
+      get_or-take (count_at d fill) (drop (fill + HEADER) d) i 0 (omega (arith, inside, count))
+      ∙ get_or-drop (fill + HEADER) d i 0 ∙ put.nulls (fill + HEADER + i) (omega arith)
+      (omega (arith, inside))
       ∙ sym (get_or-replicate n i zero_here 0 inside)) in
       let values = put.nulls (fill + 2) (omega arith) (omega arith) in
-      let flags : leb 256 (cell d (fill + 1)) ≡ on = ap (leb 256) put.shape ∙ parts.2 in
+      let flags : leb REGISTERED (cell d (fill + 1)) ≡ on = ap (leb REGISTERED) put.shape ∙ parts.2 in
       let object : object_in d fill ≡ new_object id n on = λ i. record {
         identity = put.first i;
         fields = fields i;
@@ -256,9 +266,9 @@ module _ {c : List ℕ} {fill : ℕ} {r : Contents} (read : IsRead c fill r) whe
         registered = flags i;
       } in
       let longer = longer_tiling laid.tiled d put.lengths (λ k low below. put.before k below) new in
-      let end : fill + extent_at d fill ≡ fill + n + 3 = omega (arith, reach, count) in
+      let end : fill + extent_at d fill ≡ fill + n + HEADER = omega (arith, reach, count) in
       let P : ℕ → Type 0 = λ m. IsTiled d m 0 (objects_of c fill ++ (fill, object_in d fill) ∷ []) in
-      let now : IsLaid d (fill + n + 3) (objects_of c fill ++ (fill, object_in d fill) ∷ []) =
+      let now : IsLaid d (fill + n + HEADER) (objects_of c fill ++ (fill, object_in d fill) ∷ []) =
       record { tiled = subst P end longer; within = room } in
       let absent : map.find nat_cmp fill (objects_of c fill) ≡ None =
       none_beyond laid.tiled fill (omega arith) in
@@ -267,7 +277,7 @@ module _ {c : List ℕ} {fill : ℕ} {r : Contents} (read : IsRead c fill r) whe
       map.from_entries_push nat_cmp_total map.nat_cmp-IsAntisymmetric (objects_of c fill) fill
       (object_in d fill) absent ∙ (λ i. map.insert (contents_of c fill).objects fill (object i)) in
       let seen = laid_contents now (map.insert (contents_of c fill).objects fill (new_object id n on)) maps in
-      let size : fill + n + 3 ≡ fill + (length (replicate n zero_here) + 3) =
+      let size : fill + n + HEADER ≡ fill + (length (replicate n zero_here) + HEADER) =
       omega (arith, length-replicate n zero_here) in
       record {
         len = put.lengths ∙ read.len;
@@ -279,12 +289,13 @@ module _ {c : List ℕ} {fill : ℕ} {r : Contents} (read : IsRead c fill r) whe
             });
       }
 
-  pub object_put : (d : List ℕ) (id n : ℕ) (on : Bool) (s : ℕ) → id ≢ 0 → n ≤ 61 → r.fill + n + 3 ≤ 256
-      → s ≡ cond on (n + 256) n → IsNew c d fill id n s
-      → IsRead d (fill + n + 3) (with_put r (new_object id n on))
+  pub object_put : (d : List ℕ) (id n : ℕ) (on : Bool) (s : ℕ) → id ≢ 0 → n ≤ FIELDS
+      → r.fill + n + HEADER ≤ CELLS
+      → s ≡ cond on (n + REGISTERED) n → IsNew c d fill id n s
+      → IsRead d (fill + n + HEADER) (with_put r (new_object id n on))
   object_put d id n on s identified few room is_shape put =
-      let P : Contents → Type 0 = λ x. x.fill + n + 3 ≤ 256
-      → IsRead d (fill + n + 3) (with_put x (new_object id n on)) in
+      let P : Contents → Type 0 = λ x. x.fill + n + HEADER ≤ CELLS
+      → IsRead d (fill + n + HEADER) (with_put x (new_object id n on)) in
       subst P read.view (λ fits. put_at_fill d id n on s identified few fits is_shape put) room
 
   -- no object is where the next one is put
@@ -294,26 +305,26 @@ module _ {c : List ℕ} {fill : ℕ} {r : Contents} (read : IsRead c fill r) whe
 
 -- an object becomes a gap
 module _ {c : List ℕ} {fill : ℕ} {r : Contents} (read : IsRead c fill r) (at : ℕ) (is : IsObject r at) where
-  pub object_removed : IsRead (set (set c at 0) (at + 1) (count_at c at + 3)) fill (without_object r at)
+  pub object_removed : IsRead (set (set c at 0) (at + 1) (count_at c at + HEADER)) fill (without_object r at)
   object_removed =
       let h = held read at is in
       let high = h.high in
       let within = h.within in
       let len = read.len in
       let fills : r.fill ≡ fill = ap (λ (x : Contents). x.fill) (sym read.view) in
-      let d = set (set c at 0) (at + 1) (count_at c at + 3) in
-      let lengths : length d ≡ length c = length-set (set c at 0) (at + 1) (count_at c at + 3)
+      let d = set (set c at 0) (at + 1) (count_at c at + HEADER) in
+      let lengths : length d ≡ length c = length-set (set c at 0) (at + 1) (count_at c at + HEADER)
       ∙ length-set c at 0 in
       let length_first = length-set c at 0 in
-      let first : cell d at ≡ 0 = other_cells (set c at 0) (at + 1) (count_at c at + 3) at
+      let first : cell d at ≡ 0 = other_cells (set c at 0) (at + 1) (count_at c at + HEADER) at
       (λ e. omega (arith, e)) ∙ get_or-set_same c at 0 0 (omega arith) in
-      let second : cell d (at + 1) ≡ count_at c at + 3 = get_or-set_same (set c at 0) (at + 1)
-      (count_at c at + 3) 0 (omega arith) in
+      let second : cell d (at + 1) ≡ count_at c at + HEADER = get_or-set_same (set c at 0) (at + 1)
+      (count_at c at + HEADER) 0 (omega arith) in
       let gap : IsGap d at = record { unnamed = first; long = omega arith } in
       let reach = extent_at-gap gap in
       let old_reach = h.reach in
       let others : (k : ℕ) → (k ≡ at → ⊥) → (k ≡ at + 1 → ⊥) → cell d k ≡ cell c k = λ k one two. other_cells
-      (set c at 0) (at + 1) (count_at c at + 3) k two ∙ other_cells c at 0 k one in
+      (set c at 0) (at + 1) (count_at c at + HEADER) k two ∙ other_cells c at 0 k one in
       changed_region read d at None (map.remove r.objects at) h
       (record {
         lengths = lengths;

@@ -1,5 +1,5 @@
 -- Lemmas on what callers see of a region's cells.
-use Rattle.hd_cells.proofs.Basics.{Contents, HoldsObject, IsBody, IsLaid, IsLaidOut, IsObject, IsRegion, IsWhole, List, None, Object, Option, Some, [], ap, arith, both_ways, cell, cond, contents_of, count_at, drop, empty_region, eq_by_cmp, extent_at, fields_at, get_or, get_or-drop, get_or-take, is_some, leb, length, length-drop, length-take, nat_cmp, nat_cmp_total, no_object, object_at, objects_of, refl, subst, suc, sym, take, true, unwrap_or, with_object, zero, ℕ, ◌%◌, ◌+◌, ◌-◌, ◌<◌, ◌^◌, ◌∙◌, ◌∷◌, ◌≡◌, ◌≤◌}
+use Rattle.hd_cells.proofs.Basics.{CELLS, Contents, HEADER, HoldsObject, IsBody, IsLaid, IsLaidOut, IsObject, IsRegion, IsWhole, List, None, Object, Option, PARTS, REGISTERED, Some, [], ap, arith, both_ways, cell, cond, contents_of, count_at, drop, empty_region, eq_by_cmp, extent_at, fields_at, get_or, get_or-drop, get_or-take, is_some, leb, length, length-drop, length-take, nat_cmp, nat_cmp_total, no_object, object_at, objects_of, refl, subst, suc, sym, take, true, unwrap_or, with_object, zero, ℕ, ◌%◌, ◌+◌, ◌-◌, ◌<◌, ◌^◌, ◌∙◌, ◌∷◌, ◌≡◌, ◌≤◌}
 use Rattle.std.proofs.lemmas.List.Elements.{All-from_get_or}
 use Rattle.hd_cells.specs.{Cells.object_in, declared.region.Region.TheInside.Inside}
 use Rattle.hd_cells.proofs.RegionTiles.{extent_at-body, tiling_read, found, found_apart, IsTile, as_body, changed_tiling}
@@ -7,7 +7,7 @@ use Rattle.std.specs.FinMap as map
 
 -- a region is read as its cells are laid out
 pub laid_read : {c : List ℕ} {fill : ℕ} {os : List (ℕ × Object)} → IsLaid c fill os → objects_of c fill ≡ os
-laid_read l = tiling_read l.tiled 256 l.within
+laid_read l = tiling_read l.tiled CELLS l.within
 
 pub laid_region : {c : List ℕ} {fill : ℕ} {os : List (ℕ × Object)} → IsLaid c fill os → IsRegion c fill
 laid_region {c} {fill} l =
@@ -32,36 +32,38 @@ some_of (Some x) e = (x, refl)
 
 -- the cells and the allocation pointer of a region, and its value
 pub record IsRead (c : List ℕ) (fill : ℕ) (r : Contents) : Type 0 where
-  pub len : length c ≡ 256
+  pub len : length c ≡ CELLS
   pub region : IsRegion c fill
   pub view : contents_of c fill ≡ r
 
-pub opened : {c starts : List ℕ} {fill : ℕ} {r : Contents} → (length c ≡ 256) × (length starts ≡ 86)
+pub opened : {c starts : List ℕ} {fill : ℕ} {r : Contents} → (length c ≡ CELLS) × (length starts ≡ PARTS)
     → IsWhole c fill starts → contents_of c fill ≡ r → IsRead c fill r
 opened lengths whole view = record { len = lengths.0; region = whole.region; view = view }
 
 -- what the cells hold where callers see an object
 pub record IsHeld (c : List ℕ) (fill : ℕ) (r : Contents) (at : ℕ) : Type 0 where
   pub is_body : IsBody c at
-  pub reach : extent_at c at ≡ count_at c at + 3
-  pub high : at + (count_at c at + 3) ≤ r.fill
-  pub within : r.fill ≤ 256
+  pub reach : extent_at c at ≡ count_at c at + HEADER
+  pub high : at + (count_at c at + HEADER) ≤ r.fill
+  pub within : r.fill ≤ CELLS
   pub finds : map.find nat_cmp at (objects_of c fill) ≡ Some (object_in c at)
   pub identity : (object_at r at).identity ≡ cell c at
   pub value : (object_at r at).value ≡ cell c (at + 2)
-  pub registered : (object_at r at).registered ≡ leb 256 (cell c (at + 1))
-  pub fields : fields_at r at ≡ take (count_at c at) (drop (at + 3) c)
+  pub registered : (object_at r at).registered ≡ leb REGISTERED (cell c (at + 1))
+  pub fields : fields_at r at ≡ take (count_at c at) (drop (at + HEADER) c)
   pub count : length (fields_at r at) ≡ count_at c at
-  pub field : (i : ℕ) → i < count_at c at → get_or (fields_at r at) i 0 ≡ cell c (at + 3 + i)
+  pub field : (i : ℕ) → i < count_at c at → get_or (fields_at r at) i 0 ≡ cell c (at + HEADER + i)
 
 -- the fields that are read are the cells after the first three
-length_fields : (c : List ℕ) (at n : ℕ) → at + (n + 3) ≤ length c → length (take n (drop (at + 3) c)) ≡ n
-length_fields c at n fits = omega (arith, length-take n (drop (at + 3) c), length-drop (at + 3) c)
+length_fields : (c : List ℕ) (at n : ℕ) → at + (n + HEADER) ≤ length c → length
+    (take n (drop (at + HEADER) c)) ≡ n
+length_fields c at n fits = omega (arith, length-take n (drop (at + HEADER) c), length-drop (at + HEADER) c)
 
-get_or_field : (c : List ℕ) (at n i : ℕ) → i < n → get_or (take n (drop (at + 3) c)) i 0 ≡ cell c (at + 3 + i)
-get_or_field c at n i below = get_or-take n (drop (at + 3) c) i 0 below ∙ get_or-drop (at + 3) c i 0
+get_or_field : (c : List ℕ) (at n i : ℕ) → i < n → get_or (take n (drop (at + HEADER) c)) i 0 ≡ cell c
+    (at + HEADER + i)
+get_or_field c at n i below = get_or-take n (drop (at + HEADER) c) i 0 below ∙ get_or-drop (at + HEADER) c i 0
 
-held_by_cells : (c : List ℕ) (fill : ℕ) → length c ≡ 256 → IsRegion c fill → (at : ℕ)
+held_by_cells : (c : List ℕ) (fill : ℕ) → length c ≡ CELLS → IsRegion c fill → (at : ℕ)
     → IsObject (contents_of c fill) at → IsHeld c fill (contents_of c fill) at
 unfolding object_in
 held_by_cells c fill len r at is =
@@ -74,7 +76,7 @@ held_by_cells c fill len r at is =
     let within = r.within in
     let is_in : object_at (contents_of c fill) at ≡ object_in c at =
     ap (λ (o : Option Object). unwrap_or o no_object) some.1 ∙ f.is in
-    let fields : fields_at (contents_of c fill) at ≡ take (count_at c at) (drop (at + 3) c) =
+    let fields : fields_at (contents_of c fill) at ≡ take (count_at c at) (drop (at + HEADER) c) =
     ap (λ (o : Object). o.fields) is_in in
     record {
       is_body = f.is_body;
@@ -104,24 +106,24 @@ module _ {c : List ℕ} {fill : ℕ} {r : Contents} (read : IsRead c fill r) whe
       subst P read.view (held_by_cells c fill read.len read.region at) is
 
   -- the first three cells of an object
-  pub object_inside : (at : ℕ) → IsObject r at → at + 3 ≤ 256
+  pub object_inside : (at : ℕ) → IsObject r at → at + HEADER ≤ CELLS
   object_inside at is = let h = held at is in omega (arith, h.high, h.within)
 
   -- the cells from an object on
-  pub object_cells : (at : ℕ) → IsObject r at → HoldsObject (take (256 - at) (drop at c)) (object_at r at)
+  pub object_cells : (at : ℕ) → IsObject r at → HoldsObject (take (CELLS - at) (drop at c)) (object_at r at)
   object_cells at is =
       let h = held at is in
       let b = h.is_body in
       let shape = get_or-drop at c 1 0 in
-      let after = λ (i : ℕ). get_or-drop at c (3 + i) 0 ∙ ap (cell c) (three at i) in
-      let whole = take_all (drop at c) (256 - at) (omega (arith, length-drop at c, read.len)) in
+      let after = λ (i : ℕ). get_or-drop at c (HEADER + i) 0 ∙ ap (cell c) (three at i) in
+      let whole = take_all (drop at c) (CELLS - at) (omega (arith, length-drop at c, read.len)) in
       subst (λ (xs : List ℕ). HoldsObject xs (object_at r at)) (sym whole) record {
         long = omega (arith, h.count, h.high, h.within, read.len, length-drop at c);
         identity = get_or-drop at c 0 0 ∙ ap (cell c) (none at) ∙ sym h.identity;
         identified = λ e. b.identified (sym h.identity ∙ e);
-        count = ap (λ n. n % 256) shape ∙ sym h.count;
+        count = ap (λ n. n % REGISTERED) shape ∙ sym h.count;
         few_fields = omega (arith, h.count, b.few_fields);
-        registered = ap (leb 256) shape ∙ sym h.registered;
+        registered = ap (leb REGISTERED) shape ∙ sym h.registered;
         value = get_or-drop at c 2 0 ∙ sym h.value;
         field = λ i below. after i ∙ sym (h.field i (omega (arith, below, h.count)));
         addresses = λ i below. omega (arith, after i, b.addresses i (omega (arith, below, h.count)));
@@ -130,7 +132,7 @@ module _ {c : List ℕ} {fill : ℕ} {r : Contents} (read : IsRead c fill r) whe
       none : (at : ℕ) → at + 0 ≡ at
       none at = omega arith
 
-      three : (at i : ℕ) → at + (3 + i) ≡ at + 3 + i
+      three : (at i : ℕ) → at + (HEADER + i) ≡ at + HEADER + i
       three at i = omega arith
 
   -- objects are laid out in a region as its callers see

@@ -1,5 +1,5 @@
 -- Lemmas on the cells of a region: what one object or gap takes, and the tiling by them.
-use Rattle.hd_cells.proofs.Basics.{IsBody, IsGap, IsTiled, List, None, Object, Option, Some, [], ap, ap₂, arith, body, cases_eq, cell, cond, cond-false, cond-true, count_at, drop, ended, eq-eqb, eq_by_cmp, eqb, ext_get_or, find, gap, get_or-drop, get_or-take, inl, inr, le-leb, leb, length, length-drop, length-take, lt-leb, nat_cmp, ne_eqb, none-some, refl, same_Some, subst, suc, sym, take, zero, ℕ, ◌%◌, ◌++◌, ◌+◌, ◌<◌, ◌∙◌, ◌∷◌, ◌≡◌, ◌≤◌}
+use Rattle.hd_cells.proofs.Basics.{HEADER, IsBody, IsGap, IsTiled, List, None, Object, Option, REGISTERED, Some, [], ap, ap₂, arith, body, cases_eq, cell, cond, cond-false, cond-true, count_at, drop, ended, eq-eqb, eq_by_cmp, eqb, ext_get_or, find, gap, get_or-drop, get_or-take, inl, inr, le-leb, leb, length, length-drop, length-take, lt-leb, nat_cmp, ne_eqb, none-some, refl, same_Some, subst, suc, sym, take, zero, ℕ, ◌%◌, ◌++◌, ◌+◌, ◌<◌, ◌∙◌, ◌∷◌, ◌≡◌, ◌≤◌}
 use Rattle.hd_cells.specs.Cells.{object_in, extent_at, objects_from}
 use Rattle.hd_cells.proofs.OffsetLookup.{find_here, find_beyond, asked_twice, either_order, tied_same, tied, untied}
 
@@ -12,7 +12,7 @@ pub extent_at-gap : {c : List ℕ} {at : ℕ} → IsGap c at → extent_at c at 
 unfolding extent_at
 extent_at-gap {c} {at} g = cond-true (eqb (cell c at) 0) _ _ (eq-eqb (cell c at) 0 g.unnamed)
 
-pub extent_at-body : {c : List ℕ} {at : ℕ} → IsBody c at → extent_at c at ≡ count_at c at + 3
+pub extent_at-body : {c : List ℕ} {at : ℕ} → IsBody c at → extent_at c at ≡ count_at c at + HEADER
 unfolding extent_at
 extent_at-body {c} {at} b = cond-false (eqb (cell c at) 0) _ _ (ne_eqb (cell c at) 0 b.identified)
 
@@ -20,49 +20,57 @@ extent_at-body {c} {at} b = cond-false (eqb (cell c at) 0) _ _ (ne_eqb (cell c a
 pub same_extent : (c d : List ℕ) (at : ℕ) → cell d at ≡ cell c at → cell d (at + 1) ≡ cell c (at + 1)
     → extent_at d at ≡ extent_at c at
 unfolding extent_at
-same_extent c d at e f = ap₂ (λ (x y : ℕ). cond (eqb x 0) y (y % 256 + 3)) e f
+same_extent c d at e f = ap₂ (λ (x y : ℕ). cond (eqb x 0) y (y % REGISTERED + HEADER)) e f
 
 -- the fields of an object are as they were where their number and their cells are
 pub same_fields : (c d : List ℕ) (at n m : ℕ) → length d ≡ length c → m ≡ n
-    → AgreeWithin c d (at + 3) (at + 3 + n) → take m (drop (at + 3) d) ≡ take n (drop (at + 3) c)
+    → AgreeWithin c d (at + HEADER) (at + HEADER + n) → take m (drop (at + HEADER) d) ≡ take n
+    (drop (at + HEADER) c)
 same_fields c d at n m len e agree =
-    let lengths : length (take m (drop (at + 3) d)) ≡ length (take n (drop (at + 3) c)) =
-    (let known = length-take m (drop (at + 3) d) in
-    let also = length-take n (drop (at + 3) c) in
-    omega (arith, known, also, length-drop (at + 3) d, length-drop (at + 3) c)) in
+    let lengths : length (take m (drop (at + HEADER) d)) ≡ length (take n (drop (at + HEADER) c)) =
+    (let known = length-take m (drop (at + HEADER) d) in
+    let also = length-take n (drop (at + HEADER) c) in
+    omega (arith, known, also, length-drop (at + HEADER) d, length-drop (at + HEADER) c)) in
     ext_get_or 0 _ _ lengths (λ i below.
-    let short : length (take m (drop (at + 3) d)) ≤ m = omega (arith, length-take m (drop (at + 3) d)) in
-    get_or-take m (drop (at + 3) d) i 0 (omega arith) ∙ get_or-drop (at + 3) d i 0
-    ∙ agree (at + 3 + i) (omega arith) (omega arith)
-    ∙ sym (get_or-take n (drop (at + 3) c) i 0 (omega arith) ∙ get_or-drop (at + 3) c i 0))
+    let short : length (take m (drop (at + HEADER) d)) ≤ m = omega
+    (arith, length-take m (drop (at + HEADER) d)) in
+    get_or-take m (drop (at + HEADER) d) i 0 (omega arith) ∙ get_or-drop (at + HEADER) d i 0
+    ∙ agree (at + HEADER + i) (omega arith) (omega arith)
+    ∙ sym (get_or-take n (drop (at + HEADER) c) i 0 (omega arith) ∙ get_or-drop (at + HEADER) c i 0))
 
 -- an object is as it was where its cells are
 pub same_object : (c d : List ℕ) (at : ℕ) → length d ≡ length c
-    → AgreeWithin c d at (at + (count_at c at + 3)) → object_in d at ≡ object_in c at
+    → AgreeWithin c d at (at + (count_at c at + HEADER)) → object_in d at ≡ object_in c at
 unfolding object_in
 same_object c d at len agree =
     let shape : cell d (at + 1) ≡ cell c (at + 1) = agree (at + 1) (omega arith) (omega arith) in
     let first : cell d at ≡ cell c at = agree at (omega arith) (omega arith) in
     let third : cell d (at + 2) ≡ cell c (at + 2) = agree (at + 2) (omega arith) (omega arith) in
-    let fields : take (count_at d at) (drop (at + 3) d) ≡ take (count_at c at) (drop (at + 3) c) =
-    same_fields c d at (count_at c at) (count_at d at) len (ap (λ (x : ℕ). x % 256) shape)
+    let fields : take (count_at d at) (drop (at + HEADER) d) ≡ take (count_at c at) (drop (at + HEADER) c) =
+    same_fields c d at (count_at c at) (count_at d at) len (ap (λ (x : ℕ). x % REGISTERED) shape)
     (λ k low high. agree k (omega arith) (omega arith)) in
-    λ i. record { identity = first i; fields = fields i; value = third i; registered = leb 256 (shape i) }
+    λ i. record {
+      identity = first i;
+      fields = fields i;
+      value = third i;
+      registered = leb REGISTERED
+          (shape i);
+    }
 
 -- an object stays one where its cells are as they were
 pub same_body : {c : List ℕ} {at : ℕ} → IsBody c at → (d : List ℕ)
-    → AgreeWithin c d at (at + (count_at c at + 3)) → IsBody d at
+    → AgreeWithin c d at (at + (count_at c at + HEADER)) → IsBody d at
 same_body {c} {at} b d agree =
     let shape : cell d (at + 1) ≡ cell c (at + 1) = agree (at + 1) (omega arith) (omega arith) in
     let first : cell d at ≡ cell c at = agree at (omega arith) (omega arith) in
-    let counts : count_at d at ≡ count_at c at = ap (λ (x : ℕ). x % 256) shape in
+    let counts : count_at d at ≡ count_at c at = ap (λ (x : ℕ). x % REGISTERED) shape in
     record {
       identified = λ e. b.identified (sym first ∙ e);
       shaped = rw shape b.shaped;
       few_fields = rw counts b.few_fields;
       addresses = λ i below.
-          let same : cell d (at + 3 + i) ≡ cell c (at + 3 + i) =
-          agree (at + 3 + i) (omega arith) (omega arith) in
+          let same : cell d (at + HEADER + i) ≡ cell c (at + HEADER + i) =
+          agree (at + HEADER + i) (omega arith) (omega arith) in
           rw same (b.addresses i (omega arith));
     }
 
@@ -153,7 +161,7 @@ same_tiling {c} {stop} {at} {os} (gap g t) d len agree =
 same_tiling {c} {stop} {at} {os = (k, o) ∷ os} (body b t) d len agree =
     let up = tiled_upwards t in
     let reach = extent_at-body b in
-    let here : AgreeWithin c d at (at + (count_at c at + 3)) = λ k low high. agree k low (omega arith) in
+    let here : AgreeWithin c d at (at + (count_at c at + HEADER)) = λ k low high. agree k low (omega arith) in
     let beyond = same_tiling t d len (λ k low high. agree k (omega arith) high) in
     let P : ℕ → Type 0 = λ n. IsTiled d stop (at + n) os in
     let Q : Object → Type 0 = λ x. IsTiled d stop at ((at, x) ∷ os) in
@@ -181,7 +189,7 @@ longer_tiling {c} {stop} {at} {os} (gap g t) d len agree new =
 longer_tiling {c} {stop} {at} {os = (k, o) ∷ os} (body b t) d len agree new =
     let up = tiled_upwards t in
     let reach = extent_at-body b in
-    let here : AgreeWithin c d at (at + (count_at c at + 3)) = λ k low high. agree k low (omega arith) in
+    let here : AgreeWithin c d at (at + (count_at c at + HEADER)) = λ k low high. agree k low (omega arith) in
     let beyond = longer_tiling t d len (λ k low high. agree k (omega arith) high) new in
     let P : ℕ → Type 0 = λ n. IsTiled d (stop + extent_at d stop) (at + n)
     (os ++ (stop, object_in d stop) ∷ []) in
@@ -261,7 +269,7 @@ changed_tiling {c} {stop} {from} {os = (k, x) ∷ os} (body b t) at o e d w tile
           let later = sym (find_beyond at from (object_in c from) os other) ∙ e in
           let r = found t at o later in
           let low = r.low in
-          let kept : AgreeWithin c d from (from + (count_at c from + 3)) = λ k low high. before k low
+          let kept : AgreeWithin c d from (from + (count_at c from + HEADER)) = λ k low high. before k low
           (omega arith) in
           let rest = changed_tiling t at o later d w tile len (λ k low high. before k (omega arith) high)
           beyond reach in

@@ -1,7 +1,7 @@
 -- The steps of an `allocate`.
 use Rattle.hd_custody.proofs.Basics.{Acting, BANK, BLOCKS, Banked, CACHE, FIRST_QUICK, Fresh, Ghosts, HasRowsAs, KindIs, Kinded, List, Made, Offers, Phase, ROWS, Some, View, [], again, ap, arith, back, bank, banked, bit_at, bit_at-zero, bit_or, bit_xor, cell_kind, changed, cond, drained, found, found_or, held_times, is_step, look, looked, lowest, naming, next_phase, next_rows, probe, probe_word, put_out, refl, rest, restored, rows, set_bits, slice_get, subst, swapped, sym, to_bank, to_look, to_probe, went, with_slot, with_view, without, without_rows, ℕ, ◌*◌, ◌++◌, ◌+◌, ◌-◌, ◌/◌, ◌<◌, ◌==◌, ◌^◌, ◌∙◌, ◌∷◌, ◌≡◌, ◌≢◌, ◌≤◌}
-use Rattle.hd_custody.proofs.Canon.{Apart, rows_go, rows_none, naming_kinded, naming_rows, lowest_is, put_some, one_leaves, others_held, one_stays, with_slot_none}
-use Rattle.hd_custody.proofs.Phases.{due, zero_is, zero_not, same_is, same_not, less_is, found_or_none, found_or_some, found_or_cond, made_none, one_step, seen_as, held_is, and_then, then_as}
+use Rattle.hd_custody.proofs.HeldOnBlock.{Apart, rows_go, rows_none, naming_kinded, naming_rows, lowest_is, put_some, one_leaves, others_held, one_stays, with_slot_none}
+use Rattle.hd_custody.proofs.CallPhases.{due, zero_is, zero_not, same_is, same_not, less_is, found_or_none, found_or_some, found_or_cond, made_none, one_step, seen_as, held_is, and_then, then_as}
 
 pub set_real : (m r : ℕ) → bit_at m r ≡ 1 → m ≢ 0
 set_real m r set none = let z = ap (λ n. bit_at n r) none ∙ bit_at-zero r in absurd (omega arith)

@@ -2,10 +2,10 @@
 use Rattle.hd_custody.proofs.Basics.{Belongs, Bool, Custodied, EXTRA_DATA, Entered, Every, FIRST_MASK, FIRST_QUICK, Ghosts, Has, Holds, List, Numbers, Option, ROWS, Slots, Some, State, View, WORDS, [], and_right, ap, arith, at_set, cases_eq, cell_kind, changed, cond, eq-eqb, false, false_from_ne_true, get_or, get_or-set_other, get_or-set_same, held_by, held_times, inl, inr, kind_word, length, length-set, named, nat_lt, ne_eqb, one_if, opened, refl, room_of, set, subst, sym, took, total, total_at, true, weight, whole, ℕ, ◌%◌, ◌&&◌, ◌*◌, ◌++◌, ◌+◌, ◌/◌, ◌<◌, ◌^◌, ◌∙◌, ◌∷◌, ◌≡◌, ◌≢◌, ◌≤◌, ◌⊎◌}
 use mathlib.Core.Option.{some, none}
 use lib.ListN.{get_elem?}
-use Rattle.hd_custody.proofs.Totals.{total_set, total_member, total_at_set}
+use Rattle.hd_custody.proofs.WordTotals.{total_set, total_member, total_at_set}
 use Rattle.hd_custody.proofs.HeldSlots.{held_times_append, held_times_out, held_times_picks, has_member, every_append, every_picks}
-use Rattle.hd_custody.proofs.Weights.{weight_low, kind_word_is, kind_word_set, named_kind, named_none, named_block, mask_empty}
-use Rattle.hd_custody.proofs.{Slots.held_alive, Slots.has_once, Alike.place_there, Alike.seats_alike}
+use Rattle.hd_custody.proofs.SlotWeights.{weight_low, kind_word_is, kind_word_set, named_kind, named_none, named_block, mask_empty}
+use Rattle.hd_custody.proofs.{SlotSteps.held_alive, SlotSteps.has_once, ViewChange.place_there, ViewChange.seats_alike}
 
 -- ---- a step on a word below 257
 

@@ -3,7 +3,7 @@ use Rattle.hd_custody.proofs.Basics.{Bool, Every, Has, List, [], ap, arith, case
 use mathlib.Core.Option.{some, some-injective, some-ne-none}
 use lib.ListN.{get_elem?}
 use Rattle.hd_custody.specs.Counts.{picks}
-use Rattle.hd_custody.proofs.Totals.{hit, miss, total_append}
+use Rattle.hd_custody.proofs.WordTotals.{hit, miss, total_append}
 
 pub true_false : (b : Bool) → b ≡ true → b ≡ false → ⊥
 true_false b on off = cc

@@ -1,7 +1,7 @@
 -- The steps of a `release` and of a `gather`.
 use Rattle.hd_custody.proofs.Basics.{Acting, BLOCKS, CACHE, List, Made, Phase, ROWS, [], ap, arith, bit_or, cases_eq, cell_kind, cond, eq-eqb, found, held_times, inl, inr, into_mask, last, ne_eqb, next_phase, not, push, push_word, pushed_to, put_out, refl, restored, settle, suc, swapped, sweep, sweep_word, swept_to, sym, to_look_whole, to_push, to_sweep, went, with_slot, with_view, without, zero, ℕ, ◌%◌, ◌*◌, ◌++◌, ◌+◌, ◌-◌, ◌/◌, ◌<◌, ◌==◌, ◌^◌, ◌∙◌, ◌∷◌, ◌≡◌, ◌≢◌, ◌≤◌}
-use Rattle.hd_custody.proofs.{Canon.slot_leaves, Canon.put_some, HeldSlots.held_times_kept, HeldSlots.held_times_dropped}
-use Rattle.hd_custody.proofs.Phases.{due, zero_is, zero_not, less_is, made_none, one_step, seen_as, held_is}
+use Rattle.hd_custody.proofs.{HeldOnBlock.slot_leaves, HeldOnBlock.put_some, HeldSlots.held_times_kept, HeldSlots.held_times_dropped}
+use Rattle.hd_custody.proofs.CallPhases.{due, zero_is, zero_not, less_is, made_none, one_step, seen_as, held_is}
 
 -- what was not held is not held without a slot
 pub still_none : (y x : ℕ) (held : List (ℕ × ℕ)) → held_times y held ≡ 0 → held_times y (without x held) ≡ 0

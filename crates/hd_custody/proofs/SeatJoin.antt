@@ -2,8 +2,8 @@
 use Rattle.hd_custody.proofs.Basics.{Bool, Custodied, Entry, Fits, Ghosts, HasNumber, List, Numbers, Option, Out, State, View, [], ap, arith, at_longer, at_set, cases_eq, cond, eq-eqb, false, held_by, held_times, inl, inr, joined, length, length-append, ne_eqb, part_of, refl, room_of, set, set_else, spent, subst, sym, tally, true, ℕ, ◌++◌, ◌+◌, ◌<◌, ◌==◌, ◌∙◌, ◌∷◌, ◌≡◌, ◌≢◌, ◌⊎◌}
 use mathlib.Core.Option.{some, some-injective, some-ne-none}
 use lib.ListN.{get_elem?}
-use Rattle.hd_custody.proofs.{Totals.total_set, HeldSlots.true_false, Slots.held_alive}
-use Rattle.hd_custody.proofs.Alike.{place_there, fits_as, out_set}
+use Rattle.hd_custody.proofs.{WordTotals.total_set, HeldSlots.true_false, SlotSteps.held_alive}
+use Rattle.hd_custody.proofs.ViewChange.{place_there, fits_as, out_set}
 use Rattle.hd_custody.proofs.SeatSplit.{at_end, at_last, Relates, Related, gate_related, slots_related}
 
 module _ {W : Type 0} (m : Ghosts W) (numbers : Numbers) (id other : ℕ) (v w : View W)

@@ -2,8 +2,8 @@
 use Rattle.hd_custody.proofs.Basics.{Bool, Custodied, Fits, Gate, Ghosts, HasNumber, List, Numbers, Option, Out, Slots, State, View, [], ap, arith, at_longer, at_set, cases_eq, cond, eq-eqb, false, given, held_by, inl, inr, length, length-set, ne_eqb, refl, room_of, set, set_else, shared_out, subst, suc, sym, tally, total, zero, ℕ, ◌++◌, ◌+◌, ◌-◌, ◌<◌, ◌==◌, ◌∙◌, ◌∷◌, ◌≡◌, ◌≢◌, ◌≤◌, ◌⊎◌}
 use mathlib.Core.Option.{some, none, some-injective, some-ne-none}
 use lib.ListN.{get_elem?}
-use Rattle.hd_custody.proofs.{Totals.total_set, Totals.total_snoc, HeldSlots.true_false}
-use Rattle.hd_custody.proofs.Alike.{fits_as, kept_set, out_set}
+use Rattle.hd_custody.proofs.{WordTotals.total_set, WordTotals.total_snoc, HeldSlots.true_false}
+use Rattle.hd_custody.proofs.ViewChange.{fits_as, kept_set, out_set}
 use mathlib.Core.Option as maybe
 
 pub at_end : {A : Type 0} (l : List A) (a b : A) (j : ℕ) → get_elem? (l ++ a ∷ []) j ≡ some b

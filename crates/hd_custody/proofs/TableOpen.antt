@@ -2,8 +2,8 @@
 use Rattle.hd_custody.proofs.Basics.{BLOCKS, Custodied, Divided, Entry, FIRST_MASK, Final, Fits, Ghosts, HasNumber, IsUnused, List, Numbers, Option, ROWS, Seen, Some, State, View, WORDS, [], ap, arith, cases_eq, cases_lt, cond, false, get_or, inl, inr, kind_word, length, length-replicate, one_if, opening, part_of, refl, replicate, starting, subst, suc, sym, tally, weight, zero, ℕ, ◌+◌, ◌/◌, ◌<◌, ◌==◌, ◌^◌, ◌∙◌, ◌∷◌, ◌≡◌, ◌≢◌, ◌≤◌, ◌⊎◌}
 use mathlib.Core.Option.{some, some-injective, some-ne-none}
 use lib.ListN.{get_elem?}
-use Rattle.hd_custody.proofs.{Totals.total_two, Totals.total_at_none, HeldSlots.true_false, Alike.fits_as}
-use Rattle.hd_custody.proofs.Weights.{weight_zero, kind_word_is, kind_word_out, named_none}
+use Rattle.hd_custody.proofs.{WordTotals.total_two, WordTotals.total_at_none, HeldSlots.true_false, ViewChange.fits_as}
+use Rattle.hd_custody.proofs.SlotWeights.{weight_zero, kind_word_is, kind_word_out, named_none}
 
 -- ---- the table at its start
 

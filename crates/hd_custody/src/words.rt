@@ -60,7 +60,7 @@ fn quick_word(kind: u32) -> usize
 }
 
 /// The quick word, then the reserve cells from the last down, then the free cells so.
-#[tactic(auto, using(crate::proofs::Numbered::numbered))]
+#[tactic(auto, using(crate::proofs::WordNumbers::numbered))]
 pub(crate) fn probed(kind: u32, n: u32) -> usize
     requires kind { kind < KINDS }
     requires place { n < CACHE }
@@ -79,7 +79,7 @@ pub(crate) fn probed(kind: u32, n: u32) -> usize
 }
 
 /// The quick word, the reserve cells and the free cells, upwards.
-#[tactic(auto, using(crate::proofs::Numbered::numbered))]
+#[tactic(auto, using(crate::proofs::WordNumbers::numbered))]
 pub(crate) fn swept(kind: u32, n: u32) -> usize
     requires kind { kind < KINDS }
     requires place { n < CACHE }
@@ -91,7 +91,7 @@ pub(crate) fn swept(kind: u32, n: u32) -> usize
 }
 
 /// The quick word, then the free cells from the first up.
-#[tactic(auto, using(crate::proofs::Numbered::numbered))]
+#[tactic(auto, using(crate::proofs::WordNumbers::numbered))]
 pub(crate) fn pushed(kind: u32, n: u32) -> usize
     requires kind { kind < KINDS }
     requires place { n < ROWS }

@@ -16,3 +16,4 @@ pub use Rattle.hd_model.proofs.Members.{first_in, later_in, mapped_in, member_ca
 pub use Rattle.hd_model.proofs.ReadAfterWrite.{insert_cases, len_again, len_new, replicate_cases, some_cases, still_some}
 pub use Rattle.hd_model.specs.Indexed.{by_place}
 pub use Rattle.hd_model.specs.declared.data.Id.{Id}
+pub use Rattle.hd_model.specs.declared.limits.TheConstants.{BLOCKS, ROWS}

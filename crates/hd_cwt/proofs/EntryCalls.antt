@@ -1,5 +1,5 @@
 -- What each call does to the entries, by their fields and their value.
-use Rattle.hd_cwt.proofs.Basics.{HasKey, Id, IfNone, IfSome, IsEntries, IsLinked, IsSome, List, None, Option, Some, WeakTable, ap, arith, bit_and, bit_not, bit_or, bucket_in, bucket_of, by_place, by_place-put, cases_lt, entry_at, exchanged, false≢true, get, get-by_place, get_or, get_or_default_zero, get_or_past, inl, inr, insert, is_some, length, length-set, min, node_at, refl, set, slots_of, subst, sym, turned, w64, ℕ, ◌%◌, ◌+◌, ◌/◌, ◌<◌, ◌^◌, ◌∙◌, ◌≡◌, ◌≢◌, ◌≤◌}
+use Rattle.hd_cwt.proofs.Basics.{HasKey, Id, IfNone, IfSome, IsEntries, IsLinked, IsSome, List, None, Option, ROWS, Some, WeakTable, ap, arith, bit_and, bit_not, bit_or, bucket_in, bucket_of, by_place, by_place-put, cases_lt, entry_at, exchanged, false≢true, get, get-by_place, get_or, get_or_default_zero, get_or_past, inl, inr, insert, is_some, length, length-set, min, node_at, refl, set, slots_of, subst, sym, turned, w64, ℕ, ◌%◌, ◌+◌, ◌/◌, ◌<◌, ◌^◌, ◌∙◌, ◌≡◌, ◌≢◌, ◌≤◌}
 use Rattle.hd_cwt.proofs.{BucketChange.put_linked, BucketChange.clear_linked, IdleMasks.put_marked, IdleMasks.clear_marked}
 
 no_bucket : (v : Option (Option Id)) → ((k : Id) → v ≡ Some (Some k) → ⊥) → bucket_in v ≡ None
@@ -46,7 +46,7 @@ module _ {blocks : ℕ} {held : List (Option (Option Id))} {next previous masks 
       let at : back ≡ node_at previous s = is_back ∙ get_or_default_zero previous s back (back_low s low) in
       omega (arith, at, is.linked.rings.back_within s (node_low s low))
 
-  pub mask_low : (s : ℕ) → s < length held → s / 64 < length masks
+  pub mask_low : (s : ℕ) → s < length held → s / ROWS < length masks
   mask_low s low = omega (arith, low, is.marked.size)
 
   pub viewed : (s : ℕ) (v : Option Id) → s < length held
@@ -58,24 +58,24 @@ module _ {blocks : ℕ} {held : List (Option (Option Id))} {next previous masks 
       λ i. record { blocks = blocks; held = by_place-put held s v low i } in
       now ∙ ap (λ (u : WeakTable). record u { held = insert u.held s v }) view
 
-  module _ (s mask bit : ℕ) (is_mask : mask ≡ get_or masks (s / 64) mask) (is_bit : bit ≡ 2 ^ (s % 64))
+  module _ (s mask bit : ℕ) (is_mask : mask ≡ get_or masks (s / ROWS) mask) (is_bit : bit ≡ 2 ^ (s % ROWS))
       (low : s < length held) (next' previous' : List ℕ) where
-    mask_read : mask ≡ get_or masks (s / 64) 0
-    mask_read = is_mask ∙ get_or_default_zero masks (s / 64) mask (mask_low s low)
+    mask_read : mask ≡ get_or masks (s / ROWS) 0
+    mask_read = is_mask ∙ get_or_default_zero masks (s / ROWS) mask (mask_low s low)
 
     pub put_entries : (key : Id) → mask < 2 ^ 64 → ((other : Id) → HasKey t other s → ⊥) → (end : ℕ)
         → end ≡ slots_of t + bucket_of key → next' ≡ exchanged next end s
         → previous' ≡ turned next previous end s → (after : ℕ) (list : List ℕ)
-        → list ≡ set masks (s / 64) (bit_and mask (bit_not w64 bit))
+        → list ≡ set masks (s / ROWS) (bit_and mask (bit_not w64 bit))
         → ((k : ℕ) → first ≤ k → k < after → get_or list k 0 ≡ 0)
         → (after < length list → get_or list after 0 ≢ 0)
         → IsEntries blocks (set held s (Some (Some key))) next' previous'
-        (set masks (s / 64) (bit_and mask (bit_not w64 bit))) after
+        (set masks (s / ROWS) (bit_and mask (bit_not w64 bit))) after
     put_entries key fits free end is_end is_next is_previous after list is_list before some =
         let w : ℕ = bit_and mask (bit_not w64 bit) in
         let new = set held s (Some (Some key)) in record {
           limit = is.limit;
-          size = length-set masks (s / 64) w ∙ is.size;
+          size = length-set masks (s / ROWS) w ∙ is.size;
           linked =
               subst (λ n. IsLinked new n previous') (sym is_next)
               (subst (IsLinked new (exchanged next end s)) (sym is_previous)
@@ -90,14 +90,14 @@ module _ {blocks : ℕ} {held : List (Option (Option Id))} {next previous masks 
         }
 
     pub clear_entries : (back : ℕ) → back ≡ get_or previous s back → next' ≡ exchanged next back s
-        → previous' ≡ turned next previous back s → (after : ℕ) → after ≡ min first (s / 64)
+        → previous' ≡ turned next previous back s → (after : ℕ) → after ≡ min first (s / ROWS)
         → IsEntries blocks (set held s (Some None)) next' previous'
-        (set masks (s / 64) (bit_or mask bit)) after
+        (set masks (s / ROWS) (bit_or mask bit)) after
     clear_entries back is_back is_next is_previous after least =
         let w : ℕ = bit_or mask bit in
         let new = set held s (Some None) in record {
           limit = is.limit;
-          size = length-set masks (s / 64) w ∙ is.size;
+          size = length-set masks (s / ROWS) w ∙ is.size;
           linked =
               subst (λ n. IsLinked new n previous') (sym is_next)
               (subst (IsLinked new (exchanged next back s)) (sym is_previous)

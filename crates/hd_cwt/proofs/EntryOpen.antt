@@ -1,17 +1,18 @@
 -- Entries of which no slot is held.
-use Rattle.hd_cwt.proofs.Basics.{Id, IsEntries, List, None, Option, [], ap, arith, bit_at, bit_at-zero, bucket_in, cond, entry_at, get_or, get_or-replicate_None, idle_in, length, length-replicate, node_at, none-some, not_in_none, pairs_none, refl, replicate, replicate_cases, sym, ℕ, ◌%◌, ◌*◌, ◌+◌, ◌/◌, ◌<◌, ◌∙◌, ◌≡◌, ◌≢◌, ◌≤◌}
+use Rattle.hd_cwt.proofs.Basics.{BLOCKS, Id, IsEntries, List, None, Option, ROWS, [], ap, arith, bit_at, bit_at-zero, bucket_in, cond, entry_at, get_or, get_or-replicate_None, idle_in, length, length-replicate, node_at, none-some, not_in_none, pairs_none, refl, replicate, replicate_cases, sym, ℕ, ◌%◌, ◌*◌, ◌+◌, ◌/◌, ◌<◌, ◌∙◌, ◌≡◌, ◌≢◌, ◌≤◌}
 
-module _ {blocks : ℕ} (limit : blocks ≤ 256) (held : List (Option (Option Id))) (next previous masks : List ℕ)
-    (is_held : held ≡ replicate (64 * (blocks + 1)) None) (is_masks : masks ≡ replicate (blocks + 1) 0)
-    (next_long : length next ≡ 64 * (blocks + 1) + 4096)
-    (back_long : length previous ≡ 64 * (blocks + 1) + 4096)
-    (ahead : (x : ℕ) → x < 64 * (blocks + 1) + 4096 → node_at next x ≡ x)
-    (back : (x : ℕ) → x < 64 * (blocks + 1) + 4096 → node_at previous x ≡ x) where
+module _ {blocks : ℕ} (limit : blocks ≤ BLOCKS) (held : List (Option (Option Id)))
+    (next previous masks : List ℕ)
+    (is_held : held ≡ replicate (ROWS * (blocks + 1)) None) (is_masks : masks ≡ replicate (blocks + 1) 0)
+    (next_long : length next ≡ ROWS * (blocks + 1) + 4096)
+    (back_long : length previous ≡ ROWS * (blocks + 1) + 4096)
+    (ahead : (x : ℕ) → x < ROWS * (blocks + 1) + 4096 → node_at next x ≡ x)
+    (back : (x : ℕ) → x < ROWS * (blocks + 1) + 4096 → node_at previous x ≡ x) where
   pub none : (s : ℕ) → entry_at held s ≡ None
-  none s = ap (λ es. get_or es s None) is_held ∙ get_or-replicate_None (64 * (blocks + 1)) s
+  none s = ap (λ es. get_or es s None) is_held ∙ get_or-replicate_None (ROWS * (blocks + 1)) s
 
-  held_long : length held ≡ 64 * (blocks + 1)
-  held_long = ap length is_held ∙ length-replicate (64 * (blocks + 1)) None
+  held_long : length held ≡ ROWS * (blocks + 1)
+  held_long = ap length is_held ∙ length-replicate (ROWS * (blocks + 1)) None
 
   masks_long : length masks ≡ blocks + 1
   masks_long = ap length is_masks ∙ length-replicate (blocks + 1) 0
@@ -51,7 +52,7 @@ module _ {blocks : ℕ} (limit : blocks ≤ 256) (held : List (Option (Option Id
     };
     marked = record {
       size = omega (arith, held_long, masks_long);
-      bits = λ s low. ap (λ m. bit_at m (s % 64)) (zero (s / 64)) ∙ bit_at-zero (s % 64)
+      bits = λ s low. ap (λ m. bit_at m (s % ROWS)) (zero (s / ROWS)) ∙ bit_at-zero (s % ROWS)
           ∙ sym (ap (λ v. cond (idle_in v) 1 0) (none s));
       before = λ s low. ap idle_in (none s);
       some = λ low _. omega (arith, low, masks_long);

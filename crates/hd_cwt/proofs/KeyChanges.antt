@@ -1,5 +1,5 @@
 -- The held slots and their keys, where a slot gets a key or loses it, and in a sweep.
-use Rattle.hd_cwt.proofs.Basics.{Bool, CanTake, Contains, HasKey, Id, IsListed, IsSome, IsWeakTable, List, None, Option, Some, WeakTable, [], ap, arith, cases_lt, cond, cond_both, empty, false, false≢true, first_in, get, get-empty, get_or, get_or_default, inl, inr, insert, insert_cases, is_none, is_some, kept_key, len, len-empty, len_again, len_new, length, length-append, member_cases, none-some, not_in_none, option_map, refl, room_of, same_Some, slots_of, some_cases, still_some, subst, swept_at, sym, true, ℕ, ⊎_elim, ◌*◌, ◌++◌, ◌+◌, ◌/◌, ◌<◌, ◌∙◌, ◌∷◌, ◌≡◌, ◌≤◌, ◌⊎◌}
+use Rattle.hd_cwt.proofs.Basics.{BLOCKS, Bool, CanTake, Contains, HasKey, Id, IsListed, IsSome, IsWeakTable, List, None, Option, ROWS, Some, WeakTable, [], ap, arith, cases_lt, cond, cond_both, empty, false, false≢true, first_in, get, get-empty, get_or, get_or_default, inl, inr, insert, insert_cases, is_none, is_some, kept_key, len, len-empty, len_again, len_new, length, length-append, member_cases, none-some, not_in_none, option_map, refl, room_of, same_Some, slots_of, some_cases, still_some, subst, swept_at, sym, true, ℕ, ⊎_elim, ◌*◌, ◌++◌, ◌+◌, ◌/◌, ◌<◌, ◌∙◌, ◌∷◌, ◌≡◌, ◌≤◌, ◌⊎◌}
 use Rattle.std.specs.Ordering.{nat_cmp}
 use Rattle.std.proofs.lemmas.List.Elements.{Contains-append_cases, Contains-append_left, Contains-append_right}
 use Rattle.hd_model.specs.Table.{Table, live_at}
@@ -98,7 +98,7 @@ module _ {t : WeakTable} {slots : List ℕ} {capacity : ℕ} (is : IsListed t sl
     }
 
 -- a table of which no slot is held
-pub none_listed : (blocks capacity : ℕ) → blocks ≤ 256 → 64 * (blocks / 2) ≤ capacity
+pub none_listed : (blocks capacity : ℕ) → blocks ≤ BLOCKS → ROWS * (blocks / 2) ≤ capacity
     → IsListed (record { blocks = blocks; held = empty }) [] capacity
 none_listed blocks capacity limit room = record {
   table = record {

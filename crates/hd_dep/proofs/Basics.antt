@@ -35,3 +35,4 @@ pub use Rattle.hd_model.specs.Visits.{MayVisit, visits_of}
 pub use Rattle.hd_model.specs.declared.data.Addr.{Addr}
 pub use Rattle.hd_model.specs.declared.data.Slot.{Slot}
 pub use Rattle.hd_seg.proofs.RowRewrite.{extra_again, live_row}
+pub use Rattle.hd_model.specs.declared.limits.TheConstants.{CLUMP}

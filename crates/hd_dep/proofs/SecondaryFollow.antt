@@ -1,5 +1,5 @@
 -- What follows a pass over the due rows: the handles that it left waiting, and the closure that comes of it.
-use Rattle.hd_dep.proofs.Basics.{Addr, AreObjects, AreWaiting, Bool, Contains-append_left, Contains-permutation, Contains-push_cases, DueRows, Ends, Gives, Grows, Handle, HasJoined, HasParts, Heap, IsEdge, IsFollowed, IsGathered, IsOn, IsPermutation, IsPermutation-sym, IsPromotionLog, IsSettled, IsTable, IsUnderway, IsVisited, IsWaitingEdge, IsYoungField, List, Objects, OfVisited, Slot, Some, Spreads, Table, Waiting, Waits, [], ap, arith, begins, both_ways, cases_Bool, cases_eq, cases_lt, chain_of, clumps_to_come, due_clumps, due_slots, false, fewer, fewer_left, generation_at, get_or, get_or-take, get_or_from_slice_get, goes_on, inl, inr, length, length-take, live_at, live_row, not_in_none, object_at, row_at, row_live, row_of_kind, same_Some, slice_get, slice_get-get_or, slice_get_within, slots_few, slots_to_come, subst, sym, take, take-take, take_all, true, waiting_row, ℕ, ⊎_elim, ◌*◌, ◌+◌, ◌-◌, ◌<◌, ◌∙◌, ◌∷◌, ◌≡◌, ◌≤◌, ◌⊎◌}
+use Rattle.hd_dep.proofs.Basics.{Addr, AreObjects, AreWaiting, Bool, CLUMP, Contains-append_left, Contains-permutation, Contains-push_cases, DueRows, Ends, Gives, Grows, Handle, HasJoined, HasParts, Heap, IsEdge, IsFollowed, IsGathered, IsOn, IsPermutation, IsPermutation-sym, IsPromotionLog, IsSettled, IsTable, IsUnderway, IsVisited, IsWaitingEdge, IsYoungField, List, Objects, OfVisited, Slot, Some, Spreads, Table, Waiting, Waits, [], ap, arith, begins, both_ways, cases_Bool, cases_eq, cases_lt, chain_of, clumps_to_come, due_clumps, due_slots, false, fewer, fewer_left, generation_at, get_or, get_or-take, get_or_from_slice_get, goes_on, inl, inr, length, length-take, live_at, live_row, not_in_none, object_at, row_at, row_live, row_of_kind, same_Some, slice_get, slice_get-get_or, slice_get_within, slots_few, slots_to_come, subst, sym, take, take-take, take_all, true, waiting_row, ℕ, ⊎_elim, ◌*◌, ◌+◌, ◌-◌, ◌<◌, ◌∙◌, ◌∷◌, ◌≡◌, ◌≤◌, ◌⊎◌}
 use Rattle.hd_model.specs.Names.{NamesObjects}
 use Rattle.hd_model.proofs.Basics.{length-append}
 use Rattle.hd_dep.proofs.DueHandles.{attaches_by, OfPast, none_past, past_more, past_all}
@@ -23,7 +23,7 @@ module _ {o : Objects Addr} {n : ℕ} {t : Table} {ages : List ℕ} {p0 : Addr �
   pub gather_start : IsTable t → {w : DueRows} {before : ℕ} → IsOn t w
       → slots_to_come t ages w ≡ due_slots t ages n kind.Dependent
       → clumps_to_come t ages w ≡ due_clumps ages n (chain_of t kind.Dependent)
-      → 16 * length (due_clumps ages n (chain_of t kind.Dependent)) ≤ room
+      → CLUMP * length (due_clumps ages n (chain_of t kind.Dependent)) ≤ room
       → (rows : List Waiting) → rows ≡ [] → IsGathering o n t ages p0 room w before before rows p0
   gather_start is {w} {before} on slots clumps fits rows none = record {
     under = begins t ages n kind.Dependent is w slots before on clumps;

@@ -6,10 +6,10 @@ pub places_more : (js : List Joiner) (i : ℕ) (d : Joiner) → i < length js
 places_more js i d low = map_more (λ (j : Joiner). j.at) js i d low
 
 -- the queued addresses, with one more after them
-pub beyond : (waiting start : List Addr) (js : List Joiner) (i : ℕ) (d : Joiner) → i < length js
-    → waiting ≡ start ++ places (take i js)
-    → waiting ++ (get_or js i d).at ∷ [] ≡ start ++ places (take (i + 1) js)
-beyond waiting start js i d low is =
+pub beyond : (queued start : List Addr) (js : List Joiner) (i : ℕ) (d : Joiner) → i < length js
+    → queued ≡ start ++ places (take i js)
+    → queued ++ (get_or js i d).at ∷ [] ≡ start ++ places (take (i + 1) js)
+beyond queued start js i d low is =
     ap (λ xs. xs ++ (get_or js i d).at ∷ []) is
     ∙ append_assoc start (places (take i js)) ((get_or js i d).at ∷ [])
     ∙ ap (λ xs. start ++ xs) (sym (places_more js i d low))

@@ -105,13 +105,13 @@ module _ {h : Heap} {n : ℕ} {p : Addr → Bool} {js ls ks : List Joiner} (foun
   }
 
   -- the queue with them, by the field and the value of the queue
-  module _ {items : List Addr} {room : ℕ} {queue : Queue} (seen : record { waiting = items; room = room } ≡
+  module _ {items : List Addr} {room : ℕ} {queue : Queue} (seen : record { queued = items; room = room } ≡
       queue)
       (once : AllPairs (λ x y. x ≢ y) items)
-      (objects : (a : Addr) → Contains queue.waiting a → has_object h a ≡ true)
-      (promoted : (a : Addr) → Contains queue.waiting a → p a ≡ true) (fit : len h.objects ≤ queue.room) where
-    in_queue : (a : Addr) → Contains items a → Contains queue.waiting a
-    in_queue a k = subst (λ (q : Queue). Contains q.waiting a) seen k
+      (objects : (a : Addr) → Contains queue.queued a → has_object h a ≡ true)
+      (promoted : (a : Addr) → Contains queue.queued a → p a ≡ true) (fit : len h.objects ≤ queue.room) where
+    in_queue : (a : Addr) → Contains items a → Contains queue.queued a
+    in_queue a k = subst (λ (q : Queue). Contains q.queued a) seen k
 
     -- what joins was not queued
     pub queue_once : AllPairs (λ x y. x ≢ y) (items ++ places ks)

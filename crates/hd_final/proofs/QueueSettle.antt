@@ -86,18 +86,18 @@ module _ (xs : List Addr) (h now new : Heap) (x : Addr) (u : Unregisters xs h no
   }
 
 -- the same of a list from a position on, one position further
-pub settled_more : (waiting : List Addr) (from i : ℕ) (h now new : Heap) (x : Addr) → from ≤ i
-    → i < length waiting → x ≡ get_or waiting i x
-    → Unregisters (take (i - from) (drop from waiting)) h now → has_object now x ≡ true
+pub settled_more : (queued : List Addr) (from i : ℕ) (h now new : Heap) (x : Addr) → from ≤ i
+    → i < length queued → x ≡ get_or queued i x
+    → Unregisters (take (i - from) (drop from queued)) h now → has_object now x ≡ true
     → new ≡ with_object now x (record (placed_at now x) { registered = false })
-    → Unregisters (take (i + 1 - from) (drop from waiting)) h new
-settled_more waiting from i h now new x low high is u there written =
-    let rest = drop from waiting in
-    let within : i - from < length rest = omega (arith, length-drop from waiting) in
+    → Unregisters (take (i + 1 - from) (drop from queued)) h new
+settled_more queued from i h now new x low high is u there written =
+    let rest = drop from queued in
+    let within : i - from < length rest = omega (arith, length-drop from queued) in
     let place : from + (i - from) ≡ i = omega arith in
     let next : i + 1 - from ≡ i - from + 1 = omega arith in
     let last : get_or rest (i - from) x ≡ x =
-    get_or-drop from waiting (i - from) x ∙ ap (λ k. get_or waiting k x) place ∙ sym is in
+    get_or-drop from queued (i - from) x ∙ ap (λ k. get_or queued k x) place ∙ sym is in
     subst (λ xs. Unregisters xs h new)
     (sym (ap (λ k. take k rest) next ∙ take_more rest (i - from) x within
     ∙ ap (λ y. take (i - from) rest ++ y ∷ []) last))

@@ -4,9 +4,9 @@ use Rattle.hd_model.specs.declared.data.Addr.{Addr}
 
 -- nothing is queued twice, no more is queued than there is room for, and both lists can hold as many without
 -- memory
-pub record IsKept (waiting : List Addr) (room capacity spare : ℕ) : Type 0 where
-  pub once : AllPairs (λ x y. x ≢ y) waiting
-  pub fits : length waiting ≤ room
+pub record IsKept (queued : List Addr) (room capacity spare : ℕ) : Type 0 where
+  pub once : AllPairs (λ x y. x ≢ y) queued
+  pub fits : length queued ≤ room
   pub low : room < 2 ^ 32
   pub held : room ≤ capacity
   pub joiners : room ≤ spare

@@ -106,22 +106,22 @@ pub(crate) fn sort(joiners: &mut Vec<Joiner>)
 }
 
 /// Promotes them, and queues them after the others.
-pub(crate) fn join<M: Marker>(joiners: &[Joiner], waiting: &mut VecDeque<Addr>, marker: &mut M)
+pub(crate) fn join<M: Marker>(joiners: &[Joiner], queued: &mut VecDeque<Addr>, marker: &mut M)
     requires settled { M.settled marker.old }
     requires objects { (a : _) → Contains (places joiners.now) a →
         is_object (objects_of (M.basis marker.old)) a ≡ true }
-    requires room { deque_len waiting.old + length joiners.now ≤ deque_capacity waiting.old }
+    requires room { deque_len queued.old + length joiners.now ≤ deque_capacity queued.old }
     ensures settled { M.settled marker.new }
     ensures basis { M.basis marker.new ≡ M.basis marker.old }
     ensures pinned { M.pinned marker.new ≡ M.pinned marker.old }
     ensures grows { let b = M.basis marker.old in
         Grows (IsYoungField (objects_of b) b.condemned) (λ a. Contains (places joiners.now) a)
         (M.promoted marker.old) (M.promoted marker.new) }
-    ensures waiting { waiting.new.items ≡ waiting.old.items ++ places joiners.now }
-    ensures capacity { deque_capacity waiting.new ≡ deque_capacity waiting.old }
+    ensures queued { queued.new.items ≡ queued.old.items ++ places joiners.now }
+    ensures capacity { deque_capacity queued.new ≡ deque_capacity queued.old }
 {
     for joiner in joiners {
-        waiting.push_back_reserved(joiner.at);
+        queued.push_back_reserved(joiner.at);
         marker.promote(joiner.at);
     }
 }

@@ -19,7 +19,7 @@ use std::marker::Model;
 /// join in a collection. No object is queued twice.
 #[derive(Drop)]
 pub struct Final {
-    waiting: VecDeque<Addr>,
+    queued: VecDeque<Addr>,
     // Those that joined in the last collection.
     joiners: Vec<Joiner>,
     room: u32,
@@ -34,19 +34,19 @@ impl Model for Final {
 
     ghost coded = { queue_code };
 
-    ghost view = { λ q. record { waiting = q.waiting.items; room = q.room } };
+    ghost view = { λ q. record { queued = q.queued.items; room = q.room } };
 
-    ghost invariant = { λ q. IsKept q.waiting.items q.room (deque_capacity q.waiting)
+    ghost invariant = { λ q. IsKept q.queued.items q.room (deque_capacity q.queued)
         (vec_capacity q.joiners) };
 }
 
 impl Final {
     /// An empty queue without room.
     pub fn open(alloc: Global) -> Result<Final, Memory>
-        ensures { IfOk result (λ q. q ≡ record { waiting = []; room = 0 }) }
+        ensures { IfOk result (λ q. q ≡ record { queued = []; room = 0 }) }
     {
         Ok(Final {
-            waiting: VecDeque::new(alloc),
+            queued: VecDeque::new(alloc),
             joiners: Vec::new(alloc),
             room: 0,
         })
@@ -63,7 +63,7 @@ impl Final {
             return Ok(());
         }
         let count = objects as usize;
-        if self.waiting.reserve(count - self.waiting.len()).is_err() {
+        if self.queued.reserve(count - self.queued.len()).is_err() {
             return Err(Memory);
         }
         self.joiners.clear();
@@ -81,8 +81,8 @@ impl Final {
         requires settled { M.settled marker.old }
         requires basis { M.basis marker.old ≡ record { heap = heap.now; condemned = n } }
         requires room { map.len heap.now.objects ≤ self.old.room }
-        requires objects { (a : Addr) → Contains self.old.waiting a → has_object heap.now a ≡ true }
-        requires promoted { (a : Addr) → Contains self.old.waiting a →
+        requires objects { (a : Addr) → Contains self.old.queued a → has_object heap.now a ≡ true }
+        requires promoted { (a : Addr) → Contains self.old.queued a →
             M.promoted marker.old a ≡ true }
         requires identities { HasIdentities heap.now }
         ensures settled { M.settled marker.new }
@@ -90,7 +90,7 @@ impl Final {
         ensures pinned { M.pinned marker.new ≡ M.pinned marker.old }
         ensures room { self.new.room ≡ self.old.room }
         ensures resurrects { Resurrects (λ a. (id_at heap.now a).0) (object_at heap.now) n
-            (M.promoted marker.old) (M.promoted marker.new) self.old.waiting self.new.waiting }
+            (M.promoted marker.old) (M.promoted marker.new) self.old.queued self.new.queued }
         ensures count { Counts (IsOut (object_at heap.now) n (M.promoted marker.old)) result }
     {
         self.revive_among(heap, marker, n, None)
@@ -108,8 +108,8 @@ impl Final {
         requires settled { M.settled marker.old }
         requires basis { M.basis marker.old ≡ record { heap = heap.now; condemned = n } }
         requires room { map.len heap.now.objects ≤ self.old.room }
-        requires objects { (a : Addr) → Contains self.old.waiting a → has_object heap.now a ≡ true }
-        requires promoted { (a : Addr) → Contains self.old.waiting a →
+        requires objects { (a : Addr) → Contains self.old.queued a → has_object heap.now a ≡ true }
+        requires promoted { (a : Addr) → Contains self.old.queued a →
             M.promoted marker.old a ≡ true }
         requires identities { HasIdentities heap.now }
         ensures settled { M.settled marker.new }
@@ -117,61 +117,61 @@ impl Final {
         ensures pinned { M.pinned marker.new ≡ M.pinned marker.old }
         ensures room { self.new.room ≡ self.old.room }
         ensures resurrects { Resurrects (λ a. (id_at heap.now a).0) (object_at heap.now) n
-            (M.promoted marker.old) (M.promoted marker.new) self.old.waiting self.new.waiting }
+            (M.promoted marker.old) (M.promoted marker.new) self.old.queued self.new.queued }
         ensures count { Counts (IsOut (object_at heap.now) n (M.promoted marker.old)) result }
     {
         joiners::find(&mut self.joiners, heap, marker, n, survey);
         joiners::sort(&mut self.joiners);
-        joiners::join(&self.joiners, &mut self.waiting, marker);
+        joiners::join(&self.joiners, &mut self.queued, marker);
         self.joiners.len() as u32
     }
 
     /// Removes the registrations of the queued objects from position `from` on: the ones that
     /// joined last, since a queued object may be registered again.
     pub fn settle(&self, heap: &mut Heap, from: u32)
-        requires { (a : Addr) → Contains self.now.waiting a → has_object heap.old a ≡ true }
-        ensures { Unregisters (drop from self.now.waiting) heap.old heap.new }
+        requires { (a : Addr) → Contains self.now.queued a → has_object heap.old a ≡ true }
+        ensures { Unregisters (drop from self.now.queued) heap.old heap.new }
     {
-        for i in from as usize..self.waiting.len() {
-            heap.set_registered(self.waiting[i], false);
+        for i in from as usize..self.queued.len() {
+            heap.set_registered(self.queued[i], false);
         }
     }
 
     /// Replaces each queued address by its forwarding address.
     pub fn relocate<F: Forward>(&mut self, forward: &F)
         requires laid { F.laid forward.now }
-        requires kept { (a : Addr) → Contains self.old.waiting a → F.kept forward.now a ≡ true }
+        requires kept { (a : Addr) → Contains self.old.queued a → F.kept forward.now a ≡ true }
         ensures { self.new ≡ record self.old {
-          waiting = map (F.place forward.now) self.old.waiting;
+          queued = map (F.place forward.now) self.old.queued;
         } }
     {
-        for i in 0..self.waiting.len() {
-            self.waiting[i] = forward.moved(self.waiting[i]);
+        for i in 0..self.queued.len() {
+            self.queued[i] = forward.moved(self.queued[i]);
         }
     }
 
     /// Takes the first queued object out, in constant time.
     pub fn pop(&mut self) -> Option<Addr>
         ensures { MatchOption result
-            ((self.old.waiting ≡ []) × (self.new ≡ self.old))
-            (λ at. self.old ≡ record self.new { waiting = at ∷ self.new.waiting }) }
+            ((self.old.queued ≡ []) × (self.new ≡ self.old))
+            (λ at. self.old ≡ record self.new { queued = at ∷ self.new.queued }) }
     {
-        self.waiting.pop_front()
+        self.queued.pop_front()
     }
 
     /// The number of queued objects.
     pub fn len(&self) -> u32
-        ensures value { result ≡ length self.now.waiting }
+        ensures value { result ≡ length self.now.queued }
         ensures queue { IsQueue self.now }
     {
-        self.waiting.len() as u32
+        self.queued.len() as u32
     }
 
     /// The queued object at position `i`, from 0.
     pub fn at(&self, i: u32) -> Addr
-        requires { i < length self.now.waiting }
-        ensures { (d : Addr) → result ≡ slice_index_or self.now.waiting i d }
+        requires { i < length self.now.queued }
+        ensures { (d : Addr) → result ≡ slice_index_or self.now.queued i d }
     {
-        self.waiting[i as usize]
+        self.queued[i as usize]
     }
 }

@@ -11,9 +11,9 @@ pub use Rattle.std.specs.Ordering.{nat_cmp}
 pub use Rattle.std.specs.Prelude.{IfSome, IsNone, MatchResult, is_some, option_map, slice_index_or}
 pub use Rattle.atomic_table.specs.Seated.{TableId}
 pub use Rattle.crossbeam_utils.specs.Padded.{padded_value}
-pub use Rattle.hd_custody.proofs.Canon.{both_off, filter_picks, picks_none, picks_one, row_has, with_data_some}
+pub use Rattle.hd_custody.proofs.HeldOnBlock.{both_off, filter_picks, picks_none, picks_one, row_has, with_data_some}
 pub use Rattle.hd_custody.proofs.HeldSlots.{every_append, every_cons, every_picks, has_member, member_at}
-pub use Rattle.hd_custody.proofs.Left.{none_ended, unchanged}
+pub use Rattle.hd_custody.proofs.LeaveHeld.{none_ended, unchanged}
 pub use Rattle.hd_custody.specs.Calls.{Allocates, Gathers, gathered, offered, slot_number}
 pub use Rattle.hd_custody.specs.Counts.{Every, Has, HasAs, changed, is_nil, picks, rows, slot_block, without, without_block}
 pub use Rattle.hd_custody.specs.Rule.{Divided, Entered}
@@ -49,3 +49,4 @@ pub use Rattle.hd_pool.specs.Pool.{FreeSlots, HasNoWholeOf, HasNoneFor, IsFreeFo
 pub use Rattle.hd_world.specs.Growth.{kind_in_use}
 pub use Rattle.hd_world.specs.World.{FitsHeap, GrowsFor, GrowsOrIsFull, GrowsUnoffered, IsOffer, MayApply, MayOffer, TakesFor, TakesSlot, WorldView, asks_of, handle_slot, needs_new, needs_slot, no_room}
 pub use Rattle.hd_world.specs.contracts.world.WorldHeld.TheImpl.{ghosts}
+pub use Rattle.hd_model.specs.declared.limits.TheConstants.{BLOCKS, ROWS}

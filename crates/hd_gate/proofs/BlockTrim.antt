@@ -1,5 +1,5 @@
 -- `trim`: what its caller has under the gate, and once it left.
-use Rattle.hd_gate.proofs.Basics.{Back, BlockUse, Bool, Change, Cmd, Entered, Entry, Every, Gathers, GrowsUnoffered, Has, IfSome, IsIdle, IsOffer, Kind, List, LookedFor, None, Option, OwnSteps, SlotCalls, Some, State, StepOf, Stepped, View, WorldView, [], ap, arith, asks_of, called, cases_eq, change_in, change_of, closed, cond, eq-eqb, every_append, every_picks, false, filter-append, filter_picks, first_block, first_slot, gathered, get, get_left, get_removed, ghosts, inl, inr, is_live, is_nil, kind_number, kind_word, member_at, nat_cmp, ne_eqb, not, numbers_of, option_map, part_of, picks_none, refl, row_has, rows, search_of, subst, sym, took, true, use_of, without_block, without_gathered, without_use, ℕ, ◌%◌, ◌&&◌, ◌*◌, ◌++◌, ◌+◌, ◌/◌, ◌<◌, ◌==◌, ◌∙◌, ◌≡◌, ◌≤◌}
+use Rattle.hd_gate.proofs.Basics.{Back, BlockUse, Bool, Change, Cmd, Entered, Entry, Every, Gathers, GrowsUnoffered, Has, IfSome, IsIdle, IsOffer, Kind, List, LookedFor, None, Option, OwnSteps, ROWS, SlotCalls, Some, State, StepOf, Stepped, View, WorldView, [], ap, arith, asks_of, called, cases_eq, change_in, change_of, closed, cond, eq-eqb, every_append, every_picks, false, filter-append, filter_picks, first_block, first_slot, gathered, get, get_left, get_removed, ghosts, inl, inr, is_live, is_nil, kind_number, kind_word, member_at, nat_cmp, ne_eqb, not, numbers_of, option_map, part_of, picks_none, refl, row_has, rows, search_of, subst, sym, took, true, use_of, without_block, without_gathered, without_use, ℕ, ◌%◌, ◌&&◌, ◌*◌, ◌++◌, ◌+◌, ◌/◌, ◌<◌, ◌==◌, ◌∙◌, ◌≡◌, ◌≤◌}
 use Rattle.std.specs.Int.{bit_at}
 use Rattle.std.proofs.lemmas.Nat.Bits.{bit_at_ones}
 use mathlib.Core.Option.{some}
@@ -20,29 +20,31 @@ module _ (k block : ℕ) where
   abbrev all : List (ℕ × ℕ)
   all = rows block every_row (k + 1) ++ []
 
-  pub all_has : (r : ℕ) → r < 64 → Has (64 * block + r) all
-  all_has r lt = row_has block every_row (k + 1) r [] lt (bit_at_ones 64 r lt)
+  pub all_has : (r : ℕ) → r < ROWS → Has (ROWS * block + r) all
+  all_has r lt = row_has block every_row (k + 1) r [] lt (bit_at_ones ROWS r lt)
 
   of_kind : Every (λ p. p.1 ≡ k + 1) all
   of_kind = every_append (λ p. p.1 ≡ k + 1) (rows block every_row (k + 1)) []
-      (every_picks (λ p. p.1 ≡ k + 1) 64 (λ r. bit_at every_row r == 1) (64 * block) (λ _. k + 1)
+      (every_picks (λ p. p.1 ≡ k + 1) ROWS (λ r. bit_at every_row r == 1) (ROWS * block) (λ _. k + 1)
       (λ r lt on. refl)) (every_nil (λ p. p.1 ≡ k + 1))
 
   -- one of them, as it is held
-  pub there : (x : ℕ) → x / 64 ≡ block → (n : ℕ) × (get_elem? all n ≡ some (x, k + 1))
+  pub there : (x : ℕ) → x / ROWS ≡ block → (n : ℕ) × (get_elem? all n ≡ some (x, k + 1))
   there x of =
-      let has : Has x all = subst (λ y. Has y all) (omega (arith, of)) (all_has (x % 64) (omega arith)) in
+      let has : Has x all = subst (λ y. Has y all) (omega (arith, of)) (all_has (x % ROWS) (omega arith)) in
       let at = member_at x all has in
       let kind = of_kind at.0 at.1 at.2 in
       (at.0, at.2 ∙ ap some (λ i. (at.3 i, kind i)))
 
   pub all_go : without_block block all ≡ []
   all_go =
-      filter-append (λ p. not (p.0 / 64 == block)) (rows block every_row (k + 1)) [] ∙ ap (λ ps. ps ++ [])
-      (filter_picks (λ x. not (x / 64 == block)) 64 (λ r. bit_at every_row r == 1) (64 * block) (λ _. k + 1)
-      ∙ picks_none 64 (λ r. (bit_at every_row r == 1) && not ((64 * block + r) / 64 == block)) (64 * block)
+      filter-append (λ p. not (p.0 / ROWS == block)) (rows block every_row (k + 1)) [] ∙ ap (λ ps. ps ++ [])
+      (filter_picks (λ x. not (x / ROWS == block)) ROWS (λ r. bit_at every_row r == 1) (ROWS * block)
+      (λ _. k + 1)
+      ∙ picks_none ROWS (λ r. (bit_at every_row r == 1) && not ((ROWS * block + r) / ROWS == block))
+      (ROWS * block)
       (λ _. k + 1) (λ r lt. ap (λ b. (bit_at every_row r == 1) && not b)
-      (eq-eqb ((64 * block + r) / 64) block (omega (arith, lt))) ∙ none (bit_at every_row r == 1)))
+      (eq-eqb ((ROWS * block + r) / ROWS) block (omega (arith, lt))) ∙ none (bit_at every_row r == 1)))
     where
       none : (b : Bool) → (b && false) ≡ false
       none true = refl
@@ -179,7 +181,7 @@ module _ (number : ℕ) (command : Cmd) (kind : Kind) (is_gives : change_of comm
 
 -- what `gather` returned may be withdrawn
 pub may_withdraw : (k : ℕ) (o : Option ℕ) (held : List (ℕ × ℕ)) → held ≡ gathered k o []
-    → IfSome o (λ b. (r : ℕ) → r < 64 → Has (64 * b + r) held)
+    → IfSome o (λ b. (r : ℕ) → r < ROWS → Has (ROWS * b + r) held)
 may_withdraw k None held is = tt
 may_withdraw k (Some block) held is =
-    λ r lt. subst (λ h. Has (64 * block + r) h) (sym is) (all_has k block r lt)
+    λ r lt. subst (λ h. Has (ROWS * block + r) h) (sym is) (all_has k block r lt)

@@ -1,5 +1,5 @@
 -- What a seat is once its caller took a step under the gate and left.
-use Rattle.hd_gate.proofs.Basics.{both_off, Bool, Cmd, Continues, Entered, Entry, Every, Follows, Has, HasDone, IsIdle, IsOffer, IsWellFormed, Known, List, LookedFor, MayApply, Numbers, Option, Run, Slot, SlotCalls, Some, Step, Stepped, TableId, Turned, View, WorldView, [], ap, arith, asks_of, caller_view_of, cases_eq, change_in, changed, cond, eq-eqb, false, filter, gave_back, ghosts, inl, inr, length, length-append, ne_eqb, none_ended, not, numbers_of, part_of, picks, picks_none, picks_one, refl, run_is_well_formed, search_of, subst, sym, true, ℕ, ◌&&◌, ◌++◌, ◌+◌, ◌/◌, ◌<◌, ◌==◌, ◌∙◌, ◌∷◌, ◌≡◌, ◌≢◌, ◌≤◌, ◌⊎◌}
+use Rattle.hd_gate.proofs.Basics.{BLOCKS, Bool, Cmd, Continues, Entered, Entry, Every, Follows, Has, HasDone, IsIdle, IsOffer, IsWellFormed, Known, List, LookedFor, MayApply, Numbers, Option, ROWS, Run, Slot, SlotCalls, Some, Step, Stepped, TableId, Turned, View, WorldView, [], ap, arith, asks_of, both_off, caller_view_of, cases_eq, change_in, changed, cond, eq-eqb, false, filter, gave_back, ghosts, inl, inr, length, length-append, ne_eqb, none_ended, not, numbers_of, part_of, picks, picks_none, picks_one, refl, run_is_well_formed, search_of, subst, sym, true, ℕ, ◌&&◌, ◌++◌, ◌+◌, ◌/◌, ◌<◌, ◌==◌, ◌∙◌, ◌∷◌, ◌≡◌, ◌≢◌, ◌≤◌, ◌⊎◌, ◌*◌}
 use mathlib.Core.Option.{some-ne-none}
 use Rattle.hd_custody.specs.{declared.view.Limits.Limits, Counts.slot_count}
 use Rattle.hd_model.specs.Valid.{IsValid}
@@ -139,7 +139,7 @@ module _ (number : ℕ) (command : Cmd) (offer : Option Slot) (u w : WorldView) 
   pub leaves : busy.taken ≡ Some u
       → SlotCalls (change_in u.state number command) u.state v.limits.blocks (search_of v) (search_of busy) e
       → ((b : ℕ) → 0 < b → b < 257 → ghosts.kind w b ≡ changed busy.changes (ghosts.kind u) b)
-      → ((x : ℕ) → 64 ≤ x → ghosts.live w x ≡ true → (ghosts.live u x ≡ true) ⊎ Has x busy.held)
+      → ((x : ℕ) → ROWS ≤ x → ghosts.live w x ≡ true → (ghosts.live u x ≡ true) ⊎ Has x busy.held)
       → after.held ≡ []
       → LookedFor (asks_of u.state number command) v.limits.blocks (search_of v) (search_of busy) e
       → Leaves number command u w e v busy
@@ -201,8 +201,8 @@ live_off false b e = refl
 module _ (u w : WorldView) (v : View WorldView) where
   -- what ended, of the n slots from slot 64 on
   ended : ℕ → List (ℕ × ℕ)
-  ended n = picks n (λ r. ghosts.live u (64 + r) && not (ghosts.live w (64 + r))) 64
-      (λ r. ghosts.kind w ((64 + r) / 64))
+  ended n = picks n (λ r. ghosts.live u (ROWS + r) && not (ghosts.live w (ROWS + r))) ROWS
+      (λ r. ghosts.kind w ((ROWS + r) / ROWS))
 
   -- no slot became live and none ended
   pub held_stays : ((x : ℕ) → ghosts.live w x ≡ ghosts.live u x) → v.held ≡ []
@@ -226,23 +226,23 @@ module _ (u w : WorldView) (v : View WorldView) where
     held_lives =
         ap (λ h. filter (λ (p : ℕ × ℕ). not (ghosts.live w p.0)) h ++ ended slot_count) only
         ∙ ap (λ b. cond (not b) ((x, k) ∷ []) [] ++ ended slot_count) on
-        ∙ picks_none slot_count (λ r. ghosts.live u (64 + r) && not (ghosts.live w (64 + r))) 64
-        (λ r. ghosts.kind w ((64 + r) / 64)) (λ r _. none_ends (64 + r))
+        ∙ picks_none slot_count (λ r. ghosts.live u (ROWS + r) && not (ghosts.live w (ROWS + r))) ROWS
+        (λ r. ghosts.kind w ((ROWS + r) / ROWS)) (λ r _. none_ends (ROWS + r))
 
   -- one ended, and is held
-  pub held_ends : (a : ℕ) → a < 16384 → v.held ≡ [] → ghosts.live u (64 + a) ≡ true
-      → ghosts.live w (64 + a) ≡ false → ((y : ℕ) → y ≢ 64 + a → ghosts.live w y ≡ ghosts.live u y)
-      → (gave_back ghosts u w v).held ≡ (64 + a, ghosts.kind w ((64 + a) / 64)) ∷ []
+  pub held_ends : (a : ℕ) → a < BLOCKS * ROWS → v.held ≡ [] → ghosts.live u (ROWS + a) ≡ true
+      → ghosts.live w (ROWS + a) ≡ false → ((y : ℕ) → y ≢ ROWS + a → ghosts.live w y ≡ ghosts.live u y)
+      → (gave_back ghosts u w v).held ≡ (ROWS + a, ghosts.kind w ((ROWS + a) / ROWS)) ∷ []
   unfolding ended slot_count
   held_ends a low empty was off others =
       ap (λ h. filter (λ (p : ℕ × ℕ). not (ghosts.live w p.0)) h ++ ended slot_count) empty
-      ∙ picks_one slot_count a (λ r. ghosts.live u (64 + r) && not (ghosts.live w (64 + r))) 64
-      (λ r. ghosts.kind w ((64 + r) / 64)) low
+      ∙ picks_one slot_count a (λ r. ghosts.live u (ROWS + r) && not (ghosts.live w (ROWS + r))) ROWS
+      (λ r. ghosts.kind w ((ROWS + r) / ROWS)) low
       (λ r _. elim (cases_eq r a) [
         | inl here ↦ (
-            ap (λ q. ghosts.live u (64 + q) && not (ghosts.live w (64 + q))) here
-            ∙ ap (λ b. b && not (ghosts.live w (64 + a))) was ∙ ap not off ∙ sym (eq-eqb r a here))
+            ap (λ q. ghosts.live u (ROWS + q) && not (ghosts.live w (ROWS + q))) here
+            ∙ ap (λ b. b && not (ghosts.live w (ROWS + a))) was ∙ ap not off ∙ sym (eq-eqb r a here))
         | inr apart ↦ (
-            ap (λ b. ghosts.live u (64 + r) && not b) (others (64 + r) (λ e. apart (omega (arith, e))))
-            ∙ both_off (ghosts.live u (64 + r)) ∙ sym (ne_eqb r a apart))
+            ap (λ b. ghosts.live u (ROWS + r) && not b) (others (ROWS + r) (λ e. apart (omega (arith, e))))
+            ∙ both_off (ghosts.live u (ROWS + r)) ∙ sym (ne_eqb r a apart))
       ])

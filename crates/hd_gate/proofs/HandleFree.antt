@@ -1,12 +1,12 @@
 -- `hfree`: what its caller has once it left the gate, and once it let the slot go.
-use Rattle.hd_gate.proofs.Basics.{Change, Cmd, Entered, Entry, Follows, Frees, Handle, HasAs, HasDone, Id, IfSome, IsIdle, Kind, Known, LookedFor, None, Numbers, Option, ReleasesFreed, ReleasesOne, SearchView, Slot, SlotCalls, Some, StepOf, Stepped, TableId, Turned, View, WorldView, [], ap, arith, asks_of, block_of, caller_view_of, cases_eq, change_in, change_of, cond, eq-eqb, freed_in, gave_back, get, ghosts, handles_of, inl, inr, is_some, kind_in_use, kind_number, kind_word, not, option_map, refl, search_of, subst, sym, took, true, use_of, without, ℕ, ◌+◌, ◌-◌, ◌/◌, ◌||◌, ◌∙◌, ◌∷◌, ◌≡◌, ◌≢◌, ◌≤◌}
+use Rattle.hd_gate.proofs.Basics.{BLOCKS, Change, Cmd, Entered, Entry, Follows, Frees, Handle, HasAs, HasDone, Id, IfSome, IsIdle, Kind, Known, LookedFor, None, Numbers, Option, ROWS, ReleasesFreed, ReleasesOne, SearchView, Slot, SlotCalls, Some, StepOf, Stepped, TableId, Turned, View, WorldView, [], ap, arith, asks_of, block_of, caller_view_of, cases_eq, change_in, change_of, cond, eq-eqb, freed_in, gave_back, get, ghosts, handles_of, inl, inr, is_some, kind_in_use, kind_number, kind_word, not, option_map, refl, search_of, subst, sym, took, true, use_of, without, ℕ, ◌+◌, ◌-◌, ◌/◌, ◌||◌, ◌∙◌, ◌∷◌, ◌≡◌, ◌≢◌, ◌≤◌}
 use lib.ListN.{get_elem?}
 use Rattle.hd_gate.proofs.StepLiveSlots.{in_state, is_free, LeavesSlots, IsFreed, FreesAt, frees_at}
 use Rattle.hd_gate.proofs.GateLeave.{well_formed, idle_of, goes_on, done_after, held_stays, held_ends}
 use Rattle.hd_model.specs.declared.data.Reply.TheVariants as reply
 
 module _ (number : ℕ) (command : Cmd) (is_frees : change_of command ≡ Frees) (u w : WorldView)
-    (v : View WorldView) (idle : IsIdle v number) (some_room : 1 ≤ v.room) (few : v.limits.blocks ≤ 256)
+    (v : View WorldView) (idle : IsIdle v number) (some_room : 1 ≤ v.room) (few : v.limits.blocks ≤ BLOCKS)
     (entered : Entered ghosts v u) (e : Entry) (stepped : Stepped u w number command None e) where
   frees : change_in u.state number command ≡ Frees
   frees = in_state u.state number command Frees (λ e. cc) is_frees
@@ -91,18 +91,18 @@ module _ (number : ℕ) (command : Cmd) (is_frees : change_of command ≡ Frees)
     inside : (1 ≤ block_of slot) × (block_of slot ≤ u.numbers.blocks)
     inside = (well_formed stepped).handles.blocks (block_of slot) (ap is_some used)
 
-    limit : u.numbers.blocks ≤ 256
-    limit = subst (λ (n : Numbers). n.blocks ≤ 256) (sym entered.sized) few
+    limit : u.numbers.blocks ≤ BLOCKS
+    limit = subst (λ (n : Numbers). n.blocks ≤ BLOCKS) (sym entered.sized) few
 
-    place : 64 + (slot.0 - 64) ≡ slot.0
+    place : ROWS + (slot.0 - ROWS) ≡ slot.0
     place = omega (arith, inside.0)
 
     held : left.held ≡ (slot.0, kind_number handle.kind + 1) ∷ []
     held =
-        held_ends u w busy (slot.0 - 64) (omega (arith, inside.0, inside.1, limit)) idle.held
+        held_ends u w busy (slot.0 - ROWS) (omega (arith, inside.0, inside.1, limit)) idle.held
         (ap (ghosts.live u) place ∙ live) (ap (ghosts.live w) place ∙ at.here)
         (λ y apart. at.others y (λ is. apart (is ∙ sym place)))
-        ∙ ap (λ x. (x, ghosts.kind w (x / 64)) ∷ []) place
+        ∙ ap (λ x. (x, ghosts.kind w (x / ROWS)) ∷ []) place
         ∙ ap (λ o. (slot.0, kind_word o) ∷ []) used'
 
     gone : without slot.0 left.held ≡ []

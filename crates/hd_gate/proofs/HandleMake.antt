@@ -1,5 +1,5 @@
 -- `hnew`, and a `cadd` that needs a slot: what its caller has under the gate, and once it left.
-use Rattle.hd_gate.proofs.Basics.{Allocates, Back, BlockUse, Change, Cmd, Entered, Entry, Grown, GrowsFor, GrowsUnoffered, Has, IsFree, IsIdle, IsNone, IsOffer, Kind, LookedFor, MayGrant, MayOffer, None, Numbers, One, Option, OwnMiss, OwnSteps, SearchView, Slot, SlotCalls, Some, State, StepOf, Stepped, Takes, TakesFor, Two, View, WorldView, Zero, [], ap, arith, asks_of, block_of, blocks_needed, called, cases_eq, change_in, changed, cond, eq-eqb, extra_block, extra_data, false, get, get_beside, get_inserted, ghosts, granted, handle_block, handle_slot, handles_of, has_member, inl, inr, is_live, is_nil, is_paired, kind_number, kind_word, nat_cmp, ne_eqb, numbers_of, offered, part_of, refl, search_of, slot_number, subst, sym, took, true, use_of, with_data_some, with_grown, ℕ, ◌*◌, ◌+◌, ◌<◌, ◌==◌, ◌↔◌, ◌∙◌, ◌∷◌, ◌≡◌, ◌≢◌, ◌≤◌, ◌⊎◌}
+use Rattle.hd_gate.proofs.Basics.{Allocates, Back, BlockUse, Change, Cmd, Entered, Entry, Grown, GrowsFor, GrowsUnoffered, Has, IsFree, IsIdle, IsNone, IsOffer, Kind, LookedFor, MayGrant, MayOffer, None, Numbers, One, Option, OwnMiss, OwnSteps, ROWS, SearchView, Slot, SlotCalls, Some, State, StepOf, Stepped, Takes, TakesFor, Two, View, WorldView, Zero, [], ap, arith, asks_of, block_of, blocks_needed, called, cases_eq, change_in, changed, cond, eq-eqb, extra_block, extra_data, false, get, get_beside, get_inserted, ghosts, granted, handle_block, handle_slot, handles_of, has_member, inl, inr, is_live, is_nil, is_paired, kind_number, kind_word, nat_cmp, ne_eqb, numbers_of, offered, part_of, refl, search_of, slot_number, subst, sym, took, true, use_of, with_data_some, with_grown, ℕ, ◌*◌, ◌+◌, ◌<◌, ◌==◌, ◌↔◌, ◌∙◌, ◌∷◌, ◌≡◌, ◌≢◌, ◌≤◌, ◌⊎◌}
 use mathlib.Core.Option.{some}
 use lib.ListN.{get_elem?}
 use Rattle.hd_custody.specs.{Views.GrowsByBlocks as GrowsKind, Misses.WholeMiss}
@@ -34,7 +34,7 @@ module _ (u : WorldView) (v : View WorldView) (kind : Kind) (entered : Entered g
 -- ---- the one slot held became live
 
 new_lives : (u w : WorldView) (busy : View WorldView) (x k : ℕ) → busy.held ≡ (x, k) ∷ []
-    → ((z : ℕ) → z ≢ x → ghosts.live w z ≡ ghosts.live u z) → (z : ℕ) → 64 ≤ z → ghosts.live w z ≡ true
+    → ((z : ℕ) → z ≢ x → ghosts.live w z ≡ ghosts.live u z) → (z : ℕ) → ROWS ≤ z → ghosts.live w z ≡ true
     → (ghosts.live u z ≡ true) ⊎ Has z busy.held
 new_lives u w busy x k only others z _ on = elim (cases_eq z x) [
   | inl same ↦ inr (subst (λ n. Has n busy.held) (sym same)
@@ -160,9 +160,9 @@ module _ (number : ℕ) (command : Cmd) (kind : Kind) (u w : WorldView)
     empty = held ∙ ap (λ p. offered K (slot_number p) []) is_none
 
     at_first : (block : ℕ) (blocks_after : map.FinMap nat_cmp BlockUse)
-        → IsNowLive u.numbers u.state (well_formed stepped) e w.state stepped.applied.step (block * 64)
+        → IsNowLive u.numbers u.state (well_formed stepped) e w.state stepped.applied.step (block * ROWS)
         blocks_after
-        → IsNowLive u.numbers u.state (well_formed stepped) e w.state stepped.applied.step (64 * block)
+        → IsNowLive u.numbers u.state (well_formed stepped) e w.state stepped.applied.step (ROWS * block)
         blocks_after
     at_first block blocks_after now = subst (λ x. IsNowLive u.numbers u.state
         (well_formed stepped) e w.state stepped.applied.step x blocks_after) (omega arith) now
@@ -181,14 +181,14 @@ module _ (number : ℕ) (command : Cmd) (kind : Kind) (u w : WorldView)
               let limit = ap (λ (n : Numbers). n.blocks) sized in omega (arith, by.2, same_given, limit)),
         )))
     none_offered (One block) by =
-        is_stored (One block) (64 * block) _ (ap (λ h. (64 * block, K + 1) ∷ h) empty)
+        is_stored (One block) (ROWS * block) _ (ap (λ h. (ROWS * block, K + 1) ∷ h) empty)
         (at_first block _ by.2) refl same refl (λ b _ _.
         word_after u.state.blocks w.state.blocks (handles_of kind) block by.2.blocks_are b) (λ _. is_none)
         by.3
     none_offered (Two block other) by =
         let changes : (granted K block other (took u v')).changes ≡ (other, 8) ∷ (block, K + 1) ∷ [] =
         with_data_some other ((block, K + 1) ∷ []) (λ zero_is. absurd (omega (arith, zero_is, by.2.low))) in
-        is_stored (Two block other) (64 * block) _ (ap (λ h. (64 * block, K + 1) ∷ h) empty)
+        is_stored (Two block other) (ROWS * block) _ (ap (λ h. (ROWS * block, K + 1) ∷ h) empty)
         (at_first block _ by.3) refl same refl
         (λ b _ _. word_after (map.insert u.state.blocks block (handles_of kind)) w.state.blocks
         extra_data other by.3.blocks_are b ∙ ap (cond (other == b) 8)

@@ -1,13 +1,13 @@
 pub mod Basics
 pub mod TiedPool
 pub mod PoolStep
-pub mod Beginnings
+pub mod CallerOpen
 pub mod StepLiveSlots
-pub mod Plain
+pub mod PlainTurn
 pub mod HandleMake
 pub mod GateSearch
 pub mod HandleFree
 pub mod BlockTrim
 pub mod GateLeave
 pub mod CallDone
-pub mod Endings
+pub mod CallerClose

@@ -1,5 +1,5 @@
 -- Over every step the pool after it is tied to the state after it.
-use Rattle.hd_gate.proofs.Basics.{Adding, Adds, AddsLeast, Back, BlockUse, Bool, Change, Cmd, Dependent, Entry, FindsFullExactly, FreeSlots, Frees, GivesBackLeast, GivesLeast, Grown, GrowsFor, GrowsUnoffered, HasCalled, HasNoneFor, IfSome, IsFreeFor, IsLeastFreeFor, IsLeastUnused, IsLeastWholeOf, IsOffer, IsTied, Keeps, Kind, MayGrow, MayNote, MayOffer, None, NoneAllFree, NoneFree, Numbers, Offers, One, Option, Slot, Some, State, Step, StepOf, Stepped, Takes, TakesFor, TakesLeast, TakesSlot, TrimsExactly, Two, WorldView, Zero, adding_of, and_right, ap, arith, asks_of, block_of, blocks_needed, cases_eq, change_in, cond, contains, extra_data, false, first_slot, get, get_beside, get_inserted, get_left, get_removed, given_of, grown_by, handle_slot, handles_of, in_idle, in_new, inl, inr, is_free, is_live, is_refused, is_some, kind_in_use, kind_of, kind_of_block, nat_cmp, needs_new, not, noted, refl, slots_of, step_keeps, subst, sym, true, use_of, without_use, ℕ, ◌&&◌, ◌*◌, ◌+◌, ◌<◌, ◌↔◌, ◌∙◌, ◌≡◌, ◌≢◌, ◌⊎◌}
+use Rattle.hd_gate.proofs.Basics.{Adding, Adds, AddsLeast, Back, BlockUse, Bool, Change, Cmd, Dependent, Entry, FindsFullExactly, FreeSlots, Frees, GivesBackLeast, GivesLeast, Grown, GrowsFor, GrowsUnoffered, HasCalled, HasNoneFor, IfSome, IsFreeFor, IsLeastFreeFor, IsLeastUnused, IsLeastWholeOf, IsOffer, IsTied, Keeps, Kind, MayGrow, MayNote, MayOffer, None, NoneAllFree, NoneFree, Numbers, Offers, One, Option, ROWS, Slot, Some, State, Step, StepOf, Stepped, Takes, TakesFor, TakesLeast, TakesSlot, TrimsExactly, Two, WorldView, Zero, adding_of, and_right, ap, arith, asks_of, block_of, blocks_needed, cases_eq, change_in, cond, contains, extra_data, false, first_slot, get, get_beside, get_inserted, get_left, get_removed, given_of, grown_by, handle_slot, handles_of, in_idle, in_new, inl, inr, is_free, is_live, is_refused, is_some, kind_in_use, kind_of, kind_of_block, nat_cmp, needs_new, not, noted, refl, slots_of, step_keeps, subst, sym, true, use_of, without_use, ℕ, ◌&&◌, ◌*◌, ◌+◌, ◌<◌, ◌↔◌, ◌∙◌, ◌≡◌, ◌≢◌, ◌⊎◌}
 use Rattle.std.specs.Option.{ForSome}
 use Rattle.hd_pool.proofs.SetMembers.{insert_same, insert_other, remove_same, remove_other, union_same, union_other, difference_same, difference_other}
 use Rattle.hd_world.specs.World.{Takes as TakesOffer}
@@ -60,7 +60,7 @@ module _ (n : Numbers) (s : State) (p : FreeSlots) (tied : IsTied n s p) (e : En
 
   -- it took the first slot of a block by which the table grew
   module _ (kind : Kind) (block : ℕ) (blocks : map.FinMap nat_cmp BlockUse) (unused : use_of s block ≡ None)
-      (now : IsNowLive n s tied.well_formed e t step (block * 64) blocks)
+      (now : IsNowLive n s tied.well_formed e t step (block * ROWS) blocks)
       (has : use_of t block ≡ Some (handles_of kind))
       (others : (other : ℕ) → other ≢ block → kind_of_block t other ≡ kind_of_block s other) where
     took_first : IsTied n t (grown_by p kind block)

@@ -1,6 +1,6 @@
 -- What a step does to the slots that are live and to the uses of blocks, by what its command does to the free
 -- slots.
-use Rattle.hd_gate.proofs.Basics.{Adding, Adds, AddsEntry, Back, BlockUse, Bool, Change, Cmd, Dependent, Entry, FindsTableFull, Frees, GivesBack, Grown, GrowsOrIsFull, Handle, Id, IsLeastUnused, IsOutcome, IsWellFormed, Keeps, Kind, MakesHandle, MayGive, None, Numbers, One, Option, Slot, Some, State, Step, StepOf, Takes, TakesSlot, TakesWay, Two, WeakEntry, Zero, adding_key, adding_of, ap, arith, asks_of, blocks_needed, cases_lt, change_in, change_of, cond, extra_data, false, free_handle, get, get_beside, get_inserted, get_left, get_removed, given_of, handle_at, handle_slot, handles_of, idle_slot, in_idle, in_new, inl, inr, is_live, is_paired, is_refused, is_some, kind_number, kind_of, kind_word, made_handle, nat_cmp, needs_new, no_room, option_map, or_right, refl, refuses, register_of, same_Some, slot_of_key, subst, sym, true, way_of_adding, with_entry, with_growth, with_handle, with_handle_register, write_cases, ℕ, ◌*◌, ◌+◌, ◌<◌, ◌||◌, ◌∙◌, ◌≡◌, ◌≢◌, ◌⊎◌}
+use Rattle.hd_gate.proofs.Basics.{Adding, Adds, AddsEntry, Back, BlockUse, Bool, Change, Cmd, Dependent, Entry, FindsTableFull, Frees, GivesBack, Grown, GrowsOrIsFull, Handle, Id, IsLeastUnused, IsOutcome, IsWellFormed, Keeps, Kind, MakesHandle, MayGive, None, Numbers, One, Option, ROWS, Slot, Some, State, Step, StepOf, Takes, TakesSlot, TakesWay, Two, WeakEntry, Zero, adding_key, adding_of, ap, arith, asks_of, blocks_needed, cases_lt, change_in, change_of, cond, extra_data, false, free_handle, get, get_beside, get_inserted, get_left, get_removed, given_of, handle_at, handle_slot, handles_of, idle_slot, in_idle, in_new, inl, inr, is_live, is_paired, is_refused, is_some, kind_number, kind_of, kind_word, made_handle, nat_cmp, needs_new, no_room, option_map, or_right, refl, refuses, register_of, same_Some, slot_of_key, subst, sym, true, way_of_adding, with_entry, with_growth, with_handle, with_handle_register, write_cases, ℕ, ◌*◌, ◌+◌, ◌<◌, ◌||◌, ◌∙◌, ◌≡◌, ◌≢◌, ◌⊎◌}
 use Rattle.hd_model.specs.{declared.data.Make.Make, declared.data.Refusal.Refusal, Touched.touched_by}
 use Rattle.hd_model.proofs.Effects.{Effect, with_made_parts, collects, adds_entry, removes_entry, growth_is, effect}
 use Rattle.hd_model.proofs.{KindTests.same_number, KindTests.few_kinds, Outcomes.option_cases, Outcomes.on_handle_cases, StepFrames.untouched_stays, WeakSlots.idle_found}
@@ -297,10 +297,10 @@ module _ (n : Numbers) (s : State) (well : IsWellFormed n s) (e : Entry) (t : St
       × (n.blocks < given_of s + blocks_needed kind)
   GrowsBy kind (One block) =
       (is_paired kind ≡ false) × IsLeastUnused n s 1 block
-      × IsNowLive (block * 64) (map.insert s.blocks block (handles_of kind)) × (e.reply ≡ reply.Done)
+      × IsNowLive (block * ROWS) (map.insert s.blocks block (handles_of kind)) × (e.reply ≡ reply.Done)
   GrowsBy kind (Two block other) =
       (is_paired kind ≡ true) × IsLeastUnused n s 1 block × IsLeastUnused n s (block + 1) other
-      × IsNowLive (block * 64) (map.insert (map.insert s.blocks block (handles_of kind)) other extra_data)
+      × IsNowLive (block * ROWS) (map.insert (map.insert s.blocks block (handles_of kind)) other extra_data)
       × (e.reply ≡ reply.Done)
   GrowsBy kind (Back block) = ⊥
 

@@ -76,7 +76,7 @@ pub(crate) fn note(pool: &mut Pool, change: Change, entry: &Entry)
 {
     match (change, entry.grown, entry.slot) {
         (Change::Takes(kind), Grown::One(block) | Grown::Two(block, _), _) => {
-            grow(pool, kind, block);
+            add_block(pool, kind, block);
         }
         (Change::Frees, _, Some(slot)) => pool.put(slot),
         (Change::GivesBack(_), Grown::Back(block), _) => pool.drop_block(block),
@@ -88,7 +88,7 @@ pub(crate) fn note(pool: &mut Pool, change: Change, entry: &Entry)
 }
 
 // Adds a block to a pool that has no free slot of its kind, and takes its first slot.
-fn grow(pool: &mut Pool, kind: Kind, block: u32)
+fn add_block(pool: &mut Pool, kind: Kind, block: u32)
     requires { MayGrow pool.old kind block }
     ensures { pool.new ≡ grown_by pool.old kind block }
 {

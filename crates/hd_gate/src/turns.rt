@@ -74,7 +74,7 @@ fn make<R: Wait>(
     let offer = custody.allocate(seat, kind);
     let mut world = custody.enter(rt, seat);
     let entry = step_surely(&mut world, number, cmd, offer);
-    grow(custody, seat, kind, entry.grown);
+    grant_blocks(custody, seat, kind, entry.grown);
     custody.leave(seat, world);
     entry.reply
 }
@@ -96,7 +96,7 @@ fn add<R: Wait>(
     let needs = world.needs_slot(number, cmd);
     let offer = look(custody, seat, needs);
     let entry = step_surely(&mut world, number, cmd, offer);
-    grow(custody, seat, Kind::Dependent, entry.grown);
+    grant_blocks(custody, seat, Kind::Dependent, entry.grown);
     custody.leave(seat, world);
     entry.reply
 }
@@ -158,7 +158,7 @@ fn trim<R: Wait>(
 }
 
 // Returns the words by which blocks the table grew for a kind, if it grew.
-fn grow(custody: &Custody<Boxed>, seat: &mut Seat<Boxed>, kind: Kind, grown: Grown)
+fn grant_blocks(custody: &Custody<Boxed>, seat: &mut Seat<Boxed>, kind: Kind, grown: Grown)
     requires seat { seat.old.table ≡ custody.now.table }
     requires gate { seat.old.view.has_gate ≡ true }
     requires grows { grown ≢ Grown.Zero → GrowsByBlocks (is_paired kind) grown }

@@ -14,7 +14,7 @@ pub use Rattle.hd_final.specs.Resurrection.{IsOut, Resurrects}
 pub use Rattle.hd_final.specs.Settling.{Unregisters, unregistered}
 pub use Rattle.hd_gc.specs.Clearing.{Clears, marked_table}
 pub use Rattle.hd_gc.specs.Collected.{Collected, LeavesPacked}
-pub use Rattle.hd_gc.specs.Growing.{Holds, IsOldField, IsOldFieldUpTo, Promotes, left_to}
+pub use Rattle.hd_gc.specs.Growing.{Holds, IsOldField, Promotes}
 pub use Rattle.hd_gc.specs.MarkAndClear.{FoundSets, MarkedAndCleared, Reports}
 pub use Rattle.hd_gc.specs.Marking.{Resurrected, Resurrection, Traced}
 pub use Rattle.hd_gc.specs.Ready.{IsReady, Parts, basis_of, parts, scene_of}
@@ -54,3 +54,4 @@ pub use Rattle.hd_plan.specs.Commit.{IsSameShape, moved_object}
 pub use Rattle.hd_plan.specs.Plan.{HasNoEmptyRegion, IsLaid, PlanOf, StartsInRegion, kept_in, place_in, stays_in}
 pub use Rattle.hd_scan.specs.Tasks.{has_role, is_role, long_tasks, role_number, root_tasks, short_tasks, swept, takes, takes_any, task_kind}
 pub use Rattle.hd_scan.specs.declared.task.Task.{Task}
+pub use Rattle.hd_model.specs.declared.limits.TheConstants.{BLOCKS, CLUMP, CLUMPS, LEFT, OPEN, REGION, ROWS}

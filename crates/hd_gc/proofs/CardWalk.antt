@@ -1,15 +1,25 @@
 -- The walk over the older objects in set cards.
-use Rattle.hd_gc.proofs.Basics.{Addr, Heap, IsField, IsNext, IsOldField, IsOldFieldUpTo, IsSettledMarks, MarksOf, None, Option, Promotes, Some, and_from, and_parts, arith, cases_Bool, false, generation_at, has_object, inl, inr, is_after, is_carded, is_old_carded, le-ltb, left_to, lt-ltb, ltb-false, ltb-true, nat_lt, object_at, refl, subst, sym, true, true≢false, ℕ, ⊎_elim, ◌/◌, ◌<◌, ◌^◌, ◌∙◌, ◌≡◌, ◌≤◌, ◌⊎◌}
+use Rattle.hd_gc.proofs.Basics.{Addr, Heap, IsField, IsNext, IsOldField, MarksOf, None, Option, Promotes, REGION, Some, and_from, and_parts, arith, cases_Bool, false, generation_at, has_object, inl, inr, is_after, is_carded, is_old_carded, le-ltb, lt-ltb, ltb-false, ltb-true, nat_lt, object_at, refl, subst, sym, true, true≢false, ℕ, ⊎_elim, ◌/◌, ◌<◌, ◌^◌, ◌∙◌, ◌≡◌, ◌≤◌, ◌⊎◌, ◌+◌, ◌-◌}
 use Rattle.std.proofs.lemmas.Bool.Decides.{nat_tests}
 use Rattle.hd_model.specs.Heap.{region_of}
 use Rattle.hd_heap.specs.Sound.{IsSound}
-use Rattle.hd_gc.proofs.PromoteSteps.{promotes_none, promotes_like, promotes_on}
+use Rattle.hd_gc.proofs.PromoteSteps.{promotes_like, promotes_on}
+
+-- y is in a field of an older object in a set card, up to an address
+pub record IsOldFieldUpTo (h : Heap) (n : ℕ) (after : Option Addr) (y : Addr) : Type 0 where
+  pub old : IsOldField h n y
+  pub done : is_after after old.from ≡ false
+
+-- how far an address may still rise
+abbrev pub left_to : Option Addr → ℕ
+left_to None = 2 ^ 32 + 1
+left_to (Some a) = 2 ^ 32 - a.0
 
 -- an address of an object is below 2 ^ 32
 pub object_fits : (h : Heap) (a : Addr) → IsSound h → has_object h a ≡ true → a.0 < 2 ^ 32
 unfolding region_of
 object_fits h a sound object =
-    let low : a.0 / 256 < 2 ^ 24 = (sound.numbers (region_of a) (sound.held a object)).1 in omega arith
+    let low : a.0 / REGION < 2 ^ 24 = (sound.numbers (region_of a) (sound.held a object)).1 in omega arith
 
 pub carded_older : (h : Heap) (n : ℕ) (a : Addr) → is_old_carded h n a ≡ true
     → n < generation_at (object_at h) a

@@ -1,5 +1,5 @@
 -- The scene that a collection leaves, by address: what was left, at its new addresses.
-use Rattle.hd_gc.proofs.Basics.{Addr, Basis, Bool, Collected, Collects, Counts, Found, Handle, HasIdentities, HasSoundAges, Heap, IsCondemned, IsPinned, IsReading, IsReady, IsSameTable, IsWhole, LeavesPacked, MarkedAndCleared, None, Object, Option, Parts, Placed, PlanOf, Queue, RelocatedAll, Report, Reports, Scene, Some, Table, Unregisters, all_kinds, ap, arith, cleared, collected_steps, cond, cond-true, counts_le, counts_named, counts_once, counts_where, drop, drop-append_seam, faded_ages, fades_cleared, false, get, has_object, held, holds, id_at, is_attaching, is_due, is_lost, is_object, is_some, kept_in, le_trans, left_by, len, length, length-map, loses, loses_by, map, moved_ages, moved_by_identity, moved_object, moved_whole, object_at, object_in, option_map, pinned_held, pins_hold, place_in, raised, reached_kept, refl, region_generation, region_of, rename_handle, rename_object, role, root_reached, row_at, same_table_on, scene_of, stays_in, subst, survivor, sym, true, true≢false, undue_in_place, unregistered, used_of, visits_alike, visits_over, ℕ, ◌&&◌, ◌*◌, ◌+◌, ◌/◌, ◌∙◌, ◌≡◌, ◌≤◌}
+use Rattle.hd_gc.proofs.Basics.{Addr, Basis, Bool, Collected, Collects, Counts, Found, Handle, HasIdentities, HasSoundAges, Heap, IsCondemned, IsPinned, IsReading, IsReady, IsSameTable, IsWhole, LEFT, LeavesPacked, MarkedAndCleared, None, OPEN, Object, Option, Parts, Placed, PlanOf, Queue, RelocatedAll, Report, Reports, Scene, Some, Table, Unregisters, all_kinds, ap, arith, cleared, collected_steps, cond, cond-true, counts_le, counts_named, counts_once, counts_where, drop, drop-append_seam, faded_ages, fades_cleared, false, get, has_object, held, holds, id_at, is_attaching, is_due, is_lost, is_object, is_some, kept_in, le_trans, left_by, len, length, length-map, loses, loses_by, map, moved_ages, moved_by_identity, moved_object, moved_whole, object_at, object_in, option_map, pinned_held, pins_hold, place_in, raised, reached_kept, refl, region_generation, region_of, rename_handle, rename_object, role, root_reached, row_at, same_table_on, scene_of, stays_in, subst, survivor, sym, true, true≢false, undue_in_place, unregistered, used_of, visits_alike, visits_over, ℕ, ◌&&◌, ◌*◌, ◌+◌, ◌/◌, ◌∙◌, ◌≡◌, ◌≤◌}
 use Rattle.std.proofs.Math.Bool.{and-false, and-true}
 use Rattle.hd_model.specs.{declared.data.Id.Id, Compact.IsCompact}
 use Rattle.hd_model.proofs.{RenamedPins.pins_renamed, IdleCollection.cleared_same, RenamedReach.is_object_read, PinnedTargets.counts_objects, PinnedTargets.pinned_count}
@@ -46,7 +46,7 @@ module _ {A Z : Parts} {t2 : Table} {q2 : Queue} {n : ℕ} {plan : PlanOf} {foun
     (sf : MarkedAndCleared A (record A { table = t2; queue = q2 }) n plan found s0 s1)
     (rp : Reports plan found report)
     (sh : RelocatedAll (record A { table = t2; queue = q2 }) Z plan joined n s1 s2)
-    (joined_is : joined ≡ length A.queue.waiting) where
+    (joined_is : joined ≡ length A.queue.queued) where
   abbrev S : Scene Addr
   S = scene_of A
 
@@ -66,7 +66,7 @@ module _ {A Z : Parts} {t2 : Table} {q2 : Queue} {n : ℕ} {plan : PlanOf} {foun
   unregisters : Unregisters sf.sets.joins A.heap sh.middle
   unregisters =
       subst (λ xs. Unregisters xs A.heap sh.middle)
-      ((λ i. drop (joined_is i) (sf.queue i).waiting) ∙ drop-append_seam A.queue.waiting sf.sets.joins)
+      ((λ i. drop (joined_is i) (sf.queue i).queued) ∙ drop-append_seam A.queue.queued sf.sets.joins)
       sh.unregisters
 
   object_middle : (x : Addr)
@@ -138,7 +138,7 @@ module _ {A Z : Parts} {t2 : Table} {q2 : Queue} {n : ℕ} {plan : PlanOf} {foun
     handles = λ slot. sh.rows slot ∙ row_renamed slot (row_at t2 slot) refl
         ∙ ap (option_map (rename_handle Place)) (sf.rows slot);
     named = sh.named;
-    queue = ap (λ (p : Queue). p.waiting) sh.queue ∙ ap (λ (p : Queue). map Place p.waiting) sf.queue;
+    queue = ap (λ (p : Queue). p.queued) sh.queue ∙ ap (λ (p : Queue). map Place p.queued) sf.queue;
   }
 
   same_id : (x : Addr) → kept_in plan x ≡ true → id_at Z.heap (Place x) ≡ id_at A.heap x
@@ -290,7 +290,7 @@ module _ {A Z : Parts} {t2 : Table} {q2 : Queue} {n : ℕ} {plan : PlanOf} {foun
       let more : a ≤ b =
       counts_le (IsPinned (row_at A.table)) (IsPinned (row_at Z.table)) a b still_pinned before after
       in
-      let regions : len Z.heap.regions ≤ used_of Z.heap / 193 + 3 + stays_in plan =
+      let regions : len Z.heap.regions ≤ used_of Z.heap / LEFT + OPEN + stays_in plan =
       sh.commits.compact (generation_is ∙ two) in
       record { pinned = b; pinned_is = after; regions = omega arith }
 

@@ -69,12 +69,12 @@ module _ {A : Parts} {t2 : Table} {q2 : Queue} {n : ℕ} {plan : PlanOf} {found 
         left_kept x (whole_left.secondaries slot g x (sym (sf.rows slot) ∙ is_stored) e);
   }
 
-  pub queued_kept : (x : Addr) → Contains q2.waiting x → kept_in plan x ≡ true
+  pub queued_kept : (x : Addr) → Contains q2.queued x → kept_in plan x ≡ true
   queued_kept x is_queued =
       left_kept x (whole_left.queue x
-      (subst (λ (p : Queue). Contains p.waiting x) sf.queue is_queued))
+      (subst (λ (p : Queue). Contains p.queued x) sf.queue is_queued))
 
-  pub queued_objects : (x : Addr) → Contains q2.waiting x → is_object (object_at A.heap) x ≡ true
+  pub queued_objects : (x : Addr) → Contains q2.queued x → is_object (object_at A.heap) x ≡ true
   queued_objects x is_queued = sf.keeping.objects x (queued_kept x is_queued)
 
   pub roots_kept : (x : Addr) → Contains A.roots (Some x) → kept_in plan x ≡ true

@@ -1,5 +1,5 @@
 -- A list whose first members are mapped, and the ages of whose first blocks are raised.
-use Rattle.hd_gc.proofs.Basics.{List, [], add-one, ap, append-nil, arith, drop, drop-append-add, drop-append_seam, drop-drop, drop-length, get_or, grown, grown_at, length, length-map, length-take, map, map-append, raised, refl, set, subst, suc, sym, take, take-add, take-append_seam, take-length, zero, ℕ, ◌*◌, ◌++◌, ◌+◌, ◌-◌, ◌<◌, ◌∙◌, ◌∷◌, ◌≡◌, ◌≤◌}
+use Rattle.hd_gc.proofs.Basics.{CLUMPS, List, [], add-one, ap, append-nil, arith, drop, drop-append-add, drop-append_seam, drop-drop, drop-length, get_or, grown, grown_at, length, length-map, length-take, map, map-append, raised, refl, set, subst, suc, sym, take, take-add, take-append_seam, take-length, zero, ℕ, ◌*◌, ◌++◌, ◌+◌, ◌-◌, ◌<◌, ◌∙◌, ◌∷◌, ◌≡◌, ◌≤◌}
 
 -- the first i members are mapped
 abbrev pub mapped_to : {A : Type 0} → (A → A) → ℕ → List A → List A
@@ -38,7 +38,7 @@ module _ {A : Type 0} (f : A → A) where
   length-mapped_to (x ∷ xs) (suc i) = ap suc (length-mapped_to xs i)
 
 -- with the ages of one block more
-module _ (n k : ℕ) (ages : List ℕ) (l : k + 4 ≤ length ages) where
+module _ (n k : ℕ) (ages : List ℕ) (l : k + CLUMPS ≤ length ages) where
   abbrev First : List ℕ
   First = map (raised n) (take k ages)
 
@@ -54,30 +54,33 @@ module _ (n k : ℕ) (ages : List ℕ) (l : k + 4 ≤ length ages) where
       subst (λ j. drop j (First ++ drop k ages) ≡ drop k ages) first_length
       (drop-append_seam First (drop k ages))
 
-  rest : drop (k + 4) (mapped_to (raised n) k ages) ≡ drop (k + 4) ages
+  rest : drop (k + CLUMPS) (mapped_to (raised n) k ages) ≡ drop (k + CLUMPS) ages
   rest =
-      subst (λ j. drop (j + 4) (First ++ drop k ages) ≡ drop 4 (drop k ages)) first_length
-      (drop-append-add First (drop k ages) 4) ∙ drop-drop 4 k ages
+      subst (λ j. drop (j + CLUMPS) (First ++ drop k ages) ≡ drop CLUMPS (drop k ages)) first_length
+      (drop-append-add First (drop k ages) CLUMPS) ∙ drop-drop CLUMPS k ages
 
-  one_more : take k (mapped_to (raised n) k ages) ++ grown n (take 4 (drop k (mapped_to (raised n) k ages)))
-      ++ drop (k + 4) (mapped_to (raised n) k ages) ≡ mapped_to (raised n) (k + 4) ages
+  one_more : take k (mapped_to (raised n) k ages) ++ grown n
+      (take CLUMPS (drop k (mapped_to (raised n) k ages)))
+      ++ drop (k + CLUMPS) (mapped_to (raised n) k ages) ≡ mapped_to (raised n) (k + CLUMPS) ages
   one_more =
       let parts : take k (mapped_to (raised n) k ages)
-      ++ grown n (take 4 (drop k (mapped_to (raised n) k ages))) ++ drop (k + 4) (mapped_to (raised n) k ages)
-      ≡ First ++ map (raised n) (take 4 (drop k ages)) ++ drop (k + 4) ages =
-      λ i. taken i ++ grown n (take 4 (dropped i)) ++ rest i in
-      parts ∙ ap (λ ys. ys ++ drop (k + 4) ages)
-      (sym (map-append (raised n) (take k ages) (take 4 (drop k ages)))
-      ∙ ap (map (raised n)) (sym (take-add k 4 ages)))
+      ++ grown n (take CLUMPS (drop k (mapped_to (raised n) k ages))) ++ drop (k + CLUMPS)
+      (mapped_to (raised n) k ages)
+      ≡ First ++ map (raised n) (take CLUMPS (drop k ages)) ++ drop (k + CLUMPS) ages =
+      λ i. taken i ++ grown n (take CLUMPS (dropped i)) ++ rest i in
+      parts ∙ ap (λ ys. ys ++ drop (k + CLUMPS) ages)
+      (sym (map-append (raised n) (take k ages) (take CLUMPS (drop k ages)))
+      ∙ ap (map (raised n)) (sym (take-add k CLUMPS ages)))
 
-pub grown_next : (n block : ℕ) (ages : List ℕ) → 4 * (block + 1) ≤ length ages
-    → grown_at n (block + 1) (mapped_to (raised n) (4 * block) ages)
-    ≡ mapped_to (raised n) (4 * (block + 1)) ages
+pub grown_next : (n block : ℕ) (ages : List ℕ) → CLUMPS * (block + 1) ≤ length ages
+    → grown_at n (block + 1) (mapped_to (raised n) (CLUMPS * block) ages)
+    ≡ mapped_to (raised n) (CLUMPS * (block + 1)) ages
 grown_next n block ages l =
-    let low : 4 * (block + 1) - 4 ≡ 4 * block = omega arith in
-    let high : 4 * (block + 1) ≡ 4 * block + 4 = omega arith in
-    let M : List ℕ = mapped_to (raised n) (4 * block) ages in
+    let low : CLUMPS * (block + 1) - CLUMPS ≡ CLUMPS * block = omega arith in
+    let high : CLUMPS * (block + 1) ≡ CLUMPS * block + CLUMPS = omega arith in
+    let M : List ℕ = mapped_to (raised n) (CLUMPS * block) ages in
     let places : grown_at n (block + 1) M
-    ≡ take (4 * block) M ++ grown n (take 4 (drop (4 * block) M)) ++ drop (4 * block + 4) M =
-    λ i. take (low i) M ++ grown n (take 4 (drop (low i) M)) ++ drop (high i) M in
-    places ∙ one_more n (4 * block) ages (omega arith) ∙ ap (λ k. mapped_to (raised n) k ages) (sym high)
+    ≡ take (CLUMPS * block) M ++ grown n (take CLUMPS (drop (CLUMPS * block) M))
+    ++ drop (CLUMPS * block + CLUMPS) M =
+    λ i. take (low i) M ++ grown n (take CLUMPS (drop (low i) M)) ++ drop (high i) M in
+    places ∙ one_more n (CLUMPS * block) ages (omega arith) ∙ ap (λ k. mapped_to (raised n) k ages) (sym high)

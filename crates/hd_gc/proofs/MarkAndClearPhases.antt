@@ -1,5 +1,5 @@
 -- The phases between the start of the marks and the plan, one after another.
-use Rattle.hd_gc.proofs.Basics.{Addr, Basis, Bool, Clears, Contains, Counts, FoundSets, IsAllDetached, IsClosed, IsCondemned, IsField, IsKeeping, IsLaid, IsLostAt, IsOut, IsPinned, IsReady, IsSameTable, List, MarkedAndCleared, MarksOf, MayVisitDue, Objects, Parts, PlanOf, Queue, Resurrected, Resurrection, Scene, Table, Traced, [], ap, arith, basis_of, cases_lt, counts_like, due_again, generation_at, has_role, held, id_at, inl, is_object, kept_in, long, long_tasks, marked_steps, object_at, objects_of, parts, pinned_held, pinned_in, place_in, promoted_in, queued, reached_on, refl, root_reached, row_at, same_table_on, scene_of, short, short_tasks, stays_in, subst, sym, task_visits, true, visits_of, visits_same, ℕ, ⊎_elim, ◌*◌, ◌+◌, ◌∙◌, ◌≡◌, ◌≤◌}
+use Rattle.hd_gc.proofs.Basics.{Addr, Basis, Bool, CLUMP, Clears, Contains, Counts, FoundSets, IsAllDetached, IsClosed, IsCondemned, IsField, IsKeeping, IsLaid, IsLostAt, IsOut, IsPinned, IsReady, IsSameTable, List, MarkedAndCleared, MarksOf, MayVisitDue, Objects, Parts, PlanOf, Queue, Resurrected, Resurrection, Scene, Table, Traced, [], ap, arith, basis_of, cases_lt, counts_like, due_again, generation_at, has_role, held, id_at, inl, is_object, kept_in, long, long_tasks, marked_steps, object_at, objects_of, parts, pinned_held, pinned_in, place_in, promoted_in, queued, reached_on, refl, root_reached, row_at, same_table_on, scene_of, short, short_tasks, stays_in, subst, sym, task_visits, true, visits_of, visits_same, ℕ, ⊎_elim, ◌*◌, ◌+◌, ◌∙◌, ◌≡◌, ◌≤◌}
 use Rattle.hd_gc.proofs.ClearedRows.{ready_due, cleared_due, tasks_alike}
 use Rattle.hd_gc.proofs.KeptObjects.{is_out, resurrected_decides, kept_decides, joins_decide, resurrections_counted}
 use Rattle.hd_gc.proofs.LostTargets.{cleared_rows, short_losses, long_losses, dependent_losses}
@@ -21,16 +21,16 @@ module _ {A : Parts} {n s0 s1 : ℕ} {m1 : MarksOf} (ready : IsReady A) (tr : Tr
   due2 = due_again tr.basis refl due1
 
   -- the room that was taken for dependent handles is still enough
-  pub room2 : {taken room : ℕ} → taken ≡ 16 * visits_of A.table A.ages n kind.Dependent → room ≡ taken
-      → 16 * visits_of t1 A.ages n kind.Dependent ≤ room
+  pub room2 : {taken room : ℕ} → taken ≡ CLUMP * visits_of A.table A.ages n kind.Dependent → room ≡ taken
+      → CLUMP * visits_of t1 A.ages n kind.Dependent ≤ room
   room2 first same =
       omega (arith, first, same, visits_same A.table t1 A.ages n kind.Dependent clear1.table)
 
   pub fields2 : IsClosed (IsField O) (promoted_in m1)
   fields2 x y e f = (tr.reach_is y).1 (reached_on n S x y ((tr.reach_is x).0 e) (inl f))
 
-  pub waiting2 : (x : Addr) → Contains A.queue.waiting x → promoted_in m1 x ≡ true
-  waiting2 x is_queued = (tr.reach_is x).1 (root_reached n S x (queued is_queued))
+  pub queued2 : (x : Addr) → Contains A.queue.queued x → promoted_in m1 x ≡ true
+  queued2 x is_queued = (tr.reach_is x).1 (root_reached n S x (queued is_queued))
 
   -- up to that of long ones
   module _ {m3 : MarksOf} {after : List Addr} {s2 s3 : ℕ}
@@ -122,17 +122,17 @@ module _ {A : Parts} {n s0 s1 : ℕ} {m1 : MarksOf} (ready : IsReady A) (tr : Tr
             (subst (λ (g : Basis). Counts (λ a. IsCondemned (objects_of g) g.condemned a
             × (Kept a ≡ true) × (pinned_in m3 a ≡ true)) (stays_in plan)) start stay)
 
-        pub marked_and_cleared : {q2 : Queue} {s4 s5 : ℕ} → q2.waiting ≡ after → q2.room ≡ A.queue.room
+        pub marked_and_cleared : {q2 : Queue} {s4 s5 : ℕ} → q2.queued ≡ after → q2.room ≡ A.queue.room
             → s2 ≡ s1 + task_visits A.table A.ages n short_tasks
             → s4 ≡ s3 + task_visits t1 A.ages n long_tasks → s5 ≡ s4 + visits_of t2 A.ages n kind.Dependent
             → MarkedAndCleared A (record A { table = t3; queue = q2 }) n plan
             (record { short = short_n; long = long_n; dep = dep_n; revived = resurrected_n }) s0 s5
         unfolding sets
-        marked_and_cleared waiting room e2 e4 e5 = record {
+        marked_and_cleared is_after room e2 e4 e5 = record {
           sets = sets;
           rows = cleared_rows S Reach Kept clear1.whole.swept clear2.whole.swept detaches;
           table = same_table_on A.table t2 t3 same12 same3;
-          queue = λ i. record { waiting = (waiting ∙ resurrection.queue_is) i; room = room i };
+          queue = λ i. record { queued = (is_after ∙ resurrection.queue_is) i; room = room i };
           laid = laid;
           basis = basis;
           keeping = keeping;

@@ -13,7 +13,7 @@ settled_over g m e s =
 
 module _ {A : Parts} {n : ℕ} {m0 m1 m2 m3 m4 : MarksOf} (first : m0 ≡ first_marks A.heap n)
     (ready : IsReady A) (a : Promotes (λ x. Contains A.roots (Some x)) m0 m1)
-    (b : Promotes (λ x. Contains A.queue.waiting x) m1 m2) (c : Holds (row_at A.table) m2 m3)
+    (b : Promotes (λ x. Contains A.queue.queued x) m1 m2) (c : Holds (row_at A.table) m2 m3)
     (d : Promotes (IsOldField A.heap n) m3 m4) where
   abbrev Start : Basis
   Start = record { heap = A.heap; condemned = n }
@@ -103,7 +103,7 @@ module _ {A : Parts} {n : ℕ} {m0 m1 m2 m3 m4 : MarksOf} (first : m0 ≡ first_
         (promoted_in m2) (promoted_in m3) (promoted_in m4) (promoted_in m5) first_promoted first_has
         (λ y f. (f.from, (carded_older A.heap n f.from f.carded, f.field)))
         (subst (GrowsFrom (λ x. Contains A.roots (Some x)) m0 m1) basis0 a.grows)
-        (subst (GrowsFrom (λ x. Contains A.queue.waiting x) m1 m2) basis1 b.grows)
+        (subst (GrowsFrom (λ x. Contains A.queue.queued x) m1 m2) basis1 b.grows)
         (subst (GrowsFrom (IsHeld (row_at A.table)) m2 m3) basis2 c.grows) by_fields closure;
     pins = λ x young. (
       λ e. ⊎_elim (λ none. absurd (no_pins x young none)) (λ p. p)

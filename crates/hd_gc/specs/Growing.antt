@@ -1,9 +1,9 @@
 -- What is promoted from where, before and after each part of the marking.
-use Rattle.std.specs.Prelude.{◌≡◌, ◌↔◌, ◌⊎◌, ℕ, ◌+◌, ◌-◌, ◌^◌, true, false, Option, Some, None}
+use Rattle.std.specs.Prelude.{◌≡◌, ◌↔◌, ◌⊎◌, ℕ, true}
 use Rattle.hd_model.specs.{declared.data.Addr.Addr, Leads.Grows, Reach.IsHeld, Reach.IsPinned}
 use Rattle.hd_model.specs.Scene.{Rows, IsField, IsYoungField, IsCondemned}
 use Rattle.hd_model.specs.Heap.{Heap, object_at, objects_of}
-use Rattle.hd_heap.specs.Calls.{is_old_carded, is_after}
+use Rattle.hd_heap.specs.Calls.{is_old_carded}
 use Rattle.hd_mark.specs.Marks.{MarksOf, promoted_in, pinned_in, IsSettledMarks}
 
 -- marks that promoted some objects, with what these lead to, and pinned nothing
@@ -20,11 +20,6 @@ pub record IsOldField (h : Heap) (n : ℕ) (y : Addr) : Type 0 where
   pub carded : is_old_carded h n from ≡ true
   pub field : IsField (object_at h) from y
 
--- y is in a field of such an object up to an address
-pub record IsOldFieldUpTo (h : Heap) (n : ℕ) (after : Option Addr) (y : Addr) : Type 0 where
-  pub old : IsOldField h n y
-  pub done : is_after after old.from ≡ false
-
 -- all that a handle holds is promoted, with what it leads to; of condemned objects, what a handle pins is
 -- pinned, and no other
 pub record Holds (rows : Rows Addr) (old new : MarksOf) : Type 0 where
@@ -34,8 +29,3 @@ pub record Holds (rows : Rows Addr) (old new : MarksOf) : Type 0 where
       (promoted_in new)
   pub pins : (x : Addr) → IsCondemned (objects_of old.basis) old.basis.condemned x
       → (pinned_in new x ≡ true) ↔ ((pinned_in old x ≡ true) ⊎ IsPinned rows x)
-
--- how far an address may still rise
-abbrev pub left_to : Option Addr → ℕ
-left_to None = 2 ^ 32 + 1
-left_to (Some a) = 2 ^ 32 - a.0

@@ -33,7 +33,7 @@ pub record MarkedAndCleared (p q : Parts) (n : ℕ) (plan : PlanOf) (found : Fou
   pub rows : (slot : ℕ)
       → row_at q.table slot ≡ option_map (cleared sets.reach sets.kept) (row_at p.table slot)
   pub table : IsSameTable p.table q.table
-  pub queue : q.queue ≡ record p.queue { waiting = p.queue.waiting ++ sets.joins }
+  pub queue : q.queue ≡ record p.queue { queued = p.queue.queued ++ sets.joins }
   pub laid : IsLaid plan
   pub basis : plan.basis ≡ basis_of p n
   pub keeping : IsKeeping (object_at p.heap) n (kept_in plan) (place_in plan)

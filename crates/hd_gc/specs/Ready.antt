@@ -24,7 +24,7 @@ scene_of p = record {
   object = object_at p.heap;
   handle = row_at p.table;
   named = p.roots;
-  queue = p.queue.waiting;
+  queue = p.queue.queued;
 }
 
 -- what the marks of a collection of generation n are of

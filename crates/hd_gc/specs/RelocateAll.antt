@@ -22,11 +22,11 @@ IsRenamed ages n place before after =
 -- visited slots, in the queue and in the roots are to these, and ages are raised
 pub record RelocatedAll (p q : Parts) (plan : PlanOf) (joined n before after : ℕ) : Type 0 where
   pub middle : Heap
-  pub unregisters : Unregisters (drop joined p.queue.waiting) p.heap middle
+  pub unregisters : Unregisters (drop joined p.queue.queued) p.heap middle
   pub commits : Commits plan middle q.heap
   pub rows : IsRenamed p.ages n (place_in plan) (row_at p.table) (row_at q.table)
   pub table : IsSameTable p.table q.table
-  pub queue : q.queue ≡ record p.queue { waiting = map (place_in plan) p.queue.waiting }
+  pub queue : q.queue ≡ record p.queue { queued = map (place_in plan) p.queue.queued }
   pub named : q.roots ≡ map (option_map (place_in plan)) p.roots
   pub aged : q.ages ≡ grown n p.ages
   pub steps : after ≡ before + visits_over p.table p.ages n all_kinds

@@ -53,13 +53,13 @@ fn revive<L: Ledger>(
     requires due { MayVisitDue marks.old.basis seg.now ages.now n }
     requires cards { HasSoundCards (object_at heap.now) (is_carded heap.now) }
     requires fields { IsClosed (IsField (object_at heap.now)) (promoted_in marks.old) }
-    requires waiting { (x : Addr) → Contains fin.old.waiting x → promoted_in marks.old x ≡ true }
+    requires queued { (x : Addr) → Contains fin.old.queued x → promoted_in marks.old x ≡ true }
     requires identities { HasIdentities heap.now }
     requires room { len heap.now.objects ≤ fin.old.room }
     requires handles { CLUMP * visits_of seg.now ages.now n kind.Dependent ≤ index.old }
     ensures room { fin.new.room ≡ fin.old.room }
     ensures resurrected { Resurrected (parts heap.now seg.now ages.now fin.old []) n marks.old
-        marks.new fin.new.waiting steps.old steps.new }
+        marks.new fin.new.queued steps.old steps.new }
     ensures count { Counts (IsOut (object_at heap.now) n (promoted_in marks.old)) result }
 {
     let revived = fin.revive_among(heap, marks, n, Some(objects));

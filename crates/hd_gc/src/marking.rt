@@ -47,9 +47,9 @@ fn promote_roots(roots: &[Option<Addr>], marks: &mut Marks)
 // Promotes what is queued for finalization.
 fn promote_queue(fin: &Final, marks: &mut Marks)
     requires settled { IsSettledMarks marks.old }
-    requires objects { (x : Addr) → Contains fin.now.waiting x →
+    requires objects { (x : Addr) → Contains fin.now.queued x →
         is_object (objects_of marks.old.basis) x ≡ true }
-    ensures { Promotes (λ x. Contains fin.now.waiting x) marks.old marks.new }
+    ensures { Promotes (λ x. Contains fin.now.queued x) marks.old marks.new }
 {
     for i in 0..fin.len() {
         marks.promote(fin.at(i));

@@ -81,8 +81,8 @@ pub(crate) fn relocate_all<L: Ledger>(
     requires cards { HasSoundCards (object_at heap.old) (is_carded heap.old) }
     requires clumps { length ages.old ≡ CLUMPS * seg.old.blocks }
     requires rows { NamesKept (kept_in plan.old) (row_at seg.old) }
-    requires waiting { (x : Addr) → Contains fin.old.waiting x → kept_in plan.old x ≡ true }
-    requires objects { (x : Addr) → Contains fin.old.waiting x → has_object heap.old x ≡ true }
+    requires queued { (x : Addr) → Contains fin.old.queued x → kept_in plan.old x ≡ true }
+    requires objects { (x : Addr) → Contains fin.old.queued x → has_object heap.old x ≡ true }
     requires roots { (x : Addr) → Contains roots.old (Some x) → kept_in plan.old x ≡ true }
     ensures plan { plan.new ≡ plan.old }
     ensures relocated_all { RelocatedAll (parts heap.old seg.old ages.old fin.old roots.old)

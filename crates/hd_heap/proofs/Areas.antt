@@ -1,5 +1,5 @@
 -- Lemmas on one region of a heap.
-use Rattle.hd_heap.proofs.Basics.{Area, BeginsIn, Bool, Contents, IsArea, IsLaidOut, IsObject, IsPutInto, IsTaken, IsWritten, List, None, Object, Option, Some, [], ap, arith, both_ways, card_in, cases_eq, cond, contents, empty_region, false, false_from_ne_true, found_later, get_or, inl, inr, is_some, len_less, length, nat_cmp, nat_cmp_total, no_object, object_at, refl, replicate, share, size_of, still_some, subst, suc, sum-at, sum-insert, sum-many, sum-taken, sum_by, sym, true, true_from_ne_false, unwrap_or, without_object, zero, ℕ, ◌+◌, ◌-◌, ◌/◌, ◌∙◌, ◌∷◌, ◌≡◌, ◌≢◌, ◌≤◌}
+use Rattle.hd_heap.proofs.Basics.{Area, BeginsIn, Bool, CARD, Contents, IsArea, IsLaidOut, IsObject, IsPutInto, IsTaken, IsWritten, List, None, Object, Option, Some, [], ap, arith, both_ways, card_in, cases_eq, cond, contents, empty_region, false, false_from_ne_true, found_later, get_or, inl, inr, is_some, len_less, length, nat_cmp, nat_cmp_total, no_object, object_at, refl, replicate, share, size_of, still_some, subst, suc, sum-at, sum-insert, sum-many, sum-taken, sum_by, sym, true, true_from_ne_false, unwrap_or, without_object, zero, ℕ, ◌+◌, ◌-◌, ◌/◌, ◌∙◌, ◌∷◌, ◌≡◌, ◌≢◌, ◌≤◌}
 use Rattle.std.proofs.Common.{map as each}
 use Rattle.std.specs.FinMap as map
 
@@ -159,9 +159,9 @@ pub record IsRest (a b : Area) (at cells : ℕ) : Type 0 where
   pub generation : b.generation ≤ 2
   pub same : b.generation ≡ a.generation
   pub card_count : length b.cards ≡ 8
-  pub others : (c : ℕ) → c ≢ at / 32 → card_in (Some b) c ≡ card_in (Some a) c
-  pub begins : card_in (Some b) (at / 32) ≡ true → BeginsIn (contents b) (at / 32)
-  pub kept : BeginsIn (contents b) (at / 32) → card_in (Some b) (at / 32) ≡ card_in (Some a) (at / 32)
+  pub others : (c : ℕ) → c ≢ at / CARD → card_in (Some b) c ≡ card_in (Some a) c
+  pub begins : card_in (Some b) (at / CARD) ≡ true → BeginsIn (contents b) (at / CARD)
+  pub kept : BeginsIn (contents b) (at / CARD) → card_in (Some b) (at / CARD) ≡ card_in (Some a) (at / CARD)
 
 pub area_taken : (a b : Area) (at cells : ℕ) → IsArea a → IsRest a b at cells → IsArea b
     × IsTaken a b at cells
@@ -186,7 +186,7 @@ area_taken a b at cells is t =
         within = omega arith;
         generation = t.generation;
         card_count = t.card_count;
-        cards = λ card set. elim (cases_eq card (at / 32)) [
+        cards = λ card set. elim (cases_eq card (at / CARD)) [
           | inl same ↦ subst (λ (c : ℕ). BeginsIn (contents b) c) (sym same)
               (t.begins (subst (λ (c : ℕ). card_in (Some b) c ≡ true) same set))
           | inr apart ↦
@@ -194,7 +194,7 @@ area_taken a b at cells is t =
               subst (λ (r : Contents). BeginsIn r card) (sym t.removed) record {
                 at = was.at;
                 object = object_stays (contents a) at was.at
-                    (λ e. apart (sym was.in_card ∙ ap (λ (n : ℕ). n / 32) e)) was.object;
+                    (λ e. apart (sym was.in_card ∙ ap (λ (n : ℕ). n / CARD) e)) was.object;
                 in_card = was.in_card;
               }
         ];

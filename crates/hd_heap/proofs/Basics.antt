@@ -31,3 +31,5 @@ pub use Rattle.hd_model.proofs.Sums.{share, sum-at, sum-insert, sum-many, sum-ta
 pub use Rattle.hd_model.specs.Heap.{Heap, Placed, Region, cells_of, has_object, is_in_use, is_set, object_in, placed_at, region_at, region_generation, region_of, used_of}
 pub use Rattle.hd_model.specs.Scene.{IsField, fields_in, generation_at, generation_in}
 pub use Rattle.hd_model.specs.declared.data.Addr.{Addr}
+pub use Rattle.hd_model.specs.declared.limits.TheConstants.{CARD, FIELDS, HEADER, LEFT, REGION}
+pub use Rattle.hd_heap.specs.declared.area.TheConstants.{CARDS}

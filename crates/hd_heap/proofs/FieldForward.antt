@@ -1,5 +1,5 @@
 -- Lemmas on the fields of an object, of which the first ones have their forwarding addresses.
-use Rattle.hd_heap.proofs.Basics.{Addr, Bool, Contains, Contains-get_or, Contents, Heap, IsField, IsObject, List, MayForward, None, Object, Option, Some, [], address, ap, arith, drop, fields_at, first_in, forwarded, get_inserted, get_or, is_some, later_in, length, length-replicate, length-set, map, mapped_in, no_object, object_at, option_map, placed_of, refl, region_forwarded, replicate, set, size_of, stored_place, subst, suc, sym, take, true, unwrap_or, with_field, with_object, with_put, with_value, zero, ℕ, ◌++◌, ◌+◌, ◌<◌, ◌∙◌, ◌∷◌, ◌≡◌, ◌≢◌, ◌≤◌}
+use Rattle.hd_heap.proofs.Basics.{Addr, Bool, Contains, Contains-get_or, Contents, HEADER, Heap, IsField, IsObject, List, MayForward, None, Object, Option, Some, [], address, ap, arith, drop, fields_at, first_in, forwarded, get_inserted, get_or, is_some, later_in, length, length-replicate, length-set, map, mapped_in, no_object, object_at, option_map, placed_of, refl, region_forwarded, replicate, set, size_of, stored_place, subst, suc, sym, take, true, unwrap_or, with_field, with_object, with_put, with_value, zero, ℕ, ◌++◌, ◌+◌, ◌<◌, ◌∙◌, ◌∷◌, ◌≡◌, ◌≢◌, ◌≤◌}
 use Rattle.hd_cells.specs.Object.{new_object}
 use Rattle.hd_model.specs.{Scene.fields_at as fields_at_heap, Heap.object_at as object_at_heap}
 use Rattle.hd_heap.proofs.{HeapValues.put_same, HeapValues.put_twice, RegionReads.address_is}
@@ -115,7 +115,7 @@ module _ {having : Object → Contents} {at : ℕ} (placing : IsPlacing having a
       record {
         is = written ∙ (λ j. with_object (f.is j) at (with_field (placed_is placing r now f.is j) i (v_is j)))
             ∙ placing.again now (with_field now i (g (get_or from i 0)))
-            (ap (λ n. n + 3) (length-set (partly g i from into) i (g (get_or from i 0))))
+            (ap (λ n. n + HEADER) (length-set (partly g i from into) i (g (get_or from i 0))))
             ∙ ap (λ xs. having (record base { fields = xs })) (next ∙ ap (λ k. partly g k from into) one);
         long = f.long;
       }

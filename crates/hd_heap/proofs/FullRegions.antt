@@ -1,5 +1,5 @@
 -- Which regions of generation 0 may have room for another object.
-use Rattle.hd_heap.proofs.Basics.{AreFull, AreOthersFull, Heap, Option, Placed, Region, ap, arith, both_ways, cases_eq, cond, eq-eqb, get_left, get_removed, inl, inr, is_in_use, is_some, nat_cmp, nat_eq, ne_eqb, refl, region_at, region_generation, subst, sym, true, unwrap_or, with_fresh, with_generation, without_region, ℕ, ◌∙◌, ◌≡◌, ◌≢◌, ◌≤◌}
+use Rattle.hd_heap.proofs.Basics.{AreFull, AreOthersFull, Heap, LEFT, Option, Placed, Region, ap, arith, both_ways, cases_eq, cond, eq-eqb, get_left, get_removed, inl, inr, is_in_use, is_some, nat_cmp, nat_eq, ne_eqb, refl, region_at, region_generation, subst, sym, true, unwrap_or, with_fresh, with_generation, without_region, ℕ, ◌∙◌, ◌≡◌, ◌≢◌, ◌≤◌}
 use Rattle.hd_heap.specs.Calls.{with_put}
 use Rattle.hd_heap.proofs.HeapValues.{get_same, get_other}
 use Rattle.std.specs.FinMap as fin
@@ -10,9 +10,9 @@ others_unknown h c none r some held young other = absurd (some none)
 
 -- a region got other cells or another generation
 pub others_put : (h new : Heap) (c r : ℕ) (x : Region) → new.regions ≡ fin.insert h.regions r x
-    → (c ≢ 0 → x.generation ≡ 0 → r ≢ c → 193 ≤ x.fill) → AreOthersFull h c → AreOthersFull new c
+    → (c ≢ 0 → x.generation ≡ 0 → r ≢ c → LEFT ≤ x.fill) → AreOthersFull h c → AreOthersFull new c
 others_put h new c r x regions here full q some held young other =
-    let P : Region → Type 0 = λ g. 193 ≤ g.fill in
+    let P : Region → Type 0 = λ g. LEFT ≤ g.fill in
     let read : fin.FinMap nat_cmp Region → Region =
     λ rs. unwrap_or (fin.get rs q) (record { generation = 0; fill = 0 }) in
     elim (cases_eq q r) [
@@ -65,7 +65,7 @@ others_left h c r full q some held young other = elim (cases_eq q r) [
       let got = get_left h.regions r q apart in
       let is : region_at (without_region h r) q ≡ region_at h q =
       ap (λ (o : Option Region). unwrap_or o (record { generation = 0; fill = 0 })) got in
-      subst (λ (g : Region). 193 ≤ g.fill) (sym is)
+      subst (λ (g : Region). LEFT ≤ g.fill) (sym is)
       (full q some (sym (ap is_some got) ∙ held) (sym (ap (λ (g : Region). g.generation) is) ∙ young)
       other)
 ]

@@ -1,5 +1,5 @@
 -- What is kept of the fields of a heap is what its users see.
-use Rattle.hd_heap.proofs.Basics.{Addr, Area, Heap, IsObject, IsSound, List, None, Option, Placed, Region, Some, StartsIn, [], address, ap, area_at, arith, card_in, cases_eq, cells_of, contents, false, get_or, inl, inr, is_in_use, is_some, length, length-map, map, refl, subst, suc, sum-many, sum_by, sum_by-cons, sym, true, ℕ, ◌%◌, ◌*◌, ◌+◌, ◌/◌, ◌<◌, ◌^◌, ◌∙◌, ◌∷◌, ◌≡◌, ◌≢◌, ◌≤◌}
+use Rattle.hd_heap.proofs.Basics.{Addr, Area, CARDS, Heap, IsObject, IsSound, List, None, Option, Placed, REGION, Region, Some, StartsIn, [], address, ap, area_at, arith, card_in, cases_eq, cells_of, contents, false, get_or, inl, inr, is_in_use, is_some, length, length-map, map, refl, subst, suc, sum-many, sum_by, sum_by-cons, sym, true, ℕ, ◌%◌, ◌*◌, ◌+◌, ◌/◌, ◌<◌, ◌^◌, ◌∙◌, ◌∷◌, ◌≡◌, ◌≢◌, ◌≤◌}
 use Rattle.hd_cells.specs.Region.{object_at as object_in_region}
 use Rattle.hd_model.specs.Heap.{region_of, card_of}
 use Rattle.hd_heap.proofs.{RegionReads.IsHeap, RegionReads.get-regions, RegionReads.found, RegionReads.held_found, RegionReads.has_there, RegionReads.set_at, RegionReads.used_is, RegionReads.count_is, RegionSums.cells_placed}
@@ -7,7 +7,7 @@ use Rattle.std.specs.FinMap as fin
 
 -- the cells of all objects are at most those of all regions
 lives_small : (areas : List Area) → ((k : ℕ) (a : Area) → get_or (map Some areas) k None ≡ Some a
-    → a.live ≤ 256) → sum_by (λ (x : Area). x.live) areas ≤ 256 * length areas
+    → a.live ≤ REGION) → sum_by (λ (x : Area). x.live) areas ≤ REGION * length areas
 lives_small [] small = omega arith
 lives_small (a ∷ areas) small =
     let rest = lives_small areas (λ k x e. small (suc k) x e) in
@@ -15,7 +15,7 @@ lives_small (a ∷ areas) small =
 
 module _ {areas : List Area} {spares : List ℕ} {limit capacity cells objects holds current : ℕ} {h : Heap}
     (heap : IsHeap areas spares limit capacity (cells, objects, holds) current h) where
-  pub cells_small : cells ≤ 256 * length areas
+  pub cells_small : cells ≤ REGION * length areas
   cells_small =
       let small = lives_small areas (λ k a e. let is = heap.kept.each (suc k) a e in
       omega (arith, is.within, is.laid_out.within_region)) in
@@ -26,16 +26,17 @@ module _ {areas : List Area} {spares : List ℕ} {limit capacity cells objects h
       let many = sum-many cells_of 3 (λ p. omega arith) h.objects in
       omega (arith, many, used_is heap, count_is heap)
 
-  starts : (c : ℕ) (o : Option Area) → area_at areas (c / 8) ≡ o → card_in o (c % 8) ≡ true → StartsIn h c
+  starts : (c : ℕ) (o : Option Area) → area_at areas (c / CARDS) ≡ o → card_in o (c % CARDS) ≡ true → StartsIn
+      h c
   unfolding card_of
   starts c None e set = absurd (cc set)
   starts c (Some a) e set =
-      let area = heap.kept.each (c / 8) a e in
-      let b = area.cards (c % 8) set in
+      let area = heap.kept.each (c / CARDS) a e in
+      let b = area.cards (c % CARDS) set in
       let low = area.laid_out.below_fill b.at b.object in
-      let at : Addr = record { 0 = (c / 8) * 256 + b.at } in
-      let number : at.0 / 256 ≡ c / 8 = omega (arith, low, area.laid_out.within_region) in
-      let offset : at.0 % 256 ≡ b.at = omega (arith, low, area.laid_out.within_region) in
+      let at : Addr = record { 0 = (c / CARDS) * REGION + b.at } in
+      let number : at.0 / REGION ≡ c / CARDS = omega (arith, low, area.laid_out.within_region) in
+      let offset : at.0 % REGION ≡ b.at = omega (arith, low, area.laid_out.within_region) in
       record {
         at = at;
         object = has_there heap at a (ap (area_at areas) number ∙ e)
@@ -62,32 +63,33 @@ module _ {areas : List Area} {spares : List ℕ} {limit capacity cells objects h
     held = λ a is. (found heap a is).2.located.there;
     within = λ a is.
         let f = (found heap a is).2 in
-        (let known = f.located.area.laid_out.below_fill (a.0 % 256) f.object in
-        let also = cells_placed (object_in_region (contents (found heap a is).1) (a.0 % 256)) in
+        (let known = f.located.area.laid_out.below_fill (a.0 % REGION) f.object in
+        let also = cells_placed (object_in_region (contents (found heap a is).1) (a.0 % REGION)) in
         omega (arith, known, also, ap cells_of f.placed, ap (λ (g : Region). g.fill) f.located.region));
     apart = λ a b is_a is_b below.
         let f = (found heap a is_a).2 in
         let g = (found heap b is_b).2 in
         let laid = f.located.area.laid_out in
-        let size = cells_placed (object_in_region (contents (found heap a is_a).1) (a.0 % 256)) in
-        let low = laid.below_fill (a.0 % 256) f.object in
-        elim (cases_eq (a.0 / 256) (b.0 / 256)) [
+        let size = cells_placed (object_in_region (contents (found heap a is_a).1) (a.0 % REGION)) in
+        let low = laid.below_fill (a.0 % REGION) f.object in
+        elim (cases_eq (a.0 / REGION) (b.0 / REGION)) [
           | inl same ↦
               let one = sym g.located.place.here ∙ ap (area_at areas) (sym same) ∙ f.located.place.here in
               let area_same : (found heap b is_b).1 ≡ (found heap a is_a).1 = cc one in
-              let there = subst (λ (x : Area). IsObject (contents x) (b.0 % 256)) area_same g.object in
-              let next = laid.apart (a.0 % 256) (b.0 % 256) f.object there (omega (arith, same, below)) in
+              let there = subst (λ (x : Area). IsObject (contents x) (b.0 % REGION)) area_same g.object in
+              let next = laid.apart (a.0 % REGION) (b.0 % REGION) f.object there (omega (arith, same, below))
+              in
               omega (arith, next, size, same, ap cells_of f.placed)
           | inr other ↦ omega (arith, other, below, low, size, laid.within_region, ap cells_of f.placed)
         ];
     identified = λ a is e. let f = (found heap a is).2 in
-        (f.located.area.laid_out.well_formed (a.0 % 256) f.object).identified
+        (f.located.area.laid_out.well_formed (a.0 % REGION) f.object).identified
         (sym (ap (λ (p : Placed). p.id.0) f.placed) ∙ e);
     few_fields = λ a is.
         let f = (found heap a is).2 in
-        (let known = (f.located.area.laid_out.well_formed (a.0 % 256) f.object).few_fields in
+        (let known = (f.located.area.laid_out.well_formed (a.0 % REGION) f.object).few_fields in
         let also =
-        length-map (object_in_region (contents (found heap a is).1) (a.0 % 256)).fields address in
+        length-map (object_in_region (contents (found heap a is).1) (a.0 % REGION)).fields address in
         omega (arith, known, also, ap (λ (p : Placed). length p.fields) f.placed));
     fills = λ r is. let f = (held_found heap r is).2 in
         omega (arith, f.area.laid_out.within_region, ap (λ (g : Region). g.fill) f.region);
@@ -98,6 +100,6 @@ module _ {areas : List Area} {spares : List ℕ} {limit capacity cells objects h
     spare_numbers = spares_of.numbers;
     spare_free = spares_of.free;
     spare_apart = spares_of.apart;
-    cards = λ c set. starts c (area_at areas (c / 8)) refl (sym (set_at heap c) ∙ set);
+    cards = λ c set. starts c (area_at areas (c / CARDS)) refl (sym (set_at heap c) ∙ set);
     few_objects = omega (arith, cells_small, objects_small, count_is heap, heap.kept.few);
   }

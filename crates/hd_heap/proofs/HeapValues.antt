@@ -1,5 +1,5 @@
 -- Lemmas on the value of a heap alone: what one call leaves for the next.
-use Rattle.hd_heap.proofs.Basics.{Addr, AreFull, Bool, HasRoom, Heap, IsMade, IsRoom, List, None, Option, Placed, Region, Some, [], ap, arith, both_ways, cases_eq, cells_of, cond, drop, ext_get_or, false, fields_in, found_first, found_later, get_inserted, get_or, get_or-set_other, get_or-set_same, has_object, inl, inr, is_in_use, is_some, length, length-replicate, length-set, max, nat_cmp, nat_cmp_total, new_object, object_in, option_map, placed_at, refl, region_at, region_generation, region_of, set, subst, suc, sym, take, true, unwrap_or, used_of, with_copy, with_fresh, ℕ, ◌*◌, ◌+◌, ◌<◌, ◌∙◌, ◌∷◌, ◌≡◌, ◌≢◌, ◌≤◌}
+use Rattle.hd_heap.proofs.Basics.{Addr, AreFull, Bool, FIELDS, HEADER, HasRoom, Heap, IsMade, IsRoom, List, None, Option, Placed, REGION, Region, Some, [], ap, arith, both_ways, cases_eq, cells_of, cond, drop, ext_get_or, false, fields_in, found_first, found_later, get_inserted, get_or, get_or-set_other, get_or-set_same, has_object, inl, inr, is_in_use, is_some, length, length-replicate, length-set, max, nat_cmp, nat_cmp_total, new_object, object_in, option_map, placed_at, refl, region_at, region_generation, region_of, set, subst, suc, sym, take, true, unwrap_or, used_of, with_copy, with_fresh, ℕ, ◌*◌, ◌+◌, ◌<◌, ◌∙◌, ◌∷◌, ◌≡◌, ◌≢◌, ◌≤◌}
 use Rattle.hd_model.specs.{declared.data.Id.Id, Scene.fields_at, Heap.object_at}
 use Rattle.hd_heap.specs.Calls.{with_object, with_put, with_field}
 use Rattle.hd_heap.proofs.{Areas.some_of, RegionReads.has-get}
@@ -90,7 +90,8 @@ room_was h r size room = record {
 -- a free region was taken into use, after memory was taken where there was none
 pub room_made : (old mid new : Heap) (r size : ℕ) → mid ≡ record old { spare = mid.spare }
     → take (length old.spare) mid.spare ≡ old.spare → length mid.spare ≡ max 1 (length old.spare)
-    → r ≡ get_or mid.spare 0 0 → is_in_use mid r ≡ false → new ≡ with_fresh mid r 0 → size ≤ 64 → AreFull old
+    → r ≡ get_or mid.spare 0 0 → is_in_use mid r ≡ false → new ≡ with_fresh mid r 0 → size ≤ FIELDS + HEADER
+    → AreFull old
     → IsRoom old new r size
 room_made old mid new r size same kept long number free fresh small full =
     let free_old : is_in_use old r ≡ false = sym (ap (λ (h : Heap). is_in_use h r) same) ∙ free in
@@ -139,12 +140,12 @@ put_there old mid r o false free is =
       objects = ap (λ (h : Heap). h.objects) is;
       region = region;
       put = (λ i. record (is i) {
-        objects = fin.insert (is i).objects (r * 256 + (region i).fill) o;
+        objects = fin.insert (is i).objects (r * REGION + (region i).fill) o;
         regions =
             fin.insert (is i).regions r (record { generation = 0; fill = (region i).fill + cells_of o });
       })
           ∙ ap (λ rs. record old {
-            objects = fin.insert old.objects (r * 256 + (region_at old r).fill) o;
+            objects = fin.insert old.objects (r * REGION + (region_at old r).fill) o;
             regions = rs;
             spare = drop 1 old.spare;
           }) (put_twice old.regions r blank g);
@@ -152,21 +153,21 @@ put_there old mid r o false free is =
 
 -- an object was made where there was room
 pub made : (old mid new : Heap) (r size : ℕ) (at : Addr) (o : Placed) → used_of old + cells_of o ≤ old.limit
-    → IsRoom old mid r size → at.0 ≡ r * 256 + (region_at mid r).fill → region_of at ≡ r
+    → IsRoom old mid r size → at.0 ≡ r * REGION + (region_at mid r).fill → region_of at ≡ r
     → has_object mid at ≡ false → new ≡ with_put mid r (region_generation mid r) o → IsMade old new at o
 made old mid new r size at o fits room place region free put =
-    subst (λ n. IsRoom old mid n size → at.0 ≡ n * 256 + (region_at mid n).fill
+    subst (λ n. IsRoom old mid n size → at.0 ≡ n * REGION + (region_at mid n).fill
     → new ≡ with_put mid n (region_generation mid n) o → IsMade old new at o) region made_there room place put
   where
     made_there : IsRoom old mid (region_of at) size
-        → at.0 ≡ region_of at * 256 + (region_at mid (region_of at)).fill
+        → at.0 ≡ region_of at * REGION + (region_at mid (region_of at)).fill
         → new ≡ with_put mid (region_of at) (region_generation mid (region_of at)) o → IsMade old new at o
     made_there room place put =
         let n = region_of at in
         let p = put_there old mid n o (is_in_use old n) refl room.is in
         record {
           fits = fits;
-          place = place ∙ ap (λ (g : Region). n * 256 + g.fill) p.region;
+          place = place ∙ ap (λ (g : Region). n * REGION + g.fill) p.region;
           was_free = has-get old at ∙ ap (λ m. is_some (fin.get m at.0)) (sym p.objects)
               ∙ sym (has-get mid at) ∙ free;
           young = ap (λ (g : Region). g.generation) (sym p.region) ∙ room.room.young;
@@ -185,7 +186,7 @@ pub record IsCopied (h now : Heap) (from copy : Addr) (o : Placed) : Type 0 wher
 
 module _ (h : Heap) (from copy : Addr) (r : ℕ) (is : has_object h from ≡ true)
     (free : has_object h copy ≡ false)
-    (place : copy.0 ≡ r * 256 + (region_at h r).fill) where
+    (place : copy.0 ≡ r * REGION + (region_at h r).fill) where
   pub put_read : (now : Heap) (o : Placed) → now ≡ with_put h r (region_generation h r) o
       → IsCopied h now from copy o
   put_read now o put =
@@ -213,12 +214,12 @@ module _ (h : Heap) (from copy : Addr) (r : ℕ) (is : has_object h from ≡ tru
   put_written now new o p put written cells =
       written ∙ ap (λ (x : Heap). with_object x copy p) put
       ∙ (λ i. record h {
-        objects = fin.insert (fin.insert h.objects (r * 256 + (region_at h r).fill) o) (place i) p;
+        objects = fin.insert (fin.insert h.objects (r * REGION + (region_at h r).fill) o) (place i) p;
         regions = fin.insert h.regions r
             (record { generation = region_generation h r; fill = (region_at h r).fill + sym cells i });
       })
       ∙ ap (λ m. record (with_put h r (region_generation h r) p) { objects = m })
-      (put_twice h.objects (r * 256 + (region_at h r).fill) o p)
+      (put_twice h.objects (r * REGION + (region_at h r).fill) o p)
 
 -- how far an object has been copied
 pub record IsCopying (h now : Heap) (from : Addr) (r i : ℕ) : Type 0 where
@@ -247,7 +248,7 @@ copying_starts h now from r id count on v is id_is count_is on_is v_is = record 
 
 pub copying_next : (h now new : Heap) (from copy : Addr) (r i : ℕ) (v : Option Addr)
     → has_object h from ≡ true
-    → has_object h copy ≡ false → copy.0 ≡ r * 256 + (region_at h r).fill → IsCopying h now from r i
+    → has_object h copy ≡ false → copy.0 ≡ r * REGION + (region_at h r).fill → IsCopying h now from r i
     → i < length (placed_at h from).fields → v ≡ get_or (placed_at h from).fields i None
     → new ≡ with_object now copy (with_field (placed_at now copy) i v) → IsCopying h new from r (i + 1)
 copying_next h now new from copy r i v is free place c below value written =
@@ -257,7 +258,7 @@ copying_next h now new from copy r i v is free place c below value written =
       object = with_field old i v;
       is = put_written h from copy r is free place now new old (with_field old i v) c.is
           (written ∙ ap (λ x. with_object now copy (with_field x i v)) p.copy_is)
-          (ap (λ n. n + 3) (length-set old.fields i v));
+          (ap (λ n. n + HEADER) (length-set old.fields i v));
       header = ap (λ x. with_field x i v) c.header;
       many = length-set old.fields i v ∙ c.many;
       done = λ j low. elim (cases_eq j i) [

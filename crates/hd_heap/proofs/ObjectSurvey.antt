@@ -1,5 +1,5 @@
 -- Lemmas on a survey of the condemned objects, object by object and region by region.
-use Rattle.hd_heap.proofs.Basics.{Addr, Area, Condemned, CondemnedObject, Contains, Contents, HasCondemned, HasCondemnedBelow, Heap, IsEnd, IsFirstAt, IsFirstFrom, IsHeader, IsLaidOut, IsListed, IsObject, IsSound, IsSurvey, IsSurveyedTo, IsSurveying, List, Placed, Some, Survey, [], address, ap, area_at, arith, cases_eq, cases_lt, cells_surveyed, contents, false, first_in, get_or_append_left, get_or_push, inl, inr, is_condemned, le-leb, length, length-append, length-map, member_cases, nat_le, not_in_none, object_at, placed_at, placed_of, refl, subst, sum_by-append, sum_by-cons, surveyed, sym, true, vec_capacity, wants, ℕ, ◌%◌, ◌&&◌, ◌*◌, ◌++◌, ◌+◌, ◌<◌, ◌^◌, ◌∙◌, ◌∷◌, ◌≡◌, ◌≢◌, ◌≤◌, ◌⊎◌}
+use Rattle.hd_heap.proofs.Basics.{Addr, Area, Condemned, CondemnedObject, Contains, Contents, HEADER, HasCondemned, HasCondemnedBelow, Heap, IsEnd, IsFirstAt, IsFirstFrom, IsHeader, IsLaidOut, IsListed, IsObject, IsSound, IsSurvey, IsSurveyedTo, IsSurveying, List, Placed, REGION, Some, Survey, [], address, ap, area_at, arith, cases_eq, cases_lt, cells_surveyed, contents, false, first_in, get_or_append_left, get_or_push, inl, inr, is_condemned, le-leb, length, length-append, length-map, member_cases, nat_le, not_in_none, object_at, placed_at, placed_of, refl, subst, sum_by-append, sum_by-cons, surveyed, sym, true, vec_capacity, wants, ℕ, ◌%◌, ◌&&◌, ◌*◌, ◌++◌, ◌+◌, ◌<◌, ◌^◌, ◌∙◌, ◌∷◌, ◌≡◌, ◌≢◌, ◌≤◌, ◌⊎◌}
 use Rattle.hd_model.specs.{Counting.Counts, Heap.region_of}
 use Rattle.hd_cells.specs.declared.region.Header.{Header}
 use Rattle.hd_model.proofs.PropertyCounts.{counts_like, counts_join, counts_none}
@@ -53,13 +53,13 @@ module _ {h : Heap} {n : ℕ} where
   module _ {low cells : ℕ} {s : List CondemnedObject} (sound : IsSound h) (is : IsSurveyedTo h n low s cells)
       {o : CondemnedObject} (next : IsNextListed h n low o) where
     each_next : (k : ℕ) → k < length (s ++ o ∷ [])
-        → IsListed h n (o.at.0 + (o.fields + 3)) (surveyed (s ++ o ∷ []) k)
+        → IsListed h n (o.at.0 + (o.fields + HEADER)) (surveyed (s ++ o ∷ []) k)
     each_next k below = elim (cases_lt k (length s)) [
-      | inl inside ↦ subst (IsListed h n (o.at.0 + (o.fields + 3))) (sym (old_surveyed s o k inside))
+      | inl inside ↦ subst (IsListed h n (o.at.0 + (o.fields + HEADER))) (sym (old_surveyed s o k inside))
           (raised (omega (arith, next.from)) (is.each k inside))
       | inr past ↦
           let here : k ≡ length s = omega (arith, past, below, longer s o) in
-          subst (IsListed h n (o.at.0 + (o.fields + 3)))
+          subst (IsListed h n (o.at.0 + (o.fields + HEADER)))
           (sym (ap (surveyed (s ++ o ∷ [])) here ∙ new_surveyed s o)) record {
             condemned = next.condemned;
             below = omega arith;
@@ -84,7 +84,7 @@ module _ {h : Heap} {n : ℕ} where
               omega (arith, ap (λ (x : CondemnedObject). x.at.0) first, known, low_one, next.from)
         ]
 
-    all_next : (a : Addr) → is_condemned h n a ≡ true → a.0 < o.at.0 + (o.fields + 3)
+    all_next : (a : Addr) → is_condemned h n a ≡ true → a.0 < o.at.0 + (o.fields + HEADER)
         → (k : ℕ) × ((k < length (s ++ o ∷ [])) × ((surveyed (s ++ o ∷ []) k).at ≡ a))
     all_next a is_a below = elim (cases_lt a.0 low) [
       | inl before ↦
@@ -110,7 +110,8 @@ module _ {h : Heap} {n : ℕ} where
       ]
     ]
 
-    pub surveyed_next : IsSurveyedTo h n (o.at.0 + (o.fields + 3)) (s ++ o ∷ []) (cells + (o.fields + 3))
+    pub surveyed_next : IsSurveyedTo h n (o.at.0 + (o.fields + HEADER)) (s ++ o ∷ [])
+        (cells + (o.fields + HEADER))
     surveyed_next = record {
       each = each_next;
       rising = rising_next;
@@ -122,10 +123,10 @@ module _ {h : Heap} {n : ℕ} where
 
 -- the regions with condemned objects
 module _ (h : Heap) (n : ℕ) {count : ℕ} (r : ℕ)
-    (counts : Counts (HasCondemnedBelow h n (r * 256)) count) where
-  pub region_bare : (HasCondemned h n r → ⊥) → Counts (HasCondemnedBelow h n ((r + 1) * 256)) count
+    (counts : Counts (HasCondemnedBelow h n (r * REGION)) count) where
+  pub region_bare : (HasCondemned h n r → ⊥) → Counts (HasCondemnedBelow h n ((r + 1) * REGION)) count
   region_bare none =
-      counts_like (HasCondemnedBelow h n (r * 256)) (HasCondemnedBelow h n ((r + 1) * 256)) count
+      counts_like (HasCondemnedBelow h n (r * REGION)) (HasCondemnedBelow h n ((r + 1) * REGION)) count
       (λ x was. (was.0, omega (arith, was.1)))
       (λ x now. elim (cases_eq x r) [
         | inl same ↦ absurd (none (subst (HasCondemned h n) same now.0))
@@ -133,7 +134,7 @@ module _ (h : Heap) (n : ℕ) {count : ℕ} (r : ℕ)
       ])
       counts
 
-  pub region_more : HasCondemned h n r → Counts (HasCondemnedBelow h n ((r + 1) * 256)) (count + 1)
+  pub region_more : HasCondemned h n r → Counts (HasCondemnedBelow h n ((r + 1) * REGION)) (count + 1)
   region_more some =
       let one : Counts (λ (x : ℕ). x ≡ r) 1 = record {
         members = r ∷ [];
@@ -145,7 +146,8 @@ module _ (h : Heap) (n : ℕ) {count : ℕ} (r : ℕ)
         all = λ x same. subst (λ (y : ℕ). Contains (r ∷ []) y) (sym same) (first_in r []);
         number = refl;
       } in
-      counts_like (λ x. HasCondemnedBelow h n (r * 256) x ⊎ (x ≡ r)) (HasCondemnedBelow h n ((r + 1) * 256))
+      counts_like (λ x. HasCondemnedBelow h n (r * REGION) x ⊎ (x ≡ r))
+      (HasCondemnedBelow h n ((r + 1) * REGION))
       (count + 1)
       (λ x was. elim was [
         | inl before ↦ (before.0, omega (arith, before.1))
@@ -155,16 +157,16 @@ module _ (h : Heap) (n : ℕ) {count : ℕ} (r : ℕ)
         | inl same ↦ inr same
         | inr other ↦ inl (now.0, omega (arith, now.1, other))
       ])
-      (counts_join (HasCondemnedBelow h n (r * 256)) (λ (x : ℕ). x ≡ r) count 1
+      (counts_join (HasCondemnedBelow h n (r * REGION)) (λ (x : ℕ). x ≡ r) count 1
       (λ x before same. omega (arith, before.1, same)) counts one)
 
 -- the objects of a condemned region, by their headers
 module _ {areas : List Area} {spares : List ℕ} {limit capacity cells objects holds current : ℕ} {h : Heap}
     (heap : IsHeap areas spares limit capacity (cells, objects, holds) current h) {r k : ℕ} {a : Area}
     (p : IsPlace areas r k a) (n : ℕ) where
-  pub header_next : a.generation ≤ n → (end : ℕ) (d : Header) (x : Addr) → x.0 ≡ r * 256 + d.at
+  pub header_next : a.generation ≤ n → (end : ℕ) (d : Header) (x : Addr) → x.0 ≡ r * REGION + d.at
       → IsFirstFrom (contents a) end (Some d.at) → IsHeader (contents a) d.at d
-      → IsNextListed h n (r * 256 + end) (record { at = x; fields = d.fields; registered = d.registered })
+      → IsNextListed h n (r * REGION + end) (record { at = x; fields = d.fields; registered = d.registered })
   header_next young end d x is first says =
       let le : nat_le a.generation n ≡ true = le-leb a.generation n young in
       let low = object_below a (heap.kept.each r a p.here) d.at first.1 in
@@ -173,13 +175,13 @@ module _ {areas : List Area} {spares : List ℕ} {limit capacity cells objects h
         first.0,
         λ q from below. unwanted (Condemned n) a q (first.2 q from below),
       ) in
-      let g = given_some heap (Condemned n) end d.at (r * 256 + end) 0 x p wanted is refl in
+      let g = given_some heap (Condemned n) end d.at (r * REGION + end) 0 x p wanted is refl in
       let f = found_at heap x (record {
         number = omega (arith, is, low, p.number);
         within = p.within;
         here = ap (area_at areas) (omega (arith, is, low)) ∙ p.here;
       }) (wanted_has h (Condemned n) x g.0) in
-      let off : x.0 % 256 ≡ d.at = omega (arith, is, low) in
+      let off : x.0 % REGION ≡ d.at = omega (arith, is, low) in
       let o : Placed → Type 0 = λ q. (d.fields ≡ length q.fields) × (d.registered ≡ q.registered) in
       let said : o (placed_at h x) =
       subst o (sym (f.placed ∙ ap (λ j. placed_of (object_at (contents a) j)) off)) (
@@ -189,25 +191,27 @@ module _ {areas : List Area} {spares : List ℕ} {limit capacity cells objects h
       record { condemned = g.0; from = g.1; least = g.2; fields = said.0; registered = said.1 }
 
   pub header_none : (end : ℕ) → ((q : ℕ) → end ≤ q → wants (Condemned n) a q ≡ false)
-      → (b : Addr) → is_condemned h n b ≡ true → r * 256 + end ≤ b.0 → (r + 1) * 256 ≤ b.0
-  header_none end none = given_none heap (Condemned n) end (r * 256 + end) ((r + 1) * 256) p none refl refl
+      → (b : Addr) → is_condemned h n b ≡ true → r * REGION + end ≤ b.0 → (r + 1) * REGION ≤ b.0
+  header_none end none = given_none heap (Condemned n) end (r * REGION + end) ((r + 1) * REGION) p none refl
+      refl
 
 -- how far the walk over a region has come: to the end of an object, with room for the others
 pub record IsWalking (h : Heap) (n r : ℕ) (region : Contents) (first now : Survey) (end : ℕ) : Type 0 where
-  pub surveyed : IsSurveyedTo h n (r * 256 + end) now.objects.items now.cells
+  pub surveyed : IsSurveyedTo h n (r * REGION + end) now.objects.items now.cells
   pub ends : IsEnd region end
-  pub within : end ≤ 256
+  pub within : end ≤ REGION
   pub regions : now.regions ≡ first.regions
   pub few : 3 * length now.objects.items ≤ 3 * length first.objects.items + end
   pub room : vec_capacity now.objects ≡ vec_capacity first.objects
   pub some : end ≢ 0 → HasCondemned h n r
 
 module _ {h : Heap} {n r : ℕ} {region : Contents} {first : Survey} where
-  pub walking_starts : (now : Survey) → IsSurveying h n (r * 256) first
+  pub walking_starts : (now : Survey) → IsSurveying h n (r * REGION) first
       → now.objects.items ≡ first.objects.items → now.cells ≡ first.cells → IsWalking h n r region now now 0
   walking_starts now is items cells = record {
-    surveyed = subst (λ (es : List CondemnedObject). IsSurveyedTo h n (r * 256 + 0) es now.cells) (sym items)
-        (subst (λ (c : ℕ). IsSurveyedTo h n (r * 256 + 0) first.objects.items c) (sym cells)
+    surveyed = subst (λ (es : List CondemnedObject). IsSurveyedTo h n (r * REGION + 0) es now.cells)
+        (sym items)
+        (subst (λ (c : ℕ). IsSurveyedTo h n (r * REGION + 0) first.objects.items c) (sym cells)
         (surveyed_past is.objects (omega arith) (λ a of low. omega (arith, low))));
     ends = inl refl;
     within = omega arith;
@@ -219,9 +223,9 @@ module _ {h : Heap} {n r : ℕ} {region : Contents} {first : Survey} where
 
   -- one object more
   pub walking_next : {now new : Survey} {end : ℕ} → IsSound h → IsLaidOut region
-      → IsWalking h n r region first now end → (d : Header) (x : Addr) (size : ℕ) → x.0 ≡ r * 256 + d.at
-      → IsNextListed h n (r * 256 + end) (record { at = x; fields = d.fields; registered = d.registered })
-      → IsObject region d.at → IsHeader region d.at d → size ≡ d.fields + 3 → new.objects.items
+      → IsWalking h n r region first now end → (d : Header) (x : Addr) (size : ℕ) → x.0 ≡ r * REGION + d.at
+      → IsNextListed h n (r * REGION + end) (record { at = x; fields = d.fields; registered = d.registered })
+      → IsObject region d.at → IsHeader region d.at d → size ≡ d.fields + HEADER → new.objects.items
       ≡ now.objects.items ++ (record { at = x; fields = d.fields; registered = d.registered }) ∷ []
       → vec_capacity new.objects ≡ vec_capacity now.objects → new.cells ≡ now.cells + size
       → new.regions ≡ now.regions → IsWalking h n r region first new (d.at + size)
@@ -230,13 +234,13 @@ module _ {h : Heap} {n r : ℕ} {region : Contents} {first : Survey} where
       let o : CondemnedObject = record { at = x; fields = d.fields; registered = d.registered } in
       let fits = laid.below_fill d.at there in
       let within = laid.within_region in
-      let high : x.0 + (d.fields + 3) ≡ r * 256 + (d.at + size) = omega (arith, x_is, size_is) in
-      let sum : now.cells + (d.fields + 3) ≡ new.cells = omega (arith, cells, size_is) in
+      let high : x.0 + (d.fields + HEADER) ≡ r * REGION + (d.at + size) = omega (arith, x_is, size_is) in
+      let sum : now.cells + (d.fields + HEADER) ≡ new.cells = omega (arith, cells, size_is) in
       record {
-        surveyed = subst (λ (c : ℕ). IsSurveyedTo h n (r * 256 + (d.at + size)) new.objects.items c) sum
-            (subst (λ (b : ℕ). IsSurveyedTo h n b new.objects.items (now.cells + (d.fields + 3))) high
+        surveyed = subst (λ (c : ℕ). IsSurveyedTo h n (r * REGION + (d.at + size)) new.objects.items c) sum
+            (subst (λ (b : ℕ). IsSurveyedTo h n b new.objects.items (now.cells + (d.fields + HEADER))) high
             (subst (λ (es : List CondemnedObject).
-            IsSurveyedTo h n (x.0 + (d.fields + 3)) es (now.cells + (d.fields + 3)))
+            IsSurveyedTo h n (x.0 + (d.fields + HEADER)) es (now.cells + (d.fields + HEADER)))
             (sym items) (surveyed_next sound w.surveyed next)));
         ends = inr (d.at, (there, omega (arith, size_is, says.fields)));
         within = omega (arith, fits, within, size_is, says.fields);
@@ -248,28 +252,29 @@ module _ {h : Heap} {n r : ℕ} {region : Contents} {first : Survey} where
 
 -- the end: the region has condemned objects if one was met
 pub walking_ends : {h : Heap} {n r : ℕ} {first new : Survey} (now : Survey) (end : ℕ)
-    → IsSurveying h n (r * 256) first → now.regions ≡ first.regions
-    → IsSurveyedTo h n (r * 256 + end) now.objects.items now.cells → end ≤ 256
-    → ((b : Addr) → is_condemned h n b ≡ true → r * 256 + end ≤ b.0 → (r + 1) * 256 ≤ b.0)
+    → IsSurveying h n (r * REGION) first → now.regions ≡ first.regions
+    → IsSurveyedTo h n (r * REGION + end) now.objects.items now.cells → end ≤ REGION
+    → ((b : Addr) → is_condemned h n b ≡ true → r * REGION + end ≤ b.0 → (r + 1) * REGION ≤ b.0)
     → new.objects.items ≡ now.objects.items → new.cells ≡ now.cells
     → (HasCondemned h n r × (new.regions ≡ now.regions + 1)) ⊎ ((end ≡ 0) × (new.regions ≡ now.regions))
-    → IsSurveying h n ((r + 1) * 256) new
+    → IsSurveying h n ((r + 1) * REGION) new
 unfolding region_of
 walking_ends {h} {n} {r} {first} {new} now end is regions to within none items cells met =
     let past = surveyed_past to (omega (arith, within)) none in
     let objects =
-    subst (λ (es : List CondemnedObject). IsSurveyedTo h n ((r + 1) * 256) es new.cells) (sym items)
-    (subst (λ (c : ℕ). IsSurveyedTo h n ((r + 1) * 256) now.objects.items c) (sym cells) past) in
+    subst (λ (es : List CondemnedObject). IsSurveyedTo h n ((r + 1) * REGION) es new.cells) (sym items)
+    (subst (λ (c : ℕ). IsSurveyedTo h n ((r + 1) * REGION) now.objects.items c) (sym cells) past) in
     elim met [
       | inl some ↦ record {
         objects = objects;
-        regions = subst (λ (m : ℕ). Counts (HasCondemnedBelow h n ((r + 1) * 256)) m)
+        regions = subst (λ (m : ℕ). Counts (HasCondemnedBelow h n ((r + 1) * REGION)) m)
             (sym (some.1 ∙ ap (λ m. m + 1) regions)) (region_more h n r is.regions some.0);
         fewer = omega (arith, is.fewer, some.1, regions);
       }
       | inr bare ↦ record {
         objects = objects;
-        regions = subst (λ (m : ℕ). Counts (HasCondemnedBelow h n ((r + 1) * 256)) m) (sym (bare.1 ∙ regions))
+        regions = subst (λ (m : ℕ). Counts (HasCondemnedBelow h n ((r + 1) * REGION)) m)
+            (sym (bare.1 ∙ regions))
             (region_bare h n r is.regions (λ has. omega (
               arith,
               bare.0,
@@ -282,18 +287,18 @@ walking_ends {h} {n} {r} {first} {new} now end is regions to within none items c
 
 -- before the first region, and past one without condemned objects
 pub survey_starts : {h : Heap} {n : ℕ} (s : Survey) → IsSound h → s.objects.items ≡ [] → s.cells ≡ 0
-    → s.regions ≡ 0 → IsSurveying h n 256 s
+    → s.regions ≡ 0 → IsSurveying h n REGION s
 unfolding region_of
 survey_starts {h} {n} s sound items cells regions =
     let high = λ (a : Addr) (is : is_condemned h n a ≡ true). wanted_high h (Condemned n) a sound is in
-    let none : Counts (HasCondemnedBelow h n 256) 0 =
-    counts_none (HasCondemnedBelow h n 256) (λ r has. omega (
+    let none : Counts (HasCondemnedBelow h n REGION) 0 =
+    counts_none (HasCondemnedBelow h n REGION) (λ r has. omega (
       arith,
       has.1,
       has.0.1.1,
       high has.0.0 has.0.1.0,
     )) in
-    let bare : IsSurveyedTo h n 256 [] 0 = record {
+    let bare : IsSurveyedTo h n REGION [] 0 = record {
       each = λ k below. absurd (omega (arith, below));
       rising = λ j k order below. absurd (omega (arith, below));
       all = λ a is below. absurd (omega (arith, below, high a is));
@@ -302,15 +307,15 @@ survey_starts {h} {n} s sound items cells regions =
       few = omega arith;
     } in
     record {
-      objects = subst (λ (es : List CondemnedObject). IsSurveyedTo h n 256 es s.cells) (sym items)
-          (subst (λ (c : ℕ). IsSurveyedTo h n 256 [] c) (sym cells) bare);
-      regions = subst (λ (m : ℕ). Counts (HasCondemnedBelow h n 256) m) (sym regions) none;
+      objects = subst (λ (es : List CondemnedObject). IsSurveyedTo h n REGION es s.cells) (sym items)
+          (subst (λ (c : ℕ). IsSurveyedTo h n REGION [] c) (sym cells) bare);
+      regions = subst (λ (m : ℕ). Counts (HasCondemnedBelow h n REGION) m) (sym regions) none;
       fewer = omega (arith, regions);
     }
 
-pub survey_skips : {h : Heap} {n : ℕ} (r : ℕ) {s : Survey} → IsSurveying h n (r * 256) s
-    → ((b : Addr) → is_condemned h n b ≡ true → r * 256 + 0 ≤ b.0 → (r + 1) * 256 ≤ b.0)
-    → IsSurveying h n ((r + 1) * 256) s
+pub survey_skips : {h : Heap} {n : ℕ} (r : ℕ) {s : Survey} → IsSurveying h n (r * REGION) s
+    → ((b : Addr) → is_condemned h n b ≡ true → r * REGION + 0 ≤ b.0 → (r + 1) * REGION ≤ b.0)
+    → IsSurveying h n ((r + 1) * REGION) s
 unfolding region_of
 survey_skips {h} {n} r {s} is none = record {
   objects = surveyed_past is.objects (omega arith) (λ a of low. none a of (omega (arith, low)));

@@ -1,5 +1,5 @@
 -- Lemmas on a heap after one of its regions got or lost an object, a generation or a set card.
-use Rattle.hd_heap.proofs.Basics.{Addr, AreOthersFull, Area, Bool, Contents, Heap, IsArea, IsPutInto, IsRemoved, IsTaken, List, None, Object, Placed, Region, Some, address, ap, area_at, arith, card_in, cards_in, cases_eq, cells_of, cond, contents, false, get_or, get_or-set_other, get_or-set_same, has_object, inl, inr, is_set, is_some, length-set, map, nat_cmp, nat_cmp_total, nat_eq, new_object, not, objects_in, option_map, placed_in, placed_of, refl, region_at, region_generation, replicate, set, size_of, subst, suc, sym, true, with_card, with_generation, zero, ℕ, ◌%◌, ◌&&◌, ◌*◌, ◌+◌, ◌-◌, ◌/◌, ◌<◌, ◌||◌, ◌∙◌, ◌∷◌, ◌≡◌, ◌≢◌, ◌≤◌}
+use Rattle.hd_heap.proofs.Basics.{Addr, AreOthersFull, Area, Bool, CARD, CARDS, Contents, Heap, IsArea, IsPutInto, IsRemoved, IsTaken, List, None, Object, Placed, REGION, Region, Some, address, ap, area_at, arith, card_in, cards_in, cases_eq, cells_of, cond, contents, false, get_or, get_or-set_other, get_or-set_same, has_object, inl, inr, is_set, is_some, length-set, map, nat_cmp, nat_cmp_total, nat_eq, new_object, not, objects_in, option_map, placed_in, placed_of, refl, region_at, region_generation, replicate, set, size_of, subst, suc, sym, true, with_card, with_generation, zero, ℕ, ◌%◌, ◌&&◌, ◌*◌, ◌+◌, ◌-◌, ◌/◌, ◌<◌, ◌||◌, ◌∙◌, ◌∷◌, ◌≡◌, ◌≢◌, ◌≤◌}
 use Rattle.hd_cells.specs.Object.{new_object as new_region_object}
 use Rattle.hd_model.specs.Heap.{card_of}
 use Rattle.hd_heap.specs.Calls.{with_put}
@@ -65,11 +65,12 @@ module _ {areas : List Area} {spares : List ℕ} {limit capacity cells objects h
 
   -- the card of an object is set or cleared
   pub card_changed : (at : Addr) {k : ℕ} {a : Area} (on : Bool) → IsFound areas h at k a
-      → IsHeap (set areas k (record a { cards = set a.cards ((at.0 % 256) / 32) on })) spares limit capacity
+      → IsHeap (set areas k (record a { cards = set a.cards ((at.0 % REGION) / CARD) on })) spares limit
+      capacity
       (cells, objects, holds) current (with_card h (card_of at) on)
   unfolding card_of
   card_changed at {k} {a} on f =
-      let card = (at.0 % 256) / 32 in
+      let card = (at.0 % REGION) / CARD in
       let b : Area = record a { cards = set a.cards card on } in
       let old = f.located.area in
       let place = f.located.place in
@@ -84,57 +85,59 @@ module _ {areas : List Area} {spares : List ℕ} {limit capacity cells objects h
         generation = old.generation;
         card_count = length-set a.cards card on ∙ old.card_count;
         cards = λ j set_j. elim (cases_eq j card) [
-          | inl same ↦ record { at = at.0 % 256; object = f.object; in_card = sym same }
+          | inl same ↦ record { at = at.0 % REGION; object = f.object; in_card = sym same }
           | inr apart ↦ old.cards j (sym (other j apart) ∙ set_j)
         ];
         spare = old.spare;
       } in
       let old_cards = cards_in areas in
-      let elsewhere : (c : ℕ) → c ≢ at.0 / 32 → set_of.contains (cards_in (set areas k b)) c ≡ set_of.contains
-      old_cards c = λ c apart. elim (cases_eq (c / 8) (at.0 / 256)) [
-        | inl same ↦ card_here place b c same ∙ other (c % 8) (λ e. apart (omega (arith, e, same)))
+      let elsewhere : (c : ℕ) → c ≢ at.0 / CARD
+      → set_of.contains (cards_in (set areas k b)) c ≡ set_of.contains
+      old_cards c = λ c apart. elim (cases_eq (c / CARDS) (at.0 / REGION)) [
+        | inl same ↦ card_here place b c same ∙ other (c % CARDS) (λ e. apart (omega (arith, e, same)))
             ∙ sym (card_was place b c same)
         | inr far ↦ card_other place b c far
       ] in
-      let marks : cards_in (set areas k b) ≡ cond on (set_of.insert old_cards (at.0 / 32))
-      (set_of.remove old_cards (at.0 / 32)) = same_sets (λ c. elim (cases_eq c (at.0 / 32)) [
+      let marks : cards_in (set areas k b) ≡ cond on (set_of.insert old_cards (at.0 / CARD))
+      (set_of.remove old_cards (at.0 / CARD)) = same_sets (λ c. elim (cases_eq c (at.0 / CARD)) [
         | inl same ↦ card_here place b c (omega (arith, same)) ∙ ap (card_in (Some b)) (omega (arith, same))
-            ∙ here ∙ sym (ap (set_of.contains (cond on (set_of.insert old_cards (at.0 / 32))
-            (set_of.remove old_cards (at.0 / 32)))) same ∙ marked_here old_cards (at.0 / 32) on)
-        | inr apart ↦ elsewhere c apart ∙ sym (marked_other old_cards (at.0 / 32) c on apart)
+            ∙ here ∙ sym (ap (set_of.contains (cond on (set_of.insert old_cards (at.0 / CARD))
+            (set_of.remove old_cards (at.0 / CARD)))) same ∙ marked_here old_cards (at.0 / CARD) on)
+        | inr apart ↦ elsewhere c apart ∙ sym (marked_other old_cards (at.0 / CARD) c on apart)
       ]) in
-      heap_set place b heap cells objects current (with_card h (at.0 / 32) on) new f.located.held
+      heap_set place b heap cells objects current (with_card h (at.0 / CARD) on) new f.located.held
       f.located.held (objects_same place b refl ∙ ap (λ (x : Heap). x.objects) heap.view)
       (regions_same place b refl ∙ ap (λ (x : Heap). x.regions) heap.view) refl refl
-      (marks ∙ ap (λ (x : Heap). cond on (set_of.insert x.cards (at.0 / 32))
-      (set_of.remove x.cards (at.0 / 32))) heap.view) refl refl (λ x. x)
+      (marks ∙ ap (λ (x : Heap). cond on (set_of.insert x.cards (at.0 / CARD))
+      (set_of.remove x.cards (at.0 / CARD))) heap.view) refl refl (λ x. x)
 
   -- nothing is where the next object of a region goes
-  pub free_here : {r k : ℕ} {a : Area} → IsHeldAt areas h r k a → (contents a).fill < 256
+  pub free_here : {r k : ℕ} {a : Area} → IsHeldAt areas h r k a → (contents a).fill < REGION
       → fin.get (contents a).objects (contents a).fill ≡ None
-      → fin.get h.objects (r * 256 + (region_at h r).fill) ≡ None
+      → fin.get h.objects (r * REGION + (region_at h r).fill) ≡ None
   free_here {r} {k} {a} at low free =
-      let n = r * 256 + (contents a).fill in
-      let off : n % 256 ≡ (contents a).fill = omega arith in
-      let number : n / 256 ≡ r = omega arith in
-      ap (λ (g : Region). fin.get h.objects (r * 256 + g.fill)) at.region
+      let n = r * REGION + (contents a).fill in
+      let off : n % REGION ≡ (contents a).fill = omega arith in
+      let number : n / REGION ≡ r = omega arith in
+      ap (λ (g : Region). fin.get h.objects (r * REGION + g.fill)) at.region
       ∙ ap (λ (x : Heap). fin.get x.objects n) (sym heap.view) ∙ get-objects areas n
-      ∙ ap (λ m. placed_in (area_at areas m) (n % 256)) number ∙ ap (λ x. placed_in x (n % 256)) at.place.here
+      ∙ ap (λ m. placed_in (area_at areas m) (n % REGION)) number ∙ ap (λ x. placed_in x (n % REGION))
+      at.place.here
       ∙ ap (λ j. option_map placed_of (fin.get (contents a).objects j)) off ∙ ap (option_map placed_of) free
 
   -- an object was put after all others of a region
   pub object_put : {r k : ℕ} {a : Area} (b : Area) (o : Object) (p : Placed) → placed_of o ≡ p
-      → (size : ℕ) → size ≡ size_of o → IsHeldAt areas h r k a → IsArea b → (contents a).fill + size ≤ 256
+      → (size : ℕ) → size ≡ size_of o → IsHeldAt areas h r k a → IsArea b → (contents a).fill + size ≤ REGION
       → IsPutInto a b o
       → IsHeap (set areas k b) spares limit capacity (cells + size, objects + 1, holds) current
       (with_put h r (region_generation h r) p)
   object_put {r} {k} {a} b o p is size size_is at new room w =
       let fill : (contents a).fill ≡ (region_at h r).fill = ap (λ (x : Region). x.fill) (sym at.region) in
       let sizes : size_of o ≡ cells_of p = sym (cells_placed o) ∙ ap cells_of is in
-      let added : objects_in (set areas k b) ≡ fin.insert h.objects (r * 256 + (region_at h r).fill) p =
+      let added : objects_in (set areas k b) ≡ fin.insert h.objects (r * REGION + (region_at h r).fill) p =
       objects_put at.place b (contents a).fill o (omega (arith, room, size_is))
       (ap (λ (c : Contents). c.objects) w.contents_are)
-      ∙ (λ i. fin.insert (heap.view i).objects (r * 256 + fill i) (is i)) in
+      ∙ (λ i. fin.insert (heap.view i).objects (r * REGION + fill i) (is i)) in
       let held : b.held ≡ true = w.held ∙ at.held in
       heap_set at.place b heap (cells + size) (objects + 1) current
       (with_put h r (region_generation h r) p) new at.held held added
@@ -148,8 +151,8 @@ module _ {areas : List Area} {spares : List ℕ} {limit capacity cells objects h
       (omega (arith, w.live, size_is)) (omega (arith, w.count)) (others_placed h current r p at.there)
 
   -- nothing was where it is put
-  pub place_free : {r k : ℕ} {a : Area} (at : Addr) → IsHeldAt areas h r k a → (contents a).fill < 256
-      → at.0 ≡ r * 256 + (region_at h r).fill → has_object h at ≡ false
+  pub place_free : {r k : ℕ} {a : Area} (at : Addr) → IsHeldAt areas h r k a → (contents a).fill < REGION
+      → at.0 ≡ r * REGION + (region_at h r).fill → has_object h at ≡ false
   place_free {a = a} at located low place = has-get h at ∙ ap (λ n. is_some (fin.get h.objects n)) place
       ∙ ap is_some (free_here located low (absent (contents a) (contents a).fill (λ there. omega (
         arith,
@@ -158,7 +161,7 @@ module _ {areas : List Area} {spares : List ℕ} {limit capacity cells objects h
 
   -- what is removed was counted
   pub counted : (at : Addr) {k : ℕ} {a : Area} (b : Area) (size : ℕ) → IsFound areas h at k a
-      → IsTaken a b (at.0 % 256) size → (size ≤ cells) × (1 ≤ objects)
+      → IsTaken a b (at.0 % REGION) size → (size ≤ cells) × (1 ≤ objects)
   counted at {a = a} b size f taken =
       let place = f.located.place in
       let one = sum_set place (record a { live = 0; count = 0 }) in (
@@ -168,16 +171,16 @@ module _ {areas : List Area} {spares : List ℕ} {limit capacity cells objects h
 
   -- an object was removed from its region
   pub object_removed : (at : Addr) {k : ℕ} {a : Area} (b : Area) (size : ℕ) → IsFound areas h at k a
-      → IsArea b → IsTaken a b (at.0 % 256) size → IsHeap (set areas k b) spares limit capacity
+      → IsArea b → IsTaken a b (at.0 % REGION) size → IsHeap (set areas k b) spares limit capacity
       (cells - size, objects - 1, holds) current
       (record h { objects = fin.remove h.objects at.0; cards = cards_in (set areas k b) })
   object_removed at {k} {a} b size f new taken =
       let place = f.located.place in
-      let whole : (at.0 / 256) * 256 + at.0 % 256 ≡ at.0 = omega arith in
+      let whole : (at.0 / REGION) * REGION + at.0 % REGION ≡ at.0 = omega arith in
       heap_set place b heap (cells - size) (objects - 1) current
       (record h { objects = fin.remove h.objects at.0; cards = cards_in (set areas k b) }) new f.located.held
       (taken.held ∙ f.located.held)
-      (objects_gone place b (at.0 % 256) (omega arith) (ap (λ (c : Contents). c.objects) taken.removed)
+      (objects_gone place b (at.0 % REGION) (omega arith) (ap (λ (c : Contents). c.objects) taken.removed)
       ∙ (λ i. fin.remove (heap.view i).objects (whole i)))
       (regions_same place b (λ i. cond (taken.held i)
       (Some (record { generation = taken.generation i; fill = (taken.removed i).fill })) None)
@@ -189,17 +192,17 @@ module _ {areas : List Area} {spares : List ℕ} {limit capacity cells objects h
 module _ {areas : List Area} {spares : List ℕ} {limit capacity cells objects holds current : ℕ} {h : Heap}
     (heap : IsHeap areas spares limit capacity (cells, objects, holds) current h) (at : Addr) {k : ℕ}
     {a : Area} (b : Area) (size : ℕ) (f : IsFound areas h at k a) (new : IsArea b)
-    (taken : IsTaken a b (at.0 % 256) size)
+    (taken : IsTaken a b (at.0 % REGION) size)
     {after : Heap}
     (now : IsHeap (set areas k b) spares limit capacity (cells - size, objects - 1, holds) current
     after) where
-  there : (x : Addr) → x.0 / 256 ≡ at.0 / 256 → has_object after x ≡ is_some
-      (fin.get (contents b).objects (x.0 % 256))
+  there : (x : Addr) → x.0 / REGION ≡ at.0 / REGION → has_object after x ≡ is_some
+      (fin.get (contents b).objects (x.0 % REGION))
   there x same = has_there now x b (ap (area_at (set areas k b)) same ∙ area_here f.located.place b)
 
-  here : is_set after (at.0 / 32) ≡ card_in (Some b) ((at.0 % 256) / 32)
-  here = ap (λ (x : Heap). is_set x (at.0 / 32)) (sym now.view)
-      ∙ card_here f.located.place b (at.0 / 32) (omega arith) ∙ ap (card_in (Some b)) (omega arith)
+  here : is_set after (at.0 / CARD) ≡ card_in (Some b) ((at.0 % REGION) / CARD)
+  here = ap (λ (x : Heap). is_set x (at.0 / CARD)) (sym now.view)
+      ∙ card_here f.located.place b (at.0 / CARD) (omega arith) ∙ ap (card_in (Some b)) (omega arith)
 
   was : (c : ℕ) → is_set h c ≡ set_of.contains (cards_in areas) c
   was c = ap (λ (x : Heap). is_set x c) (sym heap.view)
@@ -209,21 +212,22 @@ module _ {areas : List Area} {spares : List ℕ} {limit capacity cells objects h
   unfolding card_of
   removed_cards removed = record {
     removed = removed;
-    others = λ c apart. ap (λ (x : Heap). is_set x c) (sym now.view) ∙ elim (cases_eq (c / 8) (at.0 / 256)) [
-      | inl same ↦ card_here f.located.place b c same
-          ∙ taken.others (c % 8) (λ e. apart (omega (arith, e, same)))
-          ∙ sym (was c ∙ card_was f.located.place b c same)
-      | inr other ↦ card_other f.located.place b c other ∙ sym (was c)
-    ];
+    others = λ c apart. ap (λ (x : Heap). is_set x c) (sym now.view)
+        ∙ elim (cases_eq (c / CARDS) (at.0 / REGION)) [
+          | inl same ↦ card_here f.located.place b c same
+              ∙ taken.others (c % CARDS) (λ e. apart (omega (arith, e, same)))
+              ∙ sym (was c ∙ card_was f.located.place b c same)
+          | inr other ↦ card_other f.located.place b c other ∙ sym (was c)
+        ];
     shared = λ x is in_card. here
-        ∙ taken.shared (x.0 % 256) (sym (there x (omega (arith, in_card))) ∙ is) (omega (arith, in_card))
-        ∙ sym (was (at.0 / 32) ∙ card_was f.located.place b (at.0 / 32) (omega arith)
+        ∙ taken.shared (x.0 % REGION) (sym (there x (omega (arith, in_card))) ∙ is) (omega (arith, in_card))
+        ∙ sym (was (at.0 / CARD) ∙ card_was f.located.place b (at.0 / CARD) (omega arith)
         ∙ ap (card_in (Some a)) (omega arith));
     last = λ none. here ∙ taken.last (λ j is e.
         let fits = new.laid_out.below_fill j is in
         let within = new.laid_out.within_region in
-        let x : Addr = record { 0 = (at.0 / 256) * 256 + j } in
-        let offset : x.0 % 256 ≡ j = omega arith in
+        let x : Addr = record { 0 = (at.0 / REGION) * REGION + j } in
+        let offset : x.0 % REGION ≡ j = omega arith in
         let there_is = there x (omega arith) ∙ ap (λ n. is_some (fin.get (contents b).objects n)) offset
         ∙ is in
         none x there_is (omega (arith, e, fits, within)));

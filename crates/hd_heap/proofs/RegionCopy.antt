@@ -1,5 +1,5 @@
 -- Lemmas on a list of regions that is split, and on a copy from one part into the other.
-use Rattle.hd_heap.proofs.Basics.{Addr, Area, Bool, Contents, Heap, IsArea, IsCopiedInto, IsField, IsObject, IsPutInto, List, MayCopy, MayForward, Object, Region, ap, arith, cells_of, contents, forwarded, get_or, get_or-append_right, get_or_append_left, get_or_read, length, length-map, placed_at, refl, region_at, region_forwarded, set, set-append_left, set-append_right, size_of, stored_place, subst, sym, true, with_moved, ℕ, ◌%◌, ◌++◌, ◌+◌, ◌<◌, ◌∙◌, ◌≡◌, ◌≢◌, ◌≤◌}
+use Rattle.hd_heap.proofs.Basics.{Addr, Area, Bool, Contents, FIELDS, HEADER, Heap, IsArea, IsCopiedInto, IsField, IsObject, IsPutInto, List, MayCopy, MayForward, Object, REGION, Region, ap, arith, cells_of, contents, forwarded, get_or, get_or-append_right, get_or_append_left, get_or_read, length, length-map, placed_at, refl, region_at, region_forwarded, set, set-append_left, set-append_right, size_of, stored_place, subst, sym, true, with_moved, ℕ, ◌%◌, ◌++◌, ◌+◌, ◌<◌, ◌∙◌, ◌≡◌, ◌≢◌, ◌≤◌}
 use Rattle.hd_cells.specs.Region.{object_at as object_in_region}
 use Rattle.hd_model.specs.Heap.{object_at}
 use Rattle.hd_heap.proofs.{RegionReads.IsHeap, RegionReads.IsHeldAt, RegionReads.IsFound, RegionReads.object_of, RegionSums.cells_placed, RegionChanges.object_put, RegionUse.heap_lists, FieldForward.field_of, FieldForward.forwarded_placed}
@@ -45,7 +45,7 @@ pub record IsReady (kept : Addr → Bool) (s : Contents) (b : Area) (from : ℕ)
   pub object : IsObject s from
   pub area : IsArea b
   pub held : b.held ≡ true
-  pub room : (contents b).fill + size_of (object_in_region s from) ≤ 256
+  pub room : (contents b).fill + size_of (object_in_region s from) ≤ REGION
   pub fields : MayForward kept (object_in_region s from).fields
 
 pub ready : {kept : Addr → Bool} {a c b d : Area} {from : ℕ} {s : Contents} → MayCopy kept a b from → a ≡ c
@@ -92,14 +92,14 @@ copied_there {old} {xs} {new} {b} {o} {q} {target} {m} {off} {cells} c list obje
 module _ {areas : List Area} {spares : List ℕ} {limit capacity cells objects holds current : ℕ} {h : Heap}
     (heap : IsHeap areas spares limit capacity (cells, objects, holds) current h) {from : Addr} {r k m : ℕ}
     {a b : Area} (f : IsFound areas h from k a) (t : IsHeldAt areas h r m b)
-    (room : (region_at h r).fill + cells_of (placed_at h from) ≤ 256) where
-  size_is : cells_of (placed_at h from) ≡ size_of (object_in_region (contents a) (from.0 % 256))
-  size_is = ap cells_of f.placed ∙ cells_placed (object_in_region (contents a) (from.0 % 256))
+    (room : (region_at h r).fill + cells_of (placed_at h from) ≤ REGION) where
+  size_is : cells_of (placed_at h from) ≡ size_of (object_in_region (contents a) (from.0 % REGION))
+  size_is = ap cells_of f.placed ∙ cells_placed (object_in_region (contents a) (from.0 % REGION))
 
   fill_is : (region_at h r).fill ≡ (contents b).fill
   fill_is = ap (λ (x : Region). x.fill) t.region
 
-  pub may_copy : (kept : Addr → Bool) (off : ℕ) → off ≡ from.0 % 256
+  pub may_copy : (kept : Addr → Bool) (off : ℕ) → off ≡ from.0 % REGION
       → ((y : Addr) → IsField (object_at h) from y → kept y ≡ true) → MayCopy kept a b off
   may_copy kept off off_is each = subst (MayCopy kept a b) (sym off_is) record {
     source = f.located.area;
@@ -107,24 +107,24 @@ module _ {areas : List Area} {spares : List ℕ} {limit capacity cells objects h
     target = t.area;
     held = t.held;
     room = omega (arith, room, size_is, fill_is);
-    fields = field_of (λ y. kept y ≡ true) h from (object_in_region (contents a) (from.0 % 256)).fields
+    fields = field_of (λ y. kept y ≡ true) h from (object_in_region (contents a) (from.0 % REGION)).fields
         (object_of from f).fields each;
   }
 
   -- the copy with forwarding addresses
   abbrev pub copy_by : (Addr → Addr) → Object
-  copy_by place = region_forwarded place (object_in_region (contents a) (from.0 % 256))
+  copy_by place = region_forwarded place (object_in_region (contents a) (from.0 % REGION))
 
   copy_size : (place : Addr → Addr)
-      → size_of (copy_by place) ≡ size_of (object_in_region (contents a) (from.0 % 256))
-  copy_size place = ap (λ n. n + 3)
-      (length-map (object_in_region (contents a) (from.0 % 256)).fields (stored_place place))
+      → size_of (copy_by place) ≡ size_of (object_in_region (contents a) (from.0 % REGION))
+  copy_size place = ap (λ n. n + HEADER)
+      (length-map (object_in_region (contents a) (from.0 % REGION)).fields (stored_place place))
 
   -- where the copy is, what it takes, and the heap with it
   pub record IsMoved (place : Addr → Addr) (new : List Area) (start size : ℕ) : Type 0 where
     pub start_is : start ≡ (region_at h r).fill
-    pub low : (contents b).fill < 256
-    pub few : size ≤ 64
+    pub low : (contents b).fill < REGION
+    pub few : size ≤ FIELDS + HEADER
     pub lists : IsHeap new spares limit capacity (cells + size, objects + 1, holds) current
         (with_moved h from r place)
 
@@ -132,9 +132,9 @@ module _ {areas : List Area} {spares : List ℕ} {limit capacity cells objects h
       → ((y : Addr) → IsField (object_at h) from y → (place y).0 ≢ 0) → (start : ℕ)
       → IsCopiedInto areas new m b (copy_by place) start size → IsMoved place new start size
   object_moved place new size each start c =
-      let o = object_in_region (contents a) (from.0 % 256) in
+      let o = object_in_region (contents a) (from.0 % REGION) in
       let some = field_of (λ y. (place y).0 ≢ 0) h from o.fields (object_of from f).fields each in
-      let small = f.located.area.laid_out.well_formed (from.0 % 256) f.object in
+      let small = f.located.area.laid_out.well_formed (from.0 % REGION) f.object in
       record {
         start_is = c.offset_is ∙ sym fill_is;
         low = omega (arith, room, size_is, fill_is);

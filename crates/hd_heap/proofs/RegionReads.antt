@@ -1,5 +1,5 @@
 -- Lemmas on a heap that is read from its regions.
-use Rattle.hd_heap.proofs.Basics.{Addr, AreOthersFull, Area, Bool, Heap, IsArea, IsKept, IsObject, IsObjectOf, List, None, Option, Placed, Region, Some, [], address, ap, area_at, arith, both_ways, card_in, cards_in, cases_lt, cond, contents, deque_capacity, false, fields_in, from_one, generation_in, get-by_place, get_or, get_or-map, get_or-set_other, get_or-set_same, get_or_past, has_object, heap_of, inl, inr, is_in_use, is_set, is_some, length, length-map, length-set, map, map-set, object_in, objects_in, option_map, placed_at, placed_in, placed_of, refl, region_at, region_generation, region_in, regions_in, set, subst, suc, sym, tables, true, unwrap_or, used_of, zero, ℕ, ◌%◌, ◌+◌, ◌-◌, ◌/◌, ◌<◌, ◌∙◌, ◌∷◌, ◌≡◌, ◌≢◌}
+use Rattle.hd_heap.proofs.Basics.{Addr, AreOthersFull, Area, Bool, CARDS, Heap, IsArea, IsKept, IsObject, IsObjectOf, List, None, Option, Placed, REGION, Region, Some, [], address, ap, area_at, arith, both_ways, card_in, cards_in, cases_lt, cond, contents, deque_capacity, false, fields_in, from_one, generation_in, get-by_place, get_or, get_or-map, get_or-set_other, get_or-set_same, get_or_past, has_object, heap_of, inl, inr, is_in_use, is_set, is_some, length, length-map, length-set, map, map-set, object_in, objects_in, option_map, placed_at, placed_in, placed_of, refl, region_at, region_generation, region_in, regions_in, set, subst, suc, sym, tables, true, unwrap_or, used_of, zero, ℕ, ◌%◌, ◌+◌, ◌-◌, ◌/◌, ◌<◌, ◌∙◌, ◌∷◌, ◌≡◌, ◌≢◌}
 use Rattle.hd_cells.specs.Region.{object_at as object_in_region}
 use Rattle.hd_model.specs.Heap.{region_of}
 use Rattle.hd_heap.specs.declared.heap.Heap.TheInside.{Inside}
@@ -16,10 +16,11 @@ get_or-option f (o ∷ os) (suc k) none = get_or-option f os k none
 
 -- what the maps and the set have
 pub get-objects : (areas : List Area) (a : ℕ) → fin.get (objects_in areas) a ≡ placed_in
-    (area_at areas (a / 256)) (a % 256)
+    (area_at areas (a / REGION)) (a % REGION)
 get-objects areas a =
-    get-by_place (tables 256 placed_in (from_one areas)) a
-    ∙ get_or-tables 256 placed_in None (λ k. refl) (from_one areas) a (a / 256) (a % 256) (omega arith)
+    get-by_place (tables REGION placed_in (from_one areas)) a
+    ∙ get_or-tables REGION placed_in None (λ k. refl) (from_one areas) a (a / REGION) (a % REGION)
+    (omega arith)
     (omega arith)
 
 pub get-regions : (areas : List Area) (r : ℕ) → fin.get (regions_in areas) r ≡ region_in (area_at areas r)
@@ -27,10 +28,11 @@ get-regions areas r = get-by_place (map region_in (from_one areas)) r
     ∙ get_or-option region_in (from_one areas) r refl
 
 pub contains-cards : (areas : List Area) (c : ℕ) → set_of.contains (cards_in areas) c ≡ card_in
-    (area_at areas (c / 8)) (c % 8)
+    (area_at areas (c / CARDS)) (c % CARDS)
 contains-cards areas c =
     contains-places_of (tables 8 card_in (from_one areas)) c
-    ∙ get_or-tables 8 card_in false (λ k. refl) (from_one areas) c (c / 8) (c % 8) (omega arith) (omega arith)
+    ∙ get_or-tables 8 card_in false (λ k. refl) (from_one areas) c (c / CARDS) (c % CARDS) (omega arith)
+    (omega arith)
 
 -- a region of the list as the heap's users see it
 abbrev pub seen : Area → Region
@@ -95,10 +97,10 @@ pub record IsHeldAt (areas : List Area) (h : Heap) (r k : ℕ) (a : Area) : Type
 
 -- an object of a region in use
 pub record IsFound (areas : List Area) (h : Heap) (at : Addr) (k : ℕ) (a : Area) : Type 0 where
-  pub located : IsHeldAt areas h (at.0 / 256) k a
-  pub object : IsObject (contents a) (at.0 % 256)
-  pub get : fin.get h.objects at.0 ≡ Some (placed_of (object_in_region (contents a) (at.0 % 256)))
-  pub placed : placed_at h at ≡ placed_of (object_in_region (contents a) (at.0 % 256))
+  pub located : IsHeldAt areas h (at.0 / REGION) k a
+  pub object : IsObject (contents a) (at.0 % REGION)
+  pub get : fin.get h.objects at.0 ≡ Some (placed_of (object_in_region (contents a) (at.0 % REGION)))
+  pub placed : placed_at h at ≡ placed_of (object_in_region (contents a) (at.0 % REGION))
 
 is_some_map : {A B : Type 0} (f : A → B) (o : Option A) → is_some (option_map f o) ≡ is_some o
 is_some_map f None = refl
@@ -143,20 +145,20 @@ module _ {areas : List Area} {spares : List ℕ} {limit capacity cells objects h
   count_is = heap.kept.counts ∙ count_sum areas heap.kept.each
       ∙ ap (λ (x : Heap). fin.len x.objects) heap.view
 
-  pub objects_at : (a : ℕ) → fin.get h.objects a ≡ placed_in (area_at areas (a / 256)) (a % 256)
+  pub objects_at : (a : ℕ) → fin.get h.objects a ≡ placed_in (area_at areas (a / REGION)) (a % REGION)
   objects_at a = ap (λ (x : Heap). fin.get x.objects a) (sym heap.view) ∙ get-objects areas a
 
   pub regions_at : (r : ℕ) → fin.get h.regions r ≡ region_in (area_at areas r)
   regions_at r = ap (λ (x : Heap). fin.get x.regions r) (sym heap.view) ∙ get-regions areas r
 
-  pub set_at : (c : ℕ) → is_set h c ≡ card_in (area_at areas (c / 8)) (c % 8)
+  pub set_at : (c : ℕ) → is_set h c ≡ card_in (area_at areas (c / CARDS)) (c % CARDS)
   set_at c = ap (λ (x : Heap). set_of.contains x.cards c) (sym heap.view) ∙ contains-cards areas c
 
   -- an object of a region is one of the heap
-  pub has_there : (at : Addr) (a : Area) → area_at areas (at.0 / 256) ≡ Some a
-      → has_object h at ≡ is_some (fin.get (contents a).objects (at.0 % 256))
-  has_there at a e = has-get h at ∙ ap is_some (objects_at at.0 ∙ ap (λ o. placed_in o (at.0 % 256)) e)
-      ∙ is_some_map placed_of (fin.get (contents a).objects (at.0 % 256))
+  pub has_there : (at : Addr) (a : Area) → area_at areas (at.0 / REGION) ≡ Some a
+      → has_object h at ≡ is_some (fin.get (contents a).objects (at.0 % REGION))
+  has_there at a e = has-get h at ∙ ap is_some (objects_at at.0 ∙ ap (λ o. placed_in o (at.0 % REGION)) e)
+      ∙ is_some_map placed_of (fin.get (contents a).objects (at.0 % REGION))
 
   -- a region in use
   pub located_by : {r k : ℕ} {a : Area} → IsPlace areas r k a → a.held ≡ true → IsHeldAt areas h r k a
@@ -178,14 +180,14 @@ module _ {areas : List Area} {spares : List ℕ} {limit capacity cells objects h
       held_of false e = absurd (let none = ap is_some (regions_at r ∙ ap region_in p.here ∙ not_in_use a e) in
           both_ways _ none is)
 
-  pub found_at : (at : Addr) {k : ℕ} {a : Area} → IsPlace areas (at.0 / 256) k a → has_object h at ≡ true
+  pub found_at : (at : Addr) {k : ℕ} {a : Area} → IsPlace areas (at.0 / REGION) k a → has_object h at ≡ true
       → IsFound areas h at k a
   found_at at {a = a} p is =
-      let there : IsObject (contents a) (at.0 % 256) = sym (has_there at a p.here) ∙ is in
-      let got = objects_at at.0 ∙ ap (λ o. placed_in o (at.0 % 256)) p.here
-      ∙ ap (option_map placed_of) (object_there (contents a) (at.0 % 256) there) in
+      let there : IsObject (contents a) (at.0 % REGION) = sym (has_there at a p.here) ∙ is in
+      let got = objects_at at.0 ∙ ap (λ o. placed_in o (at.0 % REGION)) p.here
+      ∙ ap (option_map placed_of) (object_there (contents a) (at.0 % REGION) there) in
       record {
-        located = located_by p (held_by_object a (heap.kept.each _ a p.here) (at.0 % 256) there);
+        located = located_by p (held_by_object a (heap.kept.each _ a p.here) (at.0 % REGION) there);
         object = there;
         get = got;
         placed = ap (λ (o : Option Placed). unwrap_or o
@@ -194,12 +196,13 @@ module _ {areas : List Area} {spares : List ℕ} {limit capacity cells objects h
 
   -- the place of what is there
   pub found : (at : Addr) → has_object h at ≡ true → (k : ℕ) × (a : Area) × IsFound areas h at k a
-  found at is = by (area_at areas (at.0 / 256)) refl
+  found at is = by (area_at areas (at.0 / REGION)) refl
     where
-      by : (o : Option Area) → area_at areas (at.0 / 256) ≡ o → (k : ℕ) × (a : Area) × IsFound areas h at k a
+      by : (o : Option Area) → area_at areas (at.0 / REGION) ≡ o → (k : ℕ) × (a : Area) × IsFound areas h at k
+          a
       by None e = absurd (both_ways _
-          (has-get h at ∙ ap is_some (objects_at at.0 ∙ ap (λ o. placed_in o (at.0 % 256)) e)) is)
-      by (Some a) e = let p = place_of areas (at.0 / 256) a e in (p.0, a, found_at at p.1 is)
+          (has-get h at ∙ ap is_some (objects_at at.0 ∙ ap (λ o. placed_in o (at.0 % REGION)) e)) is)
+      by (Some a) e = let p = place_of areas (at.0 / REGION) a e in (p.0, a, found_at at p.1 is)
 
   pub held_found : (r : ℕ) → is_in_use h r ≡ true → (k : ℕ) × (a : Area) × IsHeldAt areas h r k a
   held_found r is = by (area_at areas r) refl
@@ -209,7 +212,7 @@ module _ {areas : List Area} {spares : List ℕ} {limit capacity cells objects h
       by (Some a) e = let p = place_of areas r a e in (p.0, a, held_at p.1 is)
 
   -- the index of an object's region, and of a region in use
-  pub index_of : (at : Addr) {k : ℕ} → has_object h at ≡ true → k ≡ at.0 / 256 - 1 → k < length areas
+  pub index_of : (at : Addr) {k : ℕ} → has_object h at ≡ true → k ≡ at.0 / REGION - 1 → k < length areas
   index_of at is e = let p = (found at is).2.located.place in omega (arith, e, p.number, p.within)
 
   pub held_index : {r k : ℕ} → is_in_use h r ≡ true → k ≡ r - 1 → (0 < r) × (k < length areas)
@@ -217,11 +220,12 @@ module _ {areas : List Area} {spares : List ℕ} {limit capacity cells objects h
       (omega (arith, p.number), omega (arith, e, p.number, p.within))
 
   -- what a read of the list at such an index states
-  pub found_read : (at : Addr) {k : ℕ} {x : Area} → has_object h at ≡ true → k ≡ at.0 / 256 - 1
+  pub found_read : (at : Addr) {k : ℕ} {x : Area} → has_object h at ≡ true → k ≡ at.0 / REGION - 1
       → x ≡ get_or areas k x → IsFound areas h at k x
   found_read at {k} {x} is e read =
       let p = (found at is).2.located.place in
-      found_at at (place_read areas (at.0 / 256) k x (omega (arith, e, p.number)) (index_of at is e) read) is
+      found_at at (place_read areas (at.0 / REGION) k x (omega (arith, e, p.number)) (index_of at is e) read)
+      is
 
   pub held_read : {r k : ℕ} {x : Area} → is_in_use h r ≡ true → k ≡ r - 1 → x ≡ get_or areas k x
       → IsHeldAt areas h r k x
@@ -231,10 +235,10 @@ module _ {areas : List Area} {spares : List ℕ} {limit capacity cells objects h
 
 -- an object is read alike in the heap and in its region
 pub object_of : {areas : List Area} {h : Heap} {k : ℕ} {a : Area} (at : Addr) → IsFound areas h at k a
-    → IsObjectOf h at a (at.0 % 256)
+    → IsObjectOf h at a (at.0 % REGION)
 unfolding region_of
 object_of {h = h} at f =
-    let whole = λ (p : Option Placed). option_map (object_in (region_generation h (at.0 / 256))) p in
+    let whole = λ (p : Option Placed). option_map (object_in (region_generation h (at.0 / REGION))) p in
     record {
       area = f.located.area;
       offset_is = refl;

@@ -1,5 +1,5 @@
 -- Sums over the objects of a heap, region by region.
-use Rattle.hd_heap.proofs.Basics.{Area, IsArea, List, None, Object, Option, Placed, Some, [], address, ap, area_at, arith, cases_lt, cells_of, contents, find-numbered_below, get-by_place, get_or, get_or_past, inl, inr, length, length-map, map, nat_cmp, nat_cmp_total, objects_in, option_map, placed_in, placed_of, refl, share, size_of, suc, sum-insert, sum_by, sum_by-append, sum_by-cons, sym, zero, ℕ, ◌+◌, ◌∙◌, ◌∷◌, ◌≡◌, ◌≤◌}
+use Rattle.hd_heap.proofs.Basics.{Area, HEADER, IsArea, List, None, Object, Option, Placed, REGION, Some, [], address, ap, area_at, arith, cases_lt, cells_of, contents, find-numbered_below, get-by_place, get_or, get_or_past, inl, inr, length, length-map, map, nat_cmp, nat_cmp_total, objects_in, option_map, placed_in, placed_of, refl, share, size_of, suc, sum-insert, sum_by, sum_by-append, sum_by-cons, sym, zero, ℕ, ◌+◌, ◌∙◌, ◌∷◌, ◌≡◌, ◌≤◌}
 use Rattle.hd_model.specs.Indexed.{by_place, numbered}
 use Rattle.hd_heap.specs.Places.{table, tables}
 use Rattle.hd_heap.proofs.{Areas.absent, Areas.sum_none, IndexedLists.length-table, IndexedLists.get_or-table}
@@ -56,31 +56,31 @@ as_table n m none = fin.same_map nat_cmp_total fin.nat_cmp-IsAntisymmetric _ _ (
     ])
 
 -- the objects of one region
-sum-area : (f : Placed → ℕ) (a : Area) → IsArea a → sum_by (share f) (table 256 (placed_in (Some a)))
+sum-area : (f : Placed → ℕ) (a : Area) → IsArea a → sum_by (share f) (table REGION (placed_in (Some a)))
     ≡ sum_by (λ o. f (placed_of o)) (fin.values (contents a).objects)
 sum-area f a is =
     let m = (contents a).objects in
     let g : Object → ℕ = λ o. f (placed_of o) in
-    let none : (q : ℕ) → 256 ≤ q → fin.get m q ≡ None = λ q past. absent (contents a) q (λ there. omega (
+    let none : (q : ℕ) → REGION ≤ q → fin.get m q ≡ None = λ q past. absent (contents a) q (λ there. omega (
       arith,
       past,
       is.laid_out.below_fill q there,
       is.laid_out.within_region,
     )) in
-    sum-mapped f placed_of 256 (fin.get m) ∙ sym (sum-numbered g 0 (table 256 (fin.get m)))
-    ∙ ap (λ (x : fin.FinMap nat_cmp Object). sum_by g (fin.values x)) (as_table 256 m none)
+    sum-mapped f placed_of REGION (fin.get m) ∙ sym (sum-numbered g 0 (table REGION (fin.get m)))
+    ∙ ap (λ (x : fin.FinMap nat_cmp Object). sum_by g (fin.values x)) (as_table REGION m none)
 
 -- what each region counts of its objects is counted of all
 module _ (f : Placed → ℕ) (g : Area → ℕ)
     (counts : (a : Area) → IsArea a
     → g a ≡ sum_by (λ o. f (placed_of o)) (fin.values (contents a).objects)) where
   sum-each : (areas : List Area) → ((k : ℕ) (a : Area) → get_or (map Some areas) k None ≡ Some a → IsArea a)
-      → sum_by g areas ≡ sum_by (λ o. sum_by (share f) (table 256 (placed_in o))) (map Some areas)
+      → sum_by g areas ≡ sum_by (λ o. sum_by (share f) (table REGION (placed_in o))) (map Some areas)
   sum-each [] each = refl
   sum-each (a ∷ areas) each =
       let is = each 0 a refl in
       let known = sum-each areas (λ k x e. each (suc k) x e) in
-      let also = sum_by-cons (λ o. sum_by (share f) (table 256 (placed_in o))) (Some a) (map Some areas) in
+      let also = sum_by-cons (λ o. sum_by (share f) (table REGION (placed_in o))) (Some a) (map Some areas) in
       omega (arith, known, counts a is, sum-area f a is, sum_by-cons g a areas, also)
 
   pub sum-objects : (areas : List Area) → ((r : ℕ) (a : Area) → area_at areas r ≡ Some a → IsArea a)
@@ -88,12 +88,12 @@ module _ (f : Placed → ℕ) (g : Area → ℕ)
   sum-objects areas each =
       let all = None ∷ map Some areas in
       sum-each areas (λ k a e. each (suc k) a e)
-      ∙ (let known = sum_by-cons (λ o. sum_by (share f) (table 256 (placed_in o))) None (map Some areas) in
-      let also = sum-numbered f 0 (tables 256 placed_in all) in
-      omega (arith, sum-nothing f 256, known, sum-tables (share f) 256 placed_in all, also))
+      ∙ (let known = sum_by-cons (λ o. sum_by (share f) (table REGION (placed_in o))) None (map Some areas) in
+      let also = sum-numbered f 0 (tables REGION placed_in all) in
+      omega (arith, sum-nothing f REGION, known, sum-tables (share f) REGION placed_in all, also))
 
 pub cells_placed : (o : Object) → cells_of (placed_of o) ≡ size_of o
-cells_placed o = ap (λ n. n + 3) (length-map o.fields address)
+cells_placed o = ap (λ n. n + HEADER) (length-map o.fields address)
 
 -- the cells of the objects, and their number
 pub cells_sum : (areas : List Area) → ((r : ℕ) (a : Area) → area_at areas r ≡ Some a → IsArea a)

@@ -1,5 +1,5 @@
 -- Lemmas on a heap after a region was taken into use, released, or added as a free one.
-use Rattle.hd_heap.proofs.Basics.{AreOthersFull, Area, Contents, Heap, IsArea, IsFreed, IsKept, IsObject, IsSpare, List, None, Option, Region, Some, [], ap, area_at, arith, both_ways, card_in, cards_in, cases_eq, cases_lt, cond, contents, drop, empty_heap, false, false_from_ne_true, get_or, get_or-drop, get_or_append_left, get_or_past, get_or_push, get_or_read, heap_of, inl, inr, is_in_use, is_some, len_less, len_new, length, length-append, length-drop, length-map, length-set, map, map_push, nat_cmp, nat_eq, objects_in, option_map, placed_in, placed_of, refl, region_in, regions_in, set, subst, suc, sum_by, sum_by-append, sum_by-cons, sym, true, with_fresh, without_region, zero, ℕ, ◌%◌, ◌++◌, ◌+◌, ◌-◌, ◌/◌, ◌<◌, ◌^◌, ◌∙◌, ◌∷◌, ◌≡◌, ◌≢◌, ◌≤◌}
+use Rattle.hd_heap.proofs.Basics.{AreOthersFull, Area, CARDS, Contents, Heap, IsArea, IsFreed, IsKept, IsObject, IsSpare, List, None, Option, REGION, Region, Some, [], ap, area_at, arith, both_ways, card_in, cards_in, cases_eq, cases_lt, cond, contents, drop, empty_heap, false, false_from_ne_true, get_or, get_or-drop, get_or_append_left, get_or_past, get_or_push, get_or_read, heap_of, inl, inr, is_in_use, is_some, len_less, len_new, length, length-append, length-drop, length-map, length-set, map, map_push, nat_cmp, nat_eq, objects_in, option_map, placed_in, placed_of, refl, region_in, regions_in, set, subst, suc, sum_by, sum_by-append, sum_by-cons, sym, true, with_fresh, without_region, zero, ℕ, ◌%◌, ◌++◌, ◌+◌, ◌-◌, ◌/◌, ◌<◌, ◌^◌, ◌∙◌, ◌∷◌, ◌≡◌, ◌≢◌, ◌≤◌}
 use Rattle.hd_model.specs.Heap.{region_of}
 use Rattle.hd_heap.proofs.{Areas.absent, Areas.none_in_empty, RegionReads.get-objects, RegionReads.get-regions, RegionReads.contains-cards, RegionReads.in_use, RegionReads.not_in_use, RegionReads.IsPlace, RegionReads.place_read, RegionReads.area_here, RegionReads.IsHeldAt, RegionReads.IsHeap, RegionReads.heap_by, RegionReads.regions_at, RegionWrites.same_maps, RegionWrites.same_sets, RegionWrites.objects_same, RegionWrites.objects_here, RegionWrites.objects_other, RegionWrites.regions_put, RegionWrites.regions_gone, RegionWrites.cards_same, RegionWrites.card_here, RegionWrites.card_other, RegionWrites.sum_set, RegionWrites.each_set, RegionWrites.spare_set, RegionGiveUp.object_gone, RegionGiveUp.object_left, RegionGiveUp.card_gone, RegionGiveUp.card_left, FullRegions.others_fresh, FullRegions.others_left, FullRegions.others_unknown}
 use Rattle.std.specs.FinMap as fin
@@ -223,14 +223,15 @@ module _ {areas : List Area} {spares : List ℕ} {limit capacity cells objects h
       ap (λ (c : Contents). option_map placed_of (fin.get c.objects q)) free.contents_are
       ∙ ap (option_map placed_of) (fin.get-empty nat_cmp q) in
       let objects_left : objects_in (set areas k b) ≡ (without_region h r).objects =
-      same_maps (λ q. elim (cases_eq (q / 256) r) [
-        | inl same ↦ objects_here p b q same ∙ bare (q % 256) ∙ sym (object_gone h r (record { 0 = q }) same)
+      same_maps (λ q. elim (cases_eq (q / REGION) r) [
+        | inl same ↦ objects_here p b q same ∙ bare (q % REGION) ∙ sym
+            (object_gone h r (record { 0 = q }) same)
         | inr other ↦ objects_other p b q other ∙ ap (λ (x : Heap). fin.get x.objects q) heap.view
             ∙ sym (object_left h r (record { 0 = q }) other)
       ]) in
       let cards_left : cards_in (set areas k b) ≡ (without_region h r).cards =
-      same_sets (λ c. elim (cases_eq (c / 8) r) [
-        | inl same ↦ card_here p b c same ∙ free.cards (c % 8) ∙ sym (card_gone h r c same)
+      same_sets (λ c. elim (cases_eq (c / CARDS) r) [
+        | inl same ↦ card_here p b c same ∙ free.cards (c % CARDS) ∙ sym (card_gone h r c same)
         | inr other ↦ card_other p b c other ∙ ap (λ (x : Heap). set_of.contains x.cards c) heap.view
             ∙ sym (card_left h r c other)
       ]) in
@@ -274,12 +275,12 @@ module _ {areas : List Area} {spares : List ℕ} {limit capacity cells objects h
       (let known = sum_by-append (λ (x : Area). x.count) areas (b ∷ []) in
       omega (arith, heap.kept.counts, known, sum_by-cons (λ (x : Area). x.count) b [], free.count))
       (same_objects
-      _ (same_maps (λ q. get-objects list q ∙ reads_push areas b (λ o. placed_in o (q % 256)) (q / 256)
-      (ap (option_map placed_of) (absent (contents b) (q % 256) (bare (q % 256))))
+      _ (same_maps (λ q. get-objects list q ∙ reads_push areas b (λ o. placed_in o (q % REGION)) (q / REGION)
+      (ap (option_map placed_of) (absent (contents b) (q % REGION) (bare (q % REGION))))
       ∙ sym (get-objects areas q))))
       (same_cards _ (same_sets
-      (λ c. contains-cards list c ∙ reads_push areas b (λ o. card_in o (c % 8)) (c / 8)
-      (free.cards (c % 8)) ∙ sym (contains-cards areas c))))
+      (λ c. contains-cards list c ∙ reads_push areas b (λ o. card_in o (c % CARDS)) (c / CARDS)
+      (free.cards (c % CARDS)) ∙ sym (contains-cards areas c))))
       (same_maps (λ q. get-regions list q ∙ reads_push areas b region_in q none ∙ sym (get-regions areas q))
       ∙ ap (λ (y : Heap). y.regions) heap.view)
       held_is (ap (λ (y : Heap). y.spare ++ n ∷ []) heap.view) refl
@@ -308,14 +309,14 @@ no_regions areas spares limit capacity no_areas no_spares = heap_lists no_areas 
     nothing (suc k) = refl
 
     objects : objects_in [] ≡ fin.empty
-    objects = same_maps (λ q. get-objects [] q ∙ ap (λ o. placed_in o (q % 256)) (nothing (q / 256))
+    objects = same_maps (λ q. get-objects [] q ∙ ap (λ o. placed_in o (q % REGION)) (nothing (q / REGION))
         ∙ sym (fin.get-empty nat_cmp q))
 
     regions : regions_in [] ≡ fin.empty
     regions = same_maps (λ q. get-regions [] q ∙ ap region_in (nothing q) ∙ sym (fin.get-empty nat_cmp q))
 
     cards : cards_in [] ≡ set_of.empty
-    cards = same_sets (λ c. contains-cards [] c ∙ ap (λ o. card_in o (c % 8)) (nothing (c / 8))
+    cards = same_sets (λ c. contains-cards [] c ∙ ap (λ o. card_in o (c % CARDS)) (nothing (c / CARDS))
         ∙ sym (set_of.contains-empty nat_cmp c))
 
     bare : IsHeap [] [] limit capacity (0, 0, 0) 0 (empty_heap limit)

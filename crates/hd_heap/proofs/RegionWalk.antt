@@ -1,5 +1,5 @@
 -- Lemmas on the walk through the regions of a heap.
-use Rattle.hd_heap.proofs.Basics.{Addr, Any, Area, Bool, Carded, Condemned, Heap, IsArea, IsFirstAt, IsLeastBetween, IsLeastFrom, IsSound, IsWalk, List, None, Option, Some, Wanted, ap, area_at, arith, both_ways, card_in, cases_eq, cases_lt, contents, false, generation_at, get, has_object, inl, inr, is_set, is_some, is_wanted, length, nat_le, nat_lt, refl, suc, sym, true, wants, ℕ, ◌%◌, ◌&&◌, ◌*◌, ◌+◌, ◌/◌, ◌<◌, ◌∙◌, ◌≡◌, ◌≤◌}
+use Rattle.hd_heap.proofs.Basics.{Addr, Any, Area, Bool, CARD, CARDS, Carded, Condemned, Heap, IsArea, IsFirstAt, IsLeastBetween, IsLeastFrom, IsSound, IsWalk, List, None, Option, REGION, Some, Wanted, ap, area_at, arith, both_ways, card_in, cases_eq, cases_lt, contents, false, generation_at, get, has_object, inl, inr, is_set, is_some, is_wanted, length, nat_le, nat_lt, refl, suc, sym, true, wants, ℕ, ◌%◌, ◌&&◌, ◌*◌, ◌+◌, ◌/◌, ◌<◌, ◌∙◌, ◌≡◌, ◌≤◌}
 use Rattle.hd_model.specs.Heap.{region_of, card_of, object_at}
 use Rattle.hd_heap.proofs.{RegionReads.IsPlace, RegionReads.IsHeap, RegionReads.found, RegionReads.found_at, RegionReads.has_there, RegionReads.set_at, RegionReads.object_of, WantedObjects.unwanted}
 
@@ -19,16 +19,16 @@ wanted_has h (Carded n) at is = and_first _ _ (and_first _ _ is)
 wanted_has h (Condemned n) at is = and_first _ _ is
 
 -- what is wanted lies in its region
-pub wants_low : (w : Wanted) (a : Area) (off : ℕ) → IsArea a → wants w a off ≡ true → off < 256
-wants_low w a off is want = elim (cases_lt off 256) [
+pub wants_low : (w : Wanted) (a : Area) (off : ℕ) → IsArea a → wants w a off ≡ true → off < REGION
+wants_low w a off is want = elim (cases_lt off REGION) [
   | inl low ↦ low
   | inr high ↦ absurd (both_ways _ (unwanted w a off (λ there.
       omega (arith, high, is.laid_out.below_fill off there, is.laid_out.within_region))) want)
 ]
 
 -- the region of an address
-placed : {areas : List Area} {r k : ℕ} {a : Area} → IsPlace areas r k a → (b : Addr) → b.0 / 256 ≡ r
-    → IsPlace areas (b.0 / 256) k a
+placed : {areas : List Area} {r k : ℕ} {a : Area} → IsPlace areas r k a → (b : Addr) → b.0 / REGION ≡ r
+    → IsPlace areas (b.0 / REGION) k a
 placed {areas} p b same = record {
   number = same ∙ p.number;
   within = p.within;
@@ -38,51 +38,52 @@ placed {areas} p b same = record {
 module _ {areas : List Area} {spares : List ℕ} {limit capacity cells objects holds current : ℕ} {h : Heap}
     (heap : IsHeap areas spares limit capacity (cells, objects, holds) current h) where
   -- what is wanted of the heap is wanted of its region
-  pub wanted_in : (w : Wanted) (at : Addr) {k : ℕ} {a : Area} → IsPlace areas (at.0 / 256) k a
-      → is_wanted h w at ≡ wants w a (at.0 % 256)
+  pub wanted_in : (w : Wanted) (at : Addr) {k : ℕ} {a : Area} → IsPlace areas (at.0 / REGION) k a
+      → is_wanted h w at ≡ wants w a (at.0 % REGION)
   unfolding card_of
   wanted_in w at {a = a} p = by w
     where
-      has : has_object h at ≡ is_some (get (contents a).objects (at.0 % 256))
+      has : has_object h at ≡ is_some (get (contents a).objects (at.0 % REGION))
       has = has_there heap at a p.here
 
       generation : has_object h at ≡ true → generation_at (object_at h) at ≡ a.generation
       generation is = (object_of at (found_at heap at p is)).generation
 
-      card : is_set h (at.0 / 32) ≡ card_in (Some a) ((at.0 % 256) / 32)
-      card = set_at heap (at.0 / 32) ∙ ap (λ k. card_in (area_at areas k) ((at.0 / 32) % 8)) (omega arith)
-          ∙ ap (λ o. card_in o ((at.0 / 32) % 8)) p.here ∙ ap (card_in (Some a)) (omega arith)
+      card : is_set h (at.0 / CARD) ≡ card_in (Some a) ((at.0 % REGION) / CARD)
+      card = set_at heap (at.0 / CARD) ∙ ap (λ k. card_in (area_at areas k) ((at.0 / CARD) % CARDS))
+          (omega arith)
+          ∙ ap (λ o. card_in o ((at.0 / CARD) % CARDS)) p.here ∙ ap (card_in (Some a)) (omega arith)
 
-      by : (w : Wanted) → is_wanted h w at ≡ wants w a (at.0 % 256)
+      by : (w : Wanted) → is_wanted h w at ≡ wants w a (at.0 % REGION)
       by Any = has
       by (Carded n) =
           (λ i. and_same (has_object h at) (nat_lt n (generation_at (object_at h) at)) (nat_lt n a.generation)
           (λ is j. nat_lt n (generation is j)) i && card i)
-          ∙ ap (λ b. b && nat_lt n a.generation && card_in (Some a) ((at.0 % 256) / 32)) has
+          ∙ ap (λ b. b && nat_lt n a.generation && card_in (Some a) ((at.0 % REGION) / CARD)) has
       by (Condemned n) =
           and_same (has_object h at) (nat_le (generation_at (object_at h) at) n) (nat_le a.generation n)
           (λ is j. nat_le (generation is j) n) ∙ ap (λ b. b && nat_le a.generation n) has
 
   -- what is wanted is in some region
-  pub wanted_place : (w : Wanted) (at : Addr) → is_wanted h w at ≡ true → (k : ℕ) × (at.0 / 256 ≡ suc k)
+  pub wanted_place : (w : Wanted) (at : Addr) → is_wanted h w at ≡ true → (k : ℕ) × (at.0 / REGION ≡ suc k)
       × (k < length areas)
   wanted_place w at is = let p = (found heap at (wanted_has h w at is)).2.located.place in
       ((found heap at (wanted_has h w at is)).0, p.number, p.within)
 
   -- the first of a region from an offset on has the least address there
   pub given_some : (w : Wanted) {r k : ℕ} {a : Area} (from off low high : ℕ) (x : Addr) → IsPlace areas r k a
-      → IsFirstAt (wants w a) from (Some off) → x.0 ≡ r * 256 + off → low ≡ r * 256 + from
+      → IsFirstAt (wants w a) from (Some off) → x.0 ≡ r * REGION + off → low ≡ r * REGION + from
       → IsLeastBetween (is_wanted h w) low high (Some x)
   given_some w {r} {a = a} from off low high x p first is low_is =
       let small = wants_low w a off (heap.kept.each r a p.here) first.0 in
-      let in_region : x.0 / 256 ≡ r = omega (arith, is, small) in
-      let offset : x.0 % 256 ≡ off = omega (arith, is, small) in (
+      let in_region : x.0 / REGION ≡ r = omega (arith, is, small) in
+      let offset : x.0 % REGION ≡ off = omega (arith, is, small) in (
         wanted_in w x (placed p x in_region) ∙ ap (wants w a) offset ∙ first.0,
         omega (arith, is, first.1, low_is),
-        λ b want after. elim (cases_eq (b.0 / 256) r) [
-          | inl same ↦ elim (cases_lt (b.0 % 256) off) [
+        λ b want after. elim (cases_eq (b.0 / REGION) r) [
+          | inl same ↦ elim (cases_lt (b.0 % REGION) off) [
             | inl before ↦ absurd (both_ways _
-                (first.2 (b.0 % 256) (omega (arith, same, after, low_is)) before)
+                (first.2 (b.0 % REGION) (omega (arith, same, after, low_is)) before)
                 (sym (wanted_in w b (placed p b same)) ∙ want))
             | inr past ↦ omega (arith, same, is, past)
           ]
@@ -92,17 +93,17 @@ module _ {areas : List Area} {spares : List ℕ} {limit capacity cells objects h
 
   -- a region without any is passed
   pub given_none : (w : Wanted) {r k : ℕ} {a : Area} (from low high : ℕ) → IsPlace areas r k a
-      → IsFirstAt (wants w a) from None → low ≡ r * 256 + from → high ≡ (r + 1) * 256
+      → IsFirstAt (wants w a) from None → low ≡ r * REGION + from → high ≡ (r + 1) * REGION
       → IsLeastBetween (is_wanted h w) low high None
-  given_none w {r} from low high p none low_is high_is = λ b want after. elim (cases_eq (b.0 / 256) r) [
-    | inl same ↦ absurd (both_ways _ (none (b.0 % 256) (omega (arith, same, after, low_is)))
+  given_none w {r} from low high p none low_is high_is = λ b want after. elim (cases_eq (b.0 / REGION) r) [
+    | inl same ↦ absurd (both_ways _ (none (b.0 % REGION) (omega (arith, same, after, low_is)))
         (sym (wanted_in w b (placed p b same)) ∙ want))
     | inr other ↦ omega (arith, other, after, low_is, high_is)
   ]
 
 -- one step of a walk from the least address after another one
-pub walk_from : (p : Addr → Bool) (answer : Option Addr) → IsLeastFrom p 256 answer
-    → ((b : Addr) → p b ≡ true → 256 ≤ b.0) → IsWalk p None answer
+pub walk_from : (p : Addr → Bool) (answer : Option Addr) → IsLeastFrom p REGION answer
+    → ((b : Addr) → p b ≡ true → REGION ≤ b.0) → IsWalk p None answer
 walk_from p None none low = λ a want. absurd (omega (arith, none a want, low a want))
 walk_from p (Some x) least low = record {
   member = least.0;
@@ -111,7 +112,7 @@ walk_from p (Some x) least low = record {
 }
 
 -- what is wanted has an address in a region
-pub wanted_high : (h : Heap) (w : Wanted) (b : Addr) → IsSound h → is_wanted h w b ≡ true → 256 ≤ b.0
+pub wanted_high : (h : Heap) (w : Wanted) (b : Addr) → IsSound h → is_wanted h w b ≡ true → REGION ≤ b.0
 unfolding region_of
 wanted_high h w b sound want =
-    omega (arith, (sound.numbers (b.0 / 256) (sound.held b (wanted_has h w b want))).0)
+    omega (arith, (sound.numbers (b.0 / REGION) (sound.held b (wanted_has h w b want))).0)

@@ -1,5 +1,5 @@
 -- Lemmas on a heap after one of its regions has changed.
-use Rattle.hd_heap.proofs.Basics.{Addr, AreOthersFull, Area, Contents, HasPart, Heap, IsArea, IsKept, IsSpare, IsWritten, List, None, Object, Option, Placed, Region, Some, address, ap, area_at, arith, both_ways, card_in, cards_in, cases_eq, cond, contents, eq_by_cmp, false, found_later, get_or, inl, inr, is_some, len_again, length-map, length-set, map-set, nat_cmp, nat_cmp_total, objects_in, option_map, placed_in, placed_of, refl, region_in, region_with_part, regions_in, set, size_of, subst, sum_by, sum_by-set, sym, true, with_part, ℕ, ◌%◌, ◌*◌, ◌+◌, ◌/◌, ◌<◌, ◌∙◌, ◌≡◌, ◌≢◌}
+use Rattle.hd_heap.proofs.Basics.{Addr, AreOthersFull, Area, CARDS, Contents, HEADER, HasPart, Heap, IsArea, IsKept, IsSpare, IsWritten, List, None, Object, Option, Placed, REGION, Region, Some, address, ap, area_at, arith, both_ways, card_in, cards_in, cases_eq, cond, contents, eq_by_cmp, false, found_later, get_or, inl, inr, is_some, len_again, length-map, length-set, map-set, nat_cmp, nat_cmp_total, objects_in, option_map, placed_in, placed_of, refl, region_in, region_with_part, regions_in, set, size_of, subst, sum_by, sum_by-set, sym, true, with_part, ℕ, ◌%◌, ◌*◌, ◌+◌, ◌/◌, ◌<◌, ◌∙◌, ◌≡◌, ◌≢◌}
 use Rattle.hd_heap.specs.{declared.area.Part.Part, Calls.with_object}
 use Rattle.hd_heap.specs.declared.area.Part.TheVariants.{Value, Registered, Field}
 use Rattle.hd_heap.proofs.{IndexedLists.found_here, RegionReads.get-objects, RegionReads.get-regions, RegionReads.contains-cards, RegionReads.seen, RegionReads.in_use, RegionReads.IsPlace, RegionReads.place_reads, RegionReads.area_here, RegionReads.area_other, RegionReads.IsFound, RegionReads.IsHeap, RegionReads.heap_by}
@@ -26,56 +26,58 @@ module _ {areas : List Area} {r k : ℕ} {a : Area} (p : IsPlace areas r k a) (b
   reads_here : {B : Type 0} (f : Option Area → B) (q : ℕ) → q ≡ r → f (area_at (set areas k b) q) ≡ f (Some b)
   reads_here f q is = ap (λ n. f (area_at (set areas k b) n)) is ∙ ap f (area_here p b)
 
-  pub objects_here : (q : ℕ) → q / 256 ≡ r
-      → fin.get (objects_in (set areas k b)) q ≡ placed_in (Some b) (q % 256)
-  objects_here q is = get-objects (set areas k b) q ∙ reads_here (λ o. placed_in o (q % 256)) (q / 256) is
+  pub objects_here : (q : ℕ) → q / REGION ≡ r
+      → fin.get (objects_in (set areas k b)) q ≡ placed_in (Some b) (q % REGION)
+  objects_here q is = get-objects (set areas k b) q ∙ reads_here (λ o. placed_in o (q % REGION)) (q / REGION)
+      is
 
-  pub objects_other : (q : ℕ) → q / 256 ≢ r
+  pub objects_other : (q : ℕ) → q / REGION ≢ r
       → fin.get (objects_in (set areas k b)) q ≡ fin.get (objects_in areas) q
   objects_other q apart = get-objects (set areas k b) q
-      ∙ ap (λ o. placed_in o (q % 256)) (area_other p b (q / 256) apart) ∙ sym (get-objects areas q)
+      ∙ ap (λ o. placed_in o (q % REGION)) (area_other p b (q / REGION) apart) ∙ sym (get-objects areas q)
 
-  objects_changed : (off : ℕ) (w : Option Object) → off < 256
+  objects_changed : (off : ℕ) (w : Option Object) → off < REGION
       → ((j : ℕ) → fin.get (contents b).objects j ≡ cond (eq_by_cmp nat_cmp j off) w
       (fin.get (contents a).objects j)) → (q : ℕ) → fin.get (objects_in (set areas k b)) q ≡ cond
-      (eq_by_cmp nat_cmp q (r * 256 + off)) (option_map placed_of w) (fin.get (objects_in areas) q)
+      (eq_by_cmp nat_cmp q (r * REGION + off)) (option_map placed_of w) (fin.get (objects_in areas) q)
   objects_changed off w low change q =
-      let at = r * 256 + off in
+      let at = r * REGION + off in
       let later = λ (apart : q ≢ at).
       found_later q at (option_map placed_of w) (fin.get (objects_in areas) q) apart in
-      elim (cases_eq (q / 256) r) [
+      elim (cases_eq (q / REGION) r) [
         | inl same ↦ objects_here q same
-            ∙ ap (option_map placed_of) (change (q % 256)) ∙ elim (cases_eq (q % 256) off) [
-              | inl is ↦ ap (option_map placed_of) (found_here (q % 256) off w _ is)
+            ∙ ap (option_map placed_of) (change (q % REGION)) ∙ elim (cases_eq (q % REGION) off) [
+              | inl is ↦ ap (option_map placed_of) (found_here (q % REGION) off w _ is)
                   ∙ sym (found_here q at (option_map placed_of w) (fin.get (objects_in areas) q)
                   (omega arith))
-              | inr apart ↦ ap (option_map placed_of) (found_later (q % 256) off w _ apart)
-                  ∙ sym (get-objects areas q ∙ ap (λ n. placed_in (area_at areas n) (q % 256)) same
-                  ∙ ap (λ o. placed_in o (q % 256)) p.here) ∙ sym (later (λ e. apart (omega (arith, e))))
+              | inr apart ↦ ap (option_map placed_of) (found_later (q % REGION) off w _ apart)
+                  ∙ sym (get-objects areas q ∙ ap (λ n. placed_in (area_at areas n) (q % REGION)) same
+                  ∙ ap (λ o. placed_in o (q % REGION)) p.here) ∙ sym (later (λ e. apart (omega (arith, e))))
             ]
         | inr other ↦ objects_other q other ∙ sym (later (λ e. other (omega (arith, e))))
       ]
 
-  pub objects_put : (off : ℕ) (o : Object) → off < 256 → (contents b).objects ≡ fin.insert
-      (contents a).objects off o → objects_in (set areas k b) ≡ fin.insert (objects_in areas) (r * 256 + off)
+  pub objects_put : (off : ℕ) (o : Object) → off < REGION → (contents b).objects ≡ fin.insert
+      (contents a).objects off o → objects_in (set areas k b) ≡ fin.insert (objects_in areas)
+      (r * REGION + off)
       (placed_of o)
   objects_put off o low change = same_maps (λ q.
       objects_changed off (Some o) low (λ j. ap (λ m. fin.get m j) change
       ∙ fin.get-insert nat_cmp_total (contents a).objects off o j) q
-      ∙ sym (fin.get-insert nat_cmp_total (objects_in areas) (r * 256 + off) (placed_of o) q))
+      ∙ sym (fin.get-insert nat_cmp_total (objects_in areas) (r * REGION + off) (placed_of o) q))
 
-  pub objects_gone : (off : ℕ) → off < 256 → (contents b).objects ≡ fin.remove (contents a).objects off
-      → objects_in (set areas k b) ≡ fin.remove (objects_in areas) (r * 256 + off)
+  pub objects_gone : (off : ℕ) → off < REGION → (contents b).objects ≡ fin.remove (contents a).objects off
+      → objects_in (set areas k b) ≡ fin.remove (objects_in areas) (r * REGION + off)
   objects_gone off low change = same_maps (λ q.
       objects_changed off None low (λ j. ap (λ m. fin.get m j) change
       ∙ fin.get-remove nat_cmp_total (contents a).objects off j) q
-      ∙ sym (fin.get-remove nat_cmp_total (objects_in areas) (r * 256 + off) q))
+      ∙ sym (fin.get-remove nat_cmp_total (objects_in areas) (r * REGION + off) q))
 
   pub objects_same : (contents b).objects ≡ (contents a).objects
       → objects_in (set areas k b) ≡ objects_in areas
   objects_same same = same_maps (λ q.
-      get-objects (set areas k b) q ∙ reads (λ o. placed_in o (q % 256)) (q / 256)
-      (ap (λ m. option_map placed_of (fin.get m (q % 256))) same) ∙ sym (get-objects areas q))
+      get-objects (set areas k b) q ∙ reads (λ o. placed_in o (q % REGION)) (q / REGION)
+      (ap (λ m. option_map placed_of (fin.get m (q % REGION))) same) ∙ sym (get-objects areas q))
 
   pub regions_same : region_in (Some b) ≡ region_in (Some a) → regions_in (set areas k b) ≡ regions_in areas
   regions_same same = same_maps (λ q.
@@ -84,20 +86,20 @@ module _ {areas : List Area} {r k : ℕ} {a : Area} (p : IsPlace areas r k a) (b
   pub cards_same : ((j : ℕ) → card_in (Some b) j ≡ card_in (Some a) j)
       → cards_in (set areas k b) ≡ cards_in areas
   cards_same same = same_sets (λ c. contains-cards (set areas k b) c
-      ∙ reads (λ o. card_in o (c % 8)) (c / 8) (same (c % 8)) ∙ sym (contains-cards areas c))
+      ∙ reads (λ o. card_in o (c % CARDS)) (c / CARDS) (same (c % CARDS)) ∙ sym (contains-cards areas c))
 
-  pub card_here : (c : ℕ) → c / 8 ≡ r → set_of.contains (cards_in (set areas k b)) c ≡ card_in (Some b)
-      (c % 8)
-  card_here c is = contains-cards (set areas k b) c ∙ reads_here (λ o. card_in o (c % 8)) (c / 8) is
+  pub card_here : (c : ℕ) → c / CARDS ≡ r → set_of.contains (cards_in (set areas k b)) c ≡ card_in (Some b)
+      (c % CARDS)
+  card_here c is = contains-cards (set areas k b) c ∙ reads_here (λ o. card_in o (c % CARDS)) (c / CARDS) is
 
-  pub card_was : (c : ℕ) → c / 8 ≡ r → set_of.contains (cards_in areas) c ≡ card_in (Some a) (c % 8)
-  card_was c is = contains-cards areas c ∙ ap (λ n. card_in (area_at areas n) (c % 8)) is
-      ∙ ap (λ o. card_in o (c % 8)) p.here
+  pub card_was : (c : ℕ) → c / CARDS ≡ r → set_of.contains (cards_in areas) c ≡ card_in (Some a) (c % CARDS)
+  card_was c is = contains-cards areas c ∙ ap (λ n. card_in (area_at areas n) (c % CARDS)) is
+      ∙ ap (λ o. card_in o (c % CARDS)) p.here
 
-  pub card_other : (c : ℕ) → c / 8 ≢ r → set_of.contains (cards_in (set areas k b)) c ≡ set_of.contains
+  pub card_other : (c : ℕ) → c / CARDS ≢ r → set_of.contains (cards_in (set areas k b)) c ≡ set_of.contains
       (cards_in areas) c
   card_other c apart = contains-cards (set areas k b) c
-      ∙ ap (λ o. card_in o (c % 8)) (area_other p b (c / 8) apart) ∙ sym (contains-cards areas c)
+      ∙ ap (λ o. card_in o (c % CARDS)) (area_other p b (c / CARDS) apart) ∙ sym (contains-cards areas c)
 
   region_reads : (w : Option Region) → region_in (Some b) ≡ w → (q : ℕ)
       → fin.get (regions_in (set areas k b)) q ≡ cond (eq_by_cmp nat_cmp q r) w (fin.get (regions_in areas) q)
@@ -181,14 +183,14 @@ pub object_written : {areas : List Area} {spares : List ℕ} {limit capacity cel
     {h : Heap} → IsHeap areas spares limit capacity (cells, objects, holds) current h
     → (at : Addr) {k : ℕ} {a : Area} (b : Area)
     (o : Object) (p : Placed) → placed_of o ≡ p → IsFound areas h at k a → IsArea b
-    → IsWritten a b (at.0 % 256) o
+    → IsWritten a b (at.0 % REGION) o
     → IsHeap (set areas k b) spares limit capacity (cells, objects, holds) current (with_object h at p)
 object_written {areas} {cells = cells} {objects = objects} {current = current} {h = h} heap at {k} {a} b o p
     is f new w =
     let place = f.located.place in
-    let whole : (at.0 / 256) * 256 + at.0 % 256 ≡ at.0 = omega arith in
+    let whole : (at.0 / REGION) * REGION + at.0 % REGION ≡ at.0 = omega arith in
     let put : objects_in (set areas k b) ≡ fin.insert h.objects at.0 p =
-    objects_put place b (at.0 % 256) o (omega arith) (ap (λ (c : Contents). c.objects) w.contents_are)
+    objects_put place b (at.0 % REGION) o (omega arith) (ap (λ (c : Contents). c.objects) w.contents_are)
     ∙ (λ i. fin.insert (heap.view i).objects (whole i) (is i)) in
     let regions : region_in (Some b) ≡ region_in (Some a) =
     λ i. cond (w.held i)
@@ -208,7 +210,7 @@ part_placed o (Field i n) = ap (λ fs. record (placed_of o) { fields = fs }) (ma
 pub part_size : (o : Object) (p : Part) → size_of (region_with_part o p) ≡ size_of o
 part_size o (Value v) = refl
 part_size o (Registered on) = refl
-part_size o (Field i n) = ap (λ k. k + 3) (length-set o.fields i n)
+part_size o (Field i n) = ap (λ k. k + HEADER) (length-set o.fields i n)
 
 -- an object has the part in its region too
 pub part_within : (o : Object) (p : Part) → HasPart (placed_of o).fields p → HasPart o.fields p

@@ -1,5 +1,5 @@
 -- Lemmas on the objects of a region that a walk returns.
-use Rattle.hd_heap.proofs.Basics.{Any, Area, Carded, Condemned, Contents, IfSome, IsArea, IsFirstFrom, IsFirstSince, IsObject, MatchOption, None, Option, Some, Wanted, ap, arith, card_in, cases_eq, cases_lt, contents, false, false_from_ne_true, inl, inr, nat_le, nat_lt, refl, subst, sym, true, wants, ℕ, ◌&&◌, ◌+◌, ◌-◌, ◌/◌, ◌<◌, ◌≡◌, ◌≤◌}
+use Rattle.hd_heap.proofs.Basics.{Any, Area, CARD, Carded, Condemned, Contents, HEADER, IfSome, IsArea, IsFirstFrom, IsFirstSince, IsObject, MatchOption, None, Option, REGION, Some, Wanted, ap, arith, card_in, cases_eq, cases_lt, contents, false, false_from_ne_true, inl, inr, nat_le, nat_lt, refl, subst, sym, true, wants, ℕ, ◌&&◌, ◌+◌, ◌-◌, ◌/◌, ◌<◌, ◌≡◌, ◌≤◌}
 use Rattle.std.specs.FinMap as map
 
 -- what is not there is not wanted
@@ -7,7 +7,7 @@ pub unwanted : (w : Wanted) (a : Area) (k : ℕ) → ¬ (IsObject (contents a) k
 unwanted Any a k none = false_from_ne_true _ none
 unwanted (Condemned n) a k none =
     ap (λ b. b && nat_le a.generation n) (false_from_ne_true (map.contains_key (contents a).objects k) none)
-unwanted (Carded n) a k none = ap (λ b. b && nat_lt n a.generation && card_in (Some a) (k / 32))
+unwanted (Carded n) a k none = ap (λ b. b && nat_lt n a.generation && card_in (Some a) (k / CARD))
     (false_from_ne_true (map.contains_key (contents a).objects k) none)
 
 -- how far a search among the objects from `first` on has come: nothing before `next` is wanted
@@ -56,13 +56,13 @@ abbrev pub left : Option ℕ → ℕ
 left None = 0
 left (Some at) = 257 - at
 
-pub left_falls : (at : ℕ) (next : Option ℕ) (r : Contents) → at < 256 → IsFirstFrom r (at + 1) next
+pub left_falls : (at : ℕ) (next : Option ℕ) (r : Contents) → at < REGION → IsFirstFrom r (at + 1) next
     → left next < left (Some at)
 left_falls at None r below none = omega arith
 left_falls at (Some next) r below first_is = let up = first_is.0 in omega arith
 
 -- an object lies in its region
-pub object_below : (a : Area) → IsArea a → (k : ℕ) → IsObject (contents a) k → k + 3 ≤ 256
+pub object_below : (a : Area) → IsArea a → (k : ℕ) → IsObject (contents a) k → k + HEADER ≤ REGION
 object_below a is k there =
     let low = is.laid_out.below_fill k there in
     let within = is.laid_out.within_region in

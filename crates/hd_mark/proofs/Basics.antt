@@ -17,3 +17,5 @@ pub use Rattle.hd_model.specs.Heap.{Basis, Heap, has_object, object_at, objects_
 pub use Rattle.hd_model.specs.Names.{HasClosedFields}
 pub use Rattle.hd_model.specs.Scene.{IsCondemned, IsField, IsYoungField, fields_at, generation_at, generation_in, is_object}
 pub use Rattle.hd_model.specs.declared.data.Addr.{Addr}
+pub use Rattle.hd_mark.specs.declared.bits.TheConstants.{BITS, WORDS}
+pub use Rattle.hd_model.specs.declared.limits.TheConstants.{REGION}

@@ -1,5 +1,5 @@
 -- The walk that gives condemned regions their indices.
-use Rattle.hd_mark.proofs.Basics.{Addr, AllPairs, AreSurveyed, Bool, CondemnedObject, Contains, Heap, IsNext, IsTable, List, None, Option, Some, ap, arith, false, get_or, get_or-map, has_object, is_after, is_condemned, is_some, length, length-map, ltb-true, map, place_at, region_generation, surveyed, true, ℕ, ⊤, ◌%◌, ◌+◌, ◌-◌, ◌/◌, ◌<◌, ◌^◌, ◌∙◌, ◌≡◌, ◌≢◌, ◌≤◌}
+use Rattle.hd_mark.proofs.Basics.{Addr, AllPairs, AreSurveyed, Bool, CondemnedObject, Contains, Heap, IsNext, IsTable, List, None, Option, REGION, Some, ap, arith, false, get_or, get_or-map, has_object, is_after, is_condemned, is_some, length, length-map, ltb-true, map, place_at, region_generation, surveyed, true, ℕ, ⊤, ◌%◌, ◌+◌, ◌-◌, ◌/◌, ◌<◌, ◌^◌, ◌∙◌, ◌≡◌, ◌≢◌, ◌≤◌}
 use Rattle.hd_model.specs.Heap.{region_of}
 use Rattle.hd_heap.specs.Sound.{IsSound}
 
@@ -11,14 +11,14 @@ end_of (Some a) = region_of a + 1
 -- an address between two regions: none, or the last one of a region
 abbrev pub IsLast : Option Addr → Type 0
 IsLast None = ⊤
-IsLast (Some a) = a.0 % 256 ≡ 255
+IsLast (Some a) = a.0 % REGION ≡ 255
 
 -- the condemned regions up to an address have their indices
 pub record IsPlaced (h : Heap) (n : ℕ) (after : Option Addr) (places : List (Option ℕ)) (regions : ℕ) : Type 0
   where
     pub table : IsTable places regions
     pub covers : (a : Addr) → is_condemned h n a ≡ true → is_after after a ≡ false
-        → is_some (place_at places (a.0 / 256)) ≡ true
+        → is_some (place_at places (a.0 / REGION)) ≡ true
     pub young : (r : ℕ) → is_some (place_at places r) ≡ true → region_generation h r ≤ n
     pub low : (r : ℕ) → is_some (place_at places r) ≡ true → r < end_of after
     pub few : regions ≤ end_of after
@@ -55,6 +55,6 @@ abbrev pub last_of : Option Addr → ℕ
 last_of None = 0
 last_of (Some a) = a.0
 
-rises : (after : Option Addr) (at : Addr) → is_after after at ≡ true → 256 ≤ at.0 → last_of after < at.0
+rises : (after : Option Addr) (at : Addr) → is_after after at ≡ true → REGION ≤ at.0 → last_of after < at.0
 rises None at e high = omega arith
 rises (Some b) at e high = ltb-true b.0 at.0 e

@@ -1,5 +1,5 @@
 -- Bits read as sets of addresses: what a bit more does to them.
-use Rattle.hd_mark.proofs.Basics.{FinSet, IfSome, IsTable, List, None, Option, Some, ap, arith, bit_or, cases_eq, contains, contains-empty, contains-insert, empty, false, get_or, get_or-set_other, get_or-set_same, inl, inr, insert, is_set, is_set_in, is_some, length, nat_cmp, place_at, refl, same_set, set, sym, true, ℕ, ◌%◌, ◌*◌, ◌+◌, ◌/◌, ◌<◌, ◌==◌, ◌^◌, ◌||◌, ◌∙◌, ◌≡◌, ◌≢◌}
+use Rattle.hd_mark.proofs.Basics.{BITS, FinSet, IfSome, IsTable, List, None, Option, REGION, Some, ap, arith, bit_or, cases_eq, contains, contains-empty, contains-insert, empty, false, get_or, get_or-set_other, get_or-set_same, inl, inr, insert, is_set, is_set_in, is_some, length, nat_cmp, place_at, refl, same_set, set, sym, true, ℕ, ◌%◌, ◌*◌, ◌+◌, ◌/◌, ◌<◌, ◌==◌, ◌^◌, ◌||◌, ◌∙◌, ◌≡◌, ◌≢◌}
 use Rattle.std.specs.{Int.bit_at, FinMap.nat_cmp-IsAntisymmetric, Cmp.nat_cmp_total}
 use Rattle.hd_mask.proofs.Bits.{set_same, set_other}
 use Rattle.hd_heap.proofs.IndexedLists.{tied, untied, contains-places_of, get_or-tables}
@@ -7,26 +7,28 @@ use Rattle.hd_mark.specs.Inside.{set_of}
 
 -- ---- one bit
 
-module _ (words : List ℕ) (i word : ℕ) (within : i / 64 < length words)
-    (read : word ≡ get_or words (i / 64) 0) where
-  pub set_here : is_set (set words (i / 64) (bit_or word (2 ^ (i % 64)))) i ≡ true
+module _ (words : List ℕ) (i word : ℕ) (within : i / BITS < length words)
+    (read : word ≡ get_or words (i / BITS) 0) where
+  pub set_here : is_set (set words (i / BITS) (bit_or word (2 ^ (i % BITS)))) i ≡ true
   set_here =
-      ap (λ w. bit_at w (i % 64) == 1) (get_or-set_same words (i / 64) (bit_or word (2 ^ (i % 64))) 0 within)
-      ∙ ap (λ b. b == 1) (set_same word (i % 64))
+      ap (λ w. bit_at w (i % BITS) == 1)
+      (get_or-set_same words (i / BITS) (bit_or word (2 ^ (i % BITS))) 0 within)
+      ∙ ap (λ b. b == 1) (set_same word (i % BITS))
 
   pub set_elsewhere : (k : ℕ) → k ≢ i
-      → is_set (set words (i / 64) (bit_or word (2 ^ (i % 64)))) k ≡ is_set words k
+      → is_set (set words (i / BITS) (bit_or word (2 ^ (i % BITS)))) k ≡ is_set words k
   set_elsewhere k apart =
-      elim (cases_eq (k / 64) (i / 64)) [
+      elim (cases_eq (k / BITS) (i / BITS)) [
         | inl e ↦
-            ap (λ j. bit_at (get_or (set words (i / 64) (bit_or word (2 ^ (i % 64)))) j 0) (k % 64) == 1) e
-            ∙ ap (λ w. bit_at w (k % 64) == 1)
-            (get_or-set_same words (i / 64) (bit_or word (2 ^ (i % 64))) 0 within)
-            ∙ ap (λ b. b == 1) (set_other word (i % 64) (k % 64) (λ s. apart (omega arith)))
-            ∙ ap (λ w. bit_at w (k % 64) == 1) read
-            ∙ ap (λ j. bit_at (get_or words j 0) (k % 64) == 1) (sym e)
-        | inr other ↦ ap (λ w. bit_at w (k % 64) == 1)
-            (get_or-set_other words (i / 64) (k / 64) (bit_or word (2 ^ (i % 64))) 0 other)
+            ap (λ j. bit_at (get_or (set words (i / BITS) (bit_or word (2 ^ (i % BITS)))) j 0)
+            (k % BITS) == 1) e
+            ∙ ap (λ w. bit_at w (k % BITS) == 1)
+            (get_or-set_same words (i / BITS) (bit_or word (2 ^ (i % BITS))) 0 within)
+            ∙ ap (λ b. b == 1) (set_other word (i % BITS) (k % BITS) (λ s. apart (omega arith)))
+            ∙ ap (λ w. bit_at w (k % BITS) == 1) read
+            ∙ ap (λ j. bit_at (get_or words j 0) (k % BITS) == 1) (sym e)
+        | inr other ↦ ap (λ w. bit_at w (k % BITS) == 1)
+            (get_or-set_other words (i / BITS) (k / BITS) (bit_or word (2 ^ (i % BITS))) 0 other)
       ]
 
 -- ---- members of sets of numbers
@@ -49,11 +51,12 @@ same_numbers = same_set nat_cmp_total nat_cmp-IsAntisymmetric
 -- ---- sets of addresses
 
 pub contains-set_of : (places : List (Option ℕ)) (words : List ℕ) (q : ℕ)
-    → contains (set_of places words) q ≡ is_set_in words (place_at places (q / 256)) (q % 256)
+    → contains (set_of places words) q ≡ is_set_in words (place_at places (q / REGION)) (q % REGION)
 unfolding set_of
 contains-set_of places words q =
     contains-places_of _ q
-    ∙ get_or-tables 256 (is_set_in words) false (λ k. refl) places q (q / 256) (q % 256) (omega arith)
+    ∙ get_or-tables REGION (is_set_in words) false (λ k. refl) places q (q / REGION) (q % REGION)
+    (omega arith)
     (omega arith)
 
 -- where no bit is set, no address is a member
@@ -61,30 +64,30 @@ pub set_of_none : (places : List (Option ℕ)) (words : List ℕ) → ((i : ℕ)
     → set_of places words ≡ empty
 set_of_none places words none =
     same_numbers _ _ (λ q.
-    contains-set_of places words q ∙ in_region (place_at places (q / 256)) (q % 256)
+    contains-set_of places words q ∙ in_region (place_at places (q / REGION)) (q % REGION)
     ∙ sym (contains-empty nat_cmp q))
   where
     in_region : (o : Option ℕ) (k : ℕ) → is_set_in words o k ≡ false
     in_region None k = refl
-    in_region (Some p) k = none (p * 256 + k)
+    in_region (Some p) k = none (p * REGION + k)
 
 -- the bit of an address: whether it is set says whether the address is a member
 pub bit_read : (places : List (Option ℕ)) (words : List ℕ) (q bit : ℕ)
-    → is_some (place_at places (q / 256)) ≡ true
-    → IfSome (place_at places (q / 256)) (λ p. bit ≡ p * 256 + q % 256)
+    → is_some (place_at places (q / REGION)) ≡ true
+    → IfSome (place_at places (q / REGION)) (λ p. bit ≡ p * REGION + q % REGION)
     → is_set words bit ≡ contains (set_of places words) q
 bit_read places words q bit some is =
-    by_place (place_at places (q / 256)) some is ∙ sym (contains-set_of places words q)
+    by_place (place_at places (q / REGION)) some is ∙ sym (contains-set_of places words q)
   where
-    by_place : (o : Option ℕ) → is_some o ≡ true → IfSome o (λ p. bit ≡ p * 256 + q % 256)
-        → is_set words bit ≡ is_set_in words o (q % 256)
+    by_place : (o : Option ℕ) → is_some o ≡ true → IfSome o (λ p. bit ≡ p * REGION + q % REGION)
+        → is_set words bit ≡ is_set_in words o (q % REGION)
     by_place None none bit_is = absurd (cc none)
     by_place (Some p) there bit_is = ap (is_set words) bit_is
 
 -- to set the bit of an address is to insert it
 pub bit_joins : (places : List (Option ℕ)) (regions : ℕ) (words after : List ℕ) (a bit : ℕ)
-    → IsTable places regions → is_some (place_at places (a / 256)) ≡ true
-    → IfSome (place_at places (a / 256)) (λ p. bit ≡ p * 256 + a % 256) → is_set after bit ≡ true
+    → IsTable places regions → is_some (place_at places (a / REGION)) ≡ true
+    → IfSome (place_at places (a / REGION)) (λ p. bit ≡ p * REGION + a % REGION) → is_set after bit ≡ true
     → ((k : ℕ) → k ≢ bit → is_set after k ≡ is_set words k)
     → set_of places after ≡ insert (set_of places words) a
 bit_joins places regions words after a bit table some is joins others =
@@ -95,17 +98,18 @@ bit_joins places regions words after a bit table some is joins others =
           ∙ sym (insert_here (set_of places words) a q same)
       | inr apart ↦
           contains-set_of places after q
-          ∙ elsewhere q apart (place_at places (a / 256)) refl some is (place_at places (q / 256)) refl
+          ∙ elsewhere q apart (place_at places (a / REGION)) refl some is (place_at places (q / REGION)) refl
           ∙ sym (contains-set_of places words q)
           ∙ sym (insert_elsewhere (set_of places words) a q apart)
     ])
   where
-    elsewhere : (q : ℕ) → q ≢ a → (o : Option ℕ) → place_at places (a / 256) ≡ o → is_some o ≡ true
-        → IfSome o (λ p. bit ≡ p * 256 + a % 256) → (r : Option ℕ) → place_at places (q / 256) ≡ r
-        → is_set_in after r (q % 256) ≡ is_set_in words r (q % 256)
+    elsewhere : (q : ℕ) → q ≢ a → (o : Option ℕ) → place_at places (a / REGION) ≡ o → is_some o ≡ true
+        → IfSome o (λ p. bit ≡ p * REGION + a % REGION) → (r : Option ℕ) → place_at places (q / REGION) ≡ r
+        → is_set_in after r (q % REGION) ≡ is_set_in words r (q % REGION)
     elsewhere q apart None here none bit_is r there = absurd (cc none)
     elsewhere q apart (Some p) here some_p bit_is None there = refl
-    elsewhere q apart (Some p) here some_p bit_is (Some r) there = others (r * 256 + q % 256) (λ e.
+    elsewhere q apart (Some p) here some_p bit_is (Some r) there = others (r * REGION + q % REGION) (λ e.
         let one : r ≡ p = omega (arith, e, bit_is) in
-        let region : q / 256 ≡ a / 256 = table.apart (q / 256) (a / 256) r there (here ∙ ap Some (sym one)) in
+        let region : q / REGION ≡ a / REGION = table.apart (q / REGION) (a / REGION) r there
+        (here ∙ ap Some (sym one)) in
         apart (omega (arith, e, bit_is, one, region)))

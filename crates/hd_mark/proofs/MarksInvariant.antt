@@ -1,5 +1,5 @@
 -- What marks keep of their bits and their log.
-use Rattle.hd_mark.proofs.Basics.{Addr, AreMarks, Basis, FinSet, Heap, IfSome, IsNextDone, IsTraced, List, MarksOf, None, Option, Some, [], advanced, and_parts, ap, arith, bit_of, contains, drop, drop-append-le, drop_more, empty, false, first_marks, get_or, if◌then◌else◌, insert, is_condemned, is_object, is_older, is_set, is_some, leb-true, left, length, length-append, length-drop, log_of, nat_cmp, objects_of, offset_of, option_map, or_parts, pinned_also, pinned_in, place_at, promoted_in, pushed, refl, seen, set_of, subst, sym, take, take-append-drop, take-append-le, take_more, true, ℕ, ◌%◌, ◌*◌, ◌++◌, ◌+◌, ◌<◌, ◌||◌, ◌∙◌, ◌∷◌, ◌≡◌, ◌≢◌, ◌≤◌}
+use Rattle.hd_mark.proofs.Basics.{Addr, AreMarks, BITS, Basis, FinSet, Heap, IfSome, IsNextDone, IsTraced, List, MarksOf, None, Option, REGION, Some, WORDS, [], advanced, and_parts, ap, arith, bit_of, contains, drop, drop-append-le, drop_more, empty, false, first_marks, get_or, if◌then◌else◌, insert, is_condemned, is_object, is_older, is_set, is_some, leb-true, left, length, length-append, length-drop, log_of, nat_cmp, objects_of, offset_of, option_map, or_parts, pinned_also, pinned_in, place_at, promoted_in, pushed, refl, seen, set_of, subst, sym, take, take-append-drop, take-append-le, take_more, true, ℕ, ◌%◌, ◌*◌, ◌++◌, ◌+◌, ◌<◌, ◌||◌, ◌∙◌, ◌∷◌, ◌≡◌, ◌≢◌, ◌≤◌}
 use Rattle.hd_model.specs.Heap.{region_of}
 use Rattle.hd_mark.specs.declared.places.Places.{Places}
 use Rattle.hd_mark.proofs.MarkBits.{bit_read, bit_joins, set_of_none}
@@ -76,23 +76,23 @@ module _ {b : Basis} {p : Places} {marks pins : List ℕ} {log : List Addr} {nex
       has_place : is_some (place_at places (region_of at)) ≡ true
       has_place = by (place_at places (region_of at)) is
         where
-          by : (o : Option ℕ) → option_map (λ p. p * 256 + offset_of at) o ≡ Some bit → is_some o ≡ true
+          by : (o : Option ℕ) → option_map (λ p. p * REGION + offset_of at) o ≡ Some bit → is_some o ≡ true
           by None e = absurd (cc e)
           by (Some p) e = refl
 
-      bit_is : IfSome (place_at places (region_of at)) (λ p. bit ≡ p * 256 + at.0 % 256)
+      bit_is : IfSome (place_at places (region_of at)) (λ p. bit ≡ p * REGION + at.0 % REGION)
       bit_is = by (place_at places (region_of at)) is
         where
-          by : (o : Option ℕ) → option_map (λ p. p * 256 + offset_of at) o ≡ Some bit
-              → IfSome o (λ p. bit ≡ p * 256 + at.0 % 256)
+          by : (o : Option ℕ) → option_map (λ p. p * REGION + offset_of at) o ≡ Some bit
+              → IfSome o (λ p. bit ≡ p * REGION + at.0 % REGION)
           by None e = absurd (cc e)
           by (Some p) e = cc e
 
-      pub within : bit < 64 * (4 * p.regions)
+      pub within : bit < BITS * (WORDS * p.regions)
       within = by (place_at places (region_of at)) refl has_place bit_is
         where
           by : (o : Option ℕ) → place_at places (region_of at) ≡ o → is_some o ≡ true
-              → IfSome o (λ p. bit ≡ p * 256 + at.0 % 256) → bit < 64 * (4 * p.regions)
+              → IfSome o (λ p. bit ≡ p * REGION + at.0 % REGION) → bit < BITS * (WORDS * p.regions)
           by None here some e = absurd (cc some)
           by (Some p) here some e = (let low = t.table.within (region_of at) p here in omega arith)
 

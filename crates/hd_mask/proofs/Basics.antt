@@ -7,3 +7,4 @@ pub use Rattle.std.proofs.lemmas.Nat.Bits.{and_pow, bit_at-lt, bit_at-pow_other,
 pub use Rattle.std.specs.Int.{bit_at, bit_not, w64}
 pub use Rattle.std.specs.Int.Count.{ones_step}
 pub use Rattle.hd_mask.specs.Mask.{set_bits}
+pub use Rattle.hd_mask.specs.declared.TheConstants.{BITS}

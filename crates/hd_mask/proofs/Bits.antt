@@ -1,6 +1,6 @@
 -- The bits of a mask: what setting and clearing one bit do to it, and how two masks split a third.
 -- The mask of row k alone is `2 ^ k`, which is what `bit` makes, and `!m` is `bit_not w64 m`.
-use Rattle.hd_mask.proofs.Basics.{and_pow, ap, arith, bit_and, bit_at, bit_at-lt, bit_at-pow_other, bit_at-pow_same, bit_at-trailing_zeros, bit_at-zero, bit_at_above, bit_at_and, bit_at_cat_high, bit_at_cat_low, bit_at_not, bit_at_ones_above, bit_at_or, bit_at_xor, bit_not, bit_or, bit_xor, cases_eq, cases_lt, cases_order, inl, inr, min, mod_below, pow_below, pow_pos, same_from_bits, same_from_bits_below, shr-shr, shr_split, suc, sym, w64, zero-mul, ℕ, ◌%◌, ◌*◌, ◌+◌, ◌-◌, ◌/◌, ◌<◌, ◌^◌, ◌↔◌, ◌∙◌, ◌≡◌, ◌≢◌, ◌≤◌, ◌⊎◌}
+use Rattle.hd_mask.proofs.Basics.{BITS, and_pow, ap, arith, bit_and, bit_at, bit_at-lt, bit_at-pow_other, bit_at-pow_same, bit_at-trailing_zeros, bit_at-zero, bit_at_above, bit_at_and, bit_at_cat_high, bit_at_cat_low, bit_at_not, bit_at_ones_above, bit_at_or, bit_at_xor, bit_not, bit_or, bit_xor, cases_eq, cases_lt, cases_order, inl, inr, min, mod_below, pow_below, pow_pos, same_from_bits, same_from_bits_below, shr-shr, shr_split, suc, sym, w64, zero-mul, ℕ, ◌%◌, ◌*◌, ◌+◌, ◌-◌, ◌/◌, ◌<◌, ◌^◌, ◌↔◌, ◌∙◌, ◌≡◌, ◌≢◌, ◌≤◌, ◌⊎◌}
 
 -- ---- a mask as a whole
 
@@ -9,7 +9,7 @@ bits_of_zero n i e = ap (λ m. bit_at m i) e ∙ bit_at-zero i
 
 -- a mask that is not 0 has a lowest set bit
 pub least_bit : (n : ℕ) → 0 < n → n < 2 ^ 64
-    → (t : ℕ) × (t < 64) × (bit_at n t ≡ 1) × ((k : ℕ) → k < t → bit_at n k ≡ 0)
+    → (t : ℕ) × (t < BITS) × (bit_at n t ≡ 1) × ((k : ℕ) → k < t → bit_at n k ≡ 0)
 least_bit n some fits = let h = bit_at-trailing_zeros w64 n some fits in (_, h.0, h.1, h.2)
 
 -- `n >> k` has the bits from k on
@@ -26,14 +26,14 @@ bit_at-mod n k i lt =
 -- `a & !b` has the bits of a that b lacks
 pub without_at : (a b i : ℕ) → a < 2 ^ 64 → b < 2 ^ 64
     → bit_at (bit_and a (bit_not w64 b)) i ≡ bit_at a i - bit_at b i
-without_at a b i fits fits' = at (cases_lt i 64)
+without_at a b i fits fits' = at (cases_lt i BITS)
   where
     both : bit_at (bit_and a (bit_not w64 b)) i ≡ min (bit_at a i) (bit_at (bit_not w64 b) i)
     both = bit_at_and a (bit_not w64 b) i
 
-    at : (i < 64) ⊎ (64 ≤ i) → bit_at (bit_and a (bit_not w64 b)) i ≡ bit_at a i - bit_at b i
+    at : (i < BITS) ⊎ (BITS ≤ i) → bit_at (bit_and a (bit_not w64 b)) i ≡ bit_at a i - bit_at b i
     at (inl lt) = omega (arith, both, bit_at_not w64 b i fits' lt, bit_at-lt a i, bit_at-lt b i)
-    at (inr le) = omega (arith, both, bit_at_above a 64 i fits le)
+    at (inr le) = omega (arith, both, bit_at_above a BITS i fits le)
 
 -- two masks share no bit exactly where no row is in both
 pub apart_at : (a b : ℕ) → bit_and a b ≡ 0 → (i : ℕ) → bit_at a i + bit_at b i ≤ 1
@@ -115,9 +115,9 @@ module _ (n k : ℕ) where
 
   -- ---- `n & !bit(k)`
 
-  module _ (fits : n < 2 ^ 64) (within : k < 64) where
+  module _ (fits : n < 2 ^ 64) (within : k < BITS) where
     cleared_at : (i : ℕ) → bit_at (bit_and n (bit_not w64 (2 ^ k))) i ≡ bit_at n i - bit_at (2 ^ k) i
-    cleared_at i = without_at n (2 ^ k) i fits (pow_below k 64 within)
+    cleared_at i = without_at n (2 ^ k) i fits (pow_below k BITS within)
 
     pub clear_same : bit_at (bit_and n (bit_not w64 (2 ^ k))) k ≡ 0
     clear_same = omega (arith, cleared_at k, bit_at-pow_same k, bit_at-lt n k)

@@ -1,5 +1,5 @@
 -- What is left of a mask while its lowest bits are taken away, one by one.
-use Rattle.hd_mask.proofs.Basics.{ap, arith, bit_and, bit_at, bit_at-lt, bit_at-pow_other, bit_at_xor, bit_or, bit_xor, cases_eq, cases_order, drop, inl, inr, length, min, set_bits, sym, take, xor_lt, ℕ, ◌++◌, ◌+◌, ◌-◌, ◌<◌, ◌^◌, ◌∙◌, ◌≡◌, ◌≢◌, ◌≤◌, ◌⊎◌}
+use Rattle.hd_mask.proofs.Basics.{BITS, ap, arith, bit_and, bit_at, bit_at-lt, bit_at-pow_other, bit_at_xor, bit_or, bit_xor, cases_eq, cases_order, drop, inl, inr, length, min, set_bits, sym, take, xor_lt, ℕ, ◌++◌, ◌+◌, ◌-◌, ◌<◌, ◌^◌, ◌∙◌, ◌≡◌, ◌≢◌, ◌≤◌, ◌⊎◌}
 use Rattle.std.specs.Int.RustNames.{count_ones}
 use Rattle.hd_mask.proofs.Bits.{least_bit, lowest_parts, or_from_parts, apart_from_parts}
 use Rattle.hd_mask.proofs.Ones.{ones-without_lowest, ones_from_parts}
@@ -78,5 +78,5 @@ taken_parts mask left taken n done limit fits fits' = record {
     ends : (set_bits (bit_xor mask left) ≡ take n (set_bits (bit_xor mask left) ++ set_bits left))
         × (set_bits left ≡ drop n (set_bits (bit_xor mask left) ++ set_bits left))
     ends = front_and_back n (set_bits (bit_xor mask left)) (set_bits left)
-        (length-set_bits (bit_xor mask left) (xor_lt 64 mask left fits fits') ∙ number
+        (length-set_bits (bit_xor mask left) (xor_lt BITS mask left fits fits') ∙ number
         ∙ ap (min n) (sym (length-set_bits mask fits) ∙ ap length both))

@@ -1,5 +1,5 @@
 -- The list of a mask's set bits: its length, its first, and the lists of two masks that split it.
-use Rattle.hd_mask.proofs.Basics.{List, Some, [], add-zero, ap, arith, bit_at, bit_at-lt, bit_at-pow_other, bit_at-pow_same, bit_at-zero, cases_eq, cond, div-eq_of_lt, div-one, drop, filter, inl, inr, length, min, ones_step, pow_below, refl, shr-shr, slice_get, subst, suc, sym, take, zero, zero-add, ℕ, ◌++◌, ◌+◌, ◌/◌, ◌<◌, ◌==◌, ◌^◌, ◌∙◌, ◌∷◌, ◌≡◌, ◌≢◌, ◌≤◌, ◌⊎◌}
+use Rattle.hd_mask.proofs.Basics.{BITS, List, Some, [], add-zero, ap, arith, bit_at, bit_at-lt, bit_at-pow_other, bit_at-pow_same, bit_at-zero, cases_eq, cond, div-eq_of_lt, div-one, drop, filter, inl, inr, length, min, ones_step, pow_below, refl, shr-shr, slice_get, subst, suc, sym, take, zero, zero-add, ℕ, ◌++◌, ◌+◌, ◌/◌, ◌<◌, ◌==◌, ◌^◌, ◌∙◌, ◌∷◌, ◌≡◌, ◌≢◌, ◌≤◌, ◌⊎◌}
 use Rattle.std.specs.{Int.RustNames.count_ones, List.range_with_len}
 use Rattle.hd_mask.specs.Mask.{set_bits}
 use Rattle.hd_mask.proofs.Ones.{ones-pow}
@@ -29,7 +29,7 @@ length-set_from n (suc k) x fits =
 
 pub length-set_bits : (n : ℕ) → n < 2 ^ 64 → length (set_bits n) ≡ count_ones n
 unfolding set_bits
-length-set_bits n fits = length-set_from n 64 0 fits ∙ ap count_ones (div-one n)
+length-set_bits n fits = length-set_from n BITS 0 fits ∙ ap count_ones (div-one n)
 
 -- ---- none, and the first
 
@@ -41,7 +41,7 @@ none_from n (suc k) x clear =
 
 pub set_bits-zero : set_bits 0 ≡ []
 unfolding set_bits
-set_bits-zero = none_from 0 64 0 (λ i _. bit_at-zero i)
+set_bits-zero = none_from 0 BITS 0 (λ i _. bit_at-zero i)
 
 module _ (n t : ℕ) (set : bit_at n t ≡ 1) (least : (i : ℕ) → i < t → bit_at n i ≡ 0) where
   first_here : (k x : ℕ) → (x + 1 ≤ t → slice_get (set_from n k (x + 1)) 0 ≡ Some t)
@@ -56,9 +56,9 @@ module _ (n t : ℕ) (set : bit_at n t ≡ 1) (least : (i : ℕ) → i < t → b
   first_from (suc k) x le lt =
       first_here k x (λ more. first_from k (x + 1) more (omega arith)) (cases_eq x t) le
 
-  pub first-set_bits : t < 64 → slice_get (set_bits n) 0 ≡ Some t
+  pub first-set_bits : t < BITS → slice_get (set_bits n) 0 ≡ Some t
   unfolding set_bits
-  first-set_bits lt = first_from 64 0 (omega arith) (omega arith)
+  first-set_bits lt = first_from BITS 0 (omega arith) (omega arith)
 
 -- ---- one bit alone
 
@@ -67,9 +67,9 @@ single [] x long first = absurd (omega arith)
 single (y ∷ []) x long first = let same : y ≡ x = cc in ap (λ z. z ∷ []) same
 single (y ∷ z ∷ rest) x long first = absurd (omega arith)
 
-pub set_bits-pow : (t : ℕ) → t < 64 → set_bits (2 ^ t) ≡ t ∷ []
+pub set_bits-pow : (t : ℕ) → t < BITS → set_bits (2 ^ t) ≡ t ∷ []
 set_bits-pow t lt =
-    single (set_bits (2 ^ t)) t (length-set_bits (2 ^ t) (pow_below t 64 lt) ∙ ones-pow t)
+    single (set_bits (2 ^ t)) t (length-set_bits (2 ^ t) (pow_below t BITS lt) ∙ ones-pow t)
     (first-set_bits (2 ^ t) t (bit_at-pow_same t) (λ i below. clear i (omega arith)) lt)
   where
     clear : (i : ℕ) → i ≢ t → bit_at (2 ^ t) i ≡ 0
@@ -109,7 +109,7 @@ module _ (m a b : ℕ) (parts : (i : ℕ) → bit_at m i ≡ bit_at a i + bit_at
 
   pub set_bits_from_parts : set_bits m ≡ set_bits a ++ set_bits b
   unfolding set_bits
-  set_bits_from_parts = set_from_parts 64 0
+  set_bits_from_parts = set_from_parts BITS 0
 
 -- the first n of a list, or all of it where it is shorter, and the rest
 pub front_and_back : (n : ℕ) (front back : List ℕ) → length front ≡ min n (length (front ++ back))

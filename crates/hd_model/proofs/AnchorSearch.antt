@@ -36,7 +36,7 @@ module _ (s : State) (w : IsWhole (scene_of s)) where
       root_object 0 (scene_of s) w x (anchor_root 0 (anchor_named s) a)
 
   module _ (goal : Id) where
-    -- whether an object is an anchor from which a chain of so many edges leads to the goal; whether one is
+    -- whether an object is an anchor from which a chain of k edges leads to the goal; whether one is
     starts : ℕ → Id → Bool
     starts k x =
         is_anchor s s.statics x && in_edges (EdgeOf s) same_id (is_edge s) same_is (edge_is s) (ids s)

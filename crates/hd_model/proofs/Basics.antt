@@ -40,4 +40,4 @@ pub use Rattle.hd_model.specs.Valid.{IsValid}
 pub use Rattle.hd_model.specs.WeakLaws.{AddIsRefusedWhereAttached, EntriesFollowKeys, EntriesKeepNoKey, EntriesUseNoKey, FindReturnsWhatIsAttached, IsOnKey, NullKeysAreRefused, RemoveReturnsWhetherAttached, TextsLeaveTheWeakTableOut, WeakSlotsAreNotLive, WeakSlotsStayHeld, adds, attached, attached_by, finds, removes}
 pub use Rattle.hd_model.specs.WellFormed.{FitsKind, HasHandles, HasObjects, HasSerials, HasShape, HasSoundReferences, HasWeakTable, IsWellFormed, Names}
 pub use Rattle.hd_model.specs.declared.data.Grown.TheVariants.{Back, One, Two, Zero}
-pub use Rattle.hd_model.specs.declared.limits.TheConstants.{FIELDS, OLDEST, REGISTERS, ROWS}
+pub use Rattle.hd_model.specs.declared.limits.TheConstants.{FIELDS, HEAP, OLDEST, REGISTERS, ROWS}

@@ -1,5 +1,5 @@
 -- The sample states meet what the laws of collections ask for.
-use Rattle.hd_model.proofs.Basics.{CollectsState, Handle, HasSoundAges, Id, IsInUse, IsLedTo, IsOlder, IsResurrected, IsSome, IsUsed, IsWellFormed, Names, None, Object, Report, Some, State, WeakEntry, [], age_of, ap, arith, by_dependent, by_field, by_handle, empty, false, false≢true, field_of, from_start, generation_at, generation_in, get, get-empty, get_or, handles_of, holds, in_queue, in_register, in_static, inl, inr, is_paired, is_some, nat_cmp, none-some, refl, replicate, role, row_of, same_Some, scene_of, secondary_of, start_of, subst, suc, sym, true, with_handle, with_object, with_serial, with_use, with_weak, without_handle, zero, ℕ, ⊎_elim, ◌<◌, ◌∙◌, ◌∷◌, ◌≡◌, ◌≢◌, ◌≤◌, ◌⊎◌}
+use Rattle.hd_model.proofs.Basics.{CollectsState, Handle, HasSoundAges, Id, IsInUse, IsLedTo, IsOlder, IsResurrected, IsSome, IsUsed, IsWellFormed, Names, None, Object, REGISTERS, Report, Some, State, WeakEntry, [], age_of, ap, arith, by_dependent, by_field, by_handle, empty, false, false≢true, field_of, from_start, generation_at, generation_in, get, get-empty, get_or, handles_of, holds, in_queue, in_register, in_static, inl, inr, is_paired, is_some, nat_cmp, none-some, refl, replicate, role, row_of, same_Some, scene_of, secondary_of, start_of, subst, suc, sym, true, with_handle, with_object, with_serial, with_use, with_weak, without_handle, zero, ℕ, ⊎_elim, ◌<◌, ◌∙◌, ◌∷◌, ◌≡◌, ◌≢◌, ◌≤◌, ◌⊎◌}
 use Rattle.hd_model.specs.CollectionSamples.{few, id_of, slot_of, object_with, weak_to, made_one, with_blocks, calm, with_objects, attaching, busy, entry_of_one, entered, ages_of_busy, PremisesAreMet}
 use Rattle.hd_model.proofs.{Members.not_in_none, PropertyCounts.counts_zero, WeakSlots.handle_row, WeakSlots.row_cases, WellFormedSteps.start_is_well_formed, MapEntries.none_from, MapEntries.some_value, EntryKeys.taken_out, ReachTests.is_holding, NextState.collections_exist}
 use Rattle.hd_model.proofs.ReadAfterWrite.{cell_cases, replicate_cases, get_inserted, get_beside, insert_all}
@@ -260,11 +260,12 @@ few_used : (x : Id) → IsUsed busy x → Few x
 few_used x (in_register c d e) =
     cell_cases (λ o. o ≡ Some x → Few x) (start_of few).registers 0 0 c d (Some (id_of 1)) None
     (λ _ _ f. inl (number_is 1 x f))
-    (replicate_cases (λ row. get_or row d None ≡ Some x → Few x) 1 c (replicate 16 None) []
-    (replicate_cases (λ o. o ≡ Some x → Few x) 16 d None None (few_named x) (few_named x)) (few_named x))
+    (replicate_cases (λ row. get_or row d None ≡ Some x → Few x) 1 c (replicate REGISTERS None) []
+    (replicate_cases (λ o. o ≡ Some x → Few x) REGISTERS d None None (few_named x) (few_named x))
+    (few_named x))
     e
 few_used x (in_static k e) =
-    replicate_cases (λ o. o ≡ Some x → Few x) 16 k None None (few_named x) (few_named x) e
+    replicate_cases (λ o. o ≡ Some x → Few x) REGISTERS k None None (few_named x) (few_named x) e
 few_used x (in_queue h) = absurd (not_in_none x h)
 few_used x (by_handle slot h e holding target) =
     absurd (all_handles (λ k g. role g ≡ holds → ⊥) (λ r. false≢true (ap is_holding r))

@@ -1,5 +1,5 @@
 -- In every state of a run there is a free place for each object, so no caller is ever stuck.
-use Rattle.hd_model.proofs.Basics.{Bool, FinMap, Id, IsFreePlace, IsSome, IsWellFormed, List, None, Numbers, Object, Option, RunsAreNeverStuck, Some, State, [], ap, arith, cases_eq, cond, contains_key, empty, entries, false, find, get, get-entries, inl, inr, insert, is_some, len, len-empty, len-entries, len-insert, length, nat_cmp, nat_cmp_total, object_by_id, refl, size_of, subst, suc, sym, total_size, true, true≢false, unwrap_or, zero, ℕ, ⊎_elim, ◌*◌, ◌+◌, ◌/◌, ◌<◌, ◌∙◌, ◌∷◌, ◌≡◌, ◌≤◌, ◌⊎◌}
+use Rattle.hd_model.proofs.Basics.{Bool, FIELDS, FinMap, HEAP, Id, IsFreePlace, IsSome, IsWellFormed, List, None, Numbers, Object, Option, RunsAreNeverStuck, Some, State, [], ap, arith, cases_eq, cond, contains_key, empty, entries, false, find, get, get-entries, inl, inr, insert, is_some, len, len-empty, len-entries, len-insert, length, nat_cmp, nat_cmp_total, object_by_id, refl, size_of, subst, suc, sym, total_size, true, true≢false, unwrap_or, zero, ℕ, ⊎_elim, ◌*◌, ◌+◌, ◌/◌, ◌<◌, ◌∙◌, ◌∷◌, ◌≡◌, ◌≤◌, ◌⊎◌}
 use Rattle.hd_model.proofs.{MapEntries.found_later, HeapLimit.heap_is_within_its_limit, StepExistence.filled, StepExistence.every_command_has_a_step, Sums.sum-many, WellFormedSteps.run_is_well_formed, ReadAfterWrite.get_inserted, ReadAfterWrite.still_some}
 
 -- a key that a map lacks, among some from a number on
@@ -65,7 +65,7 @@ meets_one j place low high = omega arith
 
 module _ (n : Numbers) (s : State) (w : IsWellFormed n s) where
   -- an object takes at most 64 cells
-  is_small : (id : Id) → length (object_by_id s id).fields ≤ 61
+  is_small : (id : Id) → length (object_by_id s id).fields ≤ FIELDS
   is_small id = by (get s.objects id.0) refl
     where
       by : (o : Option (Object Id)) → get s.objects id.0 ≡ o
@@ -74,7 +74,7 @@ module _ (n : Numbers) (s : State) (w : IsWellFormed n s) where
             value = 0;
             generation = 0;
             registered = false;
-          })).fields ≤ 61
+          })).fields ≤ FIELDS
       by None none = omega arith
       by (Some x) some = w.objects.sizes id.0 x some
 
@@ -83,7 +83,7 @@ module _ (n : Numbers) (s : State) (w : IsWellFormed n s) where
   met id = beside (unwrap_or (get s.places id) 0)
 
   -- more of them are below 2^32 than there can be objects, so one meets no place
-  some_place : total_size s ≤ 1000000 → (id : Id) → (p : ℕ) × IsFreePlace s id p
+  some_place : total_size s ≤ HEAP → (id : Id) → (p : ℕ) × IsFreePlace s id p
   some_place low id = by (lacking (numbers met (entries s.objects)))
     where
       by : Lacks (numbers met (entries s.objects)) 1 (len (numbers met (entries s.objects)) + 1)
@@ -115,7 +115,7 @@ pub runs_are_never_stuck : RunsAreNeverStuck
 runs_are_never_stuck n journal s caller c run small known valid serial =
     let w = run_is_well_formed n journal s run in
     let within = heap_is_within_its_limit n journal s run in
-    let low : total_size s ≤ 1000000 = omega arith in
+    let low : total_size s ≤ HEAP = omega arith in
     every_command_has_a_step n s caller c w known valid (record {
       serial = serial;
       place = λ h id is pins none. some_place n s w low id;

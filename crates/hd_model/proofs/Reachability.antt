@@ -85,7 +85,7 @@ module _ {N : Type 0} (E : N → N → Type 0) (same step : N → N → Bool)
           (and_from (start h.0) (through vs h.0 y) ((start_is h.0).1 h.1.0) (through_all there h.1.1).1),
     )
 
-    -- whether a chain of so many edges leads from one to another
+    -- whether a chain of k edges leads from one to another
     pub in_edges : ℕ → N → N → Bool
     in_edges zero x y = same x y
     in_edges (suc k) x z = list_any (λ y. in_edges k x y && step y z) vs
@@ -108,7 +108,7 @@ module _ {N : Type 0} (E : N → N → Type 0) (same step : N → N → Bool)
               (and_from (in_edges k x y) (step y z) leads ((step_is y z).1 e)),
         )
 
-    -- whether one is a start, and a chain of so many edges leads from it
+    -- whether one is a start, and a chain of k edges leads from it
     pub decides_edges : (Start : N → Type 0) (start : N → Bool) → ((x : N) → Decides (start x) (Start x))
         → ((x : N) → Start x → P x) → (k : ℕ) (x y : N)
         → Decides (start x && in_edges k x y) (Start x × LeadsIn E k x y)

@@ -209,18 +209,18 @@ has_way = record { serial = λ d fields fin is. absurd (not_new is); place = λ 
     not_addr is = cc
 
 -- a well formed state in which the object is queued for finalization, and `final r1` of it
-abbrev waiting : State
-waiting = with_queue s1 (first ∷ [])
+abbrev with_queued : State
+with_queued = with_queue s1 (first ∷ [])
 
-pub waiting_is_well_formed : IsWellFormed numbers waiting
-waiting_is_well_formed =
+pub queued_is_well_formed : IsWellFormed numbers with_queued
+queued_is_well_formed =
     queue_keeps numbers s1 (run_is_well_formed numbers (e1 ∷ []) s1 (link step1 stay)) (first ∷ [])
     (λ id h. ⊎_elim (λ same. subst (λ (x : Id). IsSome (get s1.objects x.0)) same
     (ap is_some (get_inserted s0.objects first.0 (fresh_object 1 true))))
     (λ none. absurd (not_in_none id none)) (member_cases first [] id h))
     (pairs_cons (λ x y. x ≢ y) first [] (λ y none. absurd (not_in_none y none)) (pairs_none (λ x y. x ≢ y)))
 
-pub step_final : Step numbers waiting
+pub step_final : Step numbers with_queued
     (record { caller = 0; cmd = cmd.Final 1; slot = None; grown = Zero; reply = reply.Object first })
     (with_register s1 0 1 (Some first))
 step_final = record {

@@ -1,5 +1,5 @@
 -- A collection keeps a state well formed.
-use Rattle.hd_model.proofs.Basics.{AllPairs, Bool, CollectsState, Contains, FitsKind, Handle, HasHandles, HasObjects, HasSerials, HasShape, HasWeakTable, Id, IsReached, IsSome, IsToBeFinalized, IsWellFormed, IsWhole, List, None, Numbers, Object, Option, Report, Slot, Some, State, WeakEntry, [], ap, arith, cleared, cond, false, get, get_or, handles_of, held, is_pinned, is_some, length, nat_tests, none-some, option_map, queued, raised, refl, scene_of, subst, survivor, swept, sym, true, true≢false, use_of, ℕ, ◌%◌, ◌/◌, ◌<◌, ◌^◌, ◌∙◌, ◌≡◌, ◌≢◌, ◌≤◌}
+use Rattle.hd_model.proofs.Basics.{AllPairs, Bool, CollectsState, Contains, FIELDS, FitsKind, Handle, HasHandles, HasObjects, HasSerials, HasShape, HasWeakTable, Id, IsReached, IsSome, IsToBeFinalized, IsWellFormed, IsWhole, List, None, Numbers, Object, Option, ROWS, Report, Slot, Some, State, WeakEntry, [], ap, arith, cleared, cond, false, get, get_or, handles_of, held, is_pinned, is_some, length, nat_tests, none-some, option_map, queued, raised, refl, scene_of, subst, survivor, swept, sym, true, true≢false, use_of, ℕ, ◌%◌, ◌/◌, ◌<◌, ◌^◌, ◌∙◌, ◌≡◌, ◌≢◌, ◌≤◌}
 use Rattle.hd_model.proofs.{Members.pairs_append, Members.pairs_like, MapEntries.some_value, KindExtras.cleared_fits, PinTest.pinned_decides, PinTest.pinned_held, WeakSlots.handle_row, WeakSlots.held_row, WholeScenes.whole_scene, WholeScenes.names_of_whole}
 use Rattle.hd_model.proofs.SceneCollection.{root_reached, mapped_value, keeps_root, object_before, still_object, whole_after}
 
@@ -39,7 +39,7 @@ module _ (n : Numbers) (k : ℕ) (s t : State) (r : Report) (w : IsWellFormed n 
 
   queued_apart : AllPairs (λ x y. x ≢ y) t.queue
   queued_apart =
-      let waiting : (x : Id) → Contains s.queue x
+      let is_queued : (x : Id) → Contains s.queue x
       → IsReached (scene_of s) k x = λ x h. root_reached k (scene_of s) x (queued h) in
       subst (λ xs. AllPairs (λ x y. x ≢ y) xs) (sym c.scene.queue)
       (pairs_append (λ x y. x ≢ y) s.queue c.scene.joins w.objects.queued_once
@@ -48,7 +48,7 @@ module _ (n : Numbers) (k : ℕ) (s t : State) (r : Report) (w : IsWellFormed n 
       c.scene.rising)
       (λ x y in_queue joins same. let lost : IsToBeFinalized (scene_of s) k y =
       (c.scene.resurrected_is y).0 ((c.scene.joins_are y).1 joins) in
-      lost.lost (subst (λ z. IsReached (scene_of s) k z) same (waiting x in_queue))))
+      lost.lost (subst (λ z. IsReached (scene_of s) k z) same (is_queued x in_queue))))
 
   shape_after : HasShape n t
   shape_after = record {
@@ -68,7 +68,7 @@ module _ (n : Numbers) (k : ℕ) (s t : State) (r : Report) (w : IsWellFormed n 
   objects_after = record {
     sizes = λ id o e.
         let (p, both) = (before id o e).1 in
-        subst (λ (q : Object Id). length q.fields ≤ 61) both.1 (w.objects.sizes id p both.0);
+        subst (λ (q : Object Id). length q.fields ≤ FIELDS) both.1 (w.objects.sizes id p both.0);
     generations = λ id o e.
         let (p, both) = (before id o e).1 in
         subst (λ (q : Object Id). q.generation ≤ 2) both.1
@@ -121,7 +121,7 @@ module _ (n : Numbers) (k : ℕ) (s t : State) (r : Report) (w : IsWellFormed n 
 
   weak_after : HasWeakTable t
   weak_after = record {
-    kinds = λ slot h. ap (λ m. get m (slot / 64)) c.blocks ∙ w.weak.kinds slot (was_weak slot h);
+    kinds = λ slot h. ap (λ m. get m (slot / ROWS)) c.blocks ∙ w.weak.kinds slot (was_weak slot h);
     apart = apart_after;
     once = λ i j d e at_i at_j same. w.weak.once i j d e (was_entry i d at_i) (was_entry j e at_j) same;
   }
@@ -130,8 +130,8 @@ module _ (n : Numbers) (k : ℕ) (s t : State) (r : Report) (w : IsWellFormed n 
   handles_after = record {
     kinds = λ slot h e.
         let (g, both) = was_handle slot h e in
-        subst (λ (q : Handle Id). use_of t (slot / 64) ≡ Some (handles_of q.kind)) both.1
-        (ap (λ m. get m (slot / 64)) c.blocks ∙ w.handles.kinds slot g both.0);
+        subst (λ (q : Handle Id). use_of t (slot / ROWS) ≡ Some (handles_of q.kind)) both.1
+        (ap (λ m. get m (slot / ROWS)) c.blocks ∙ w.handles.kinds slot g both.0);
     extras = λ slot h e.
         let (g, both) = was_handle slot h e in
         subst (λ (q : Handle Id). FitsKind q.kind q.extra) both.1

@@ -167,5 +167,5 @@ table_code =
     (λ p. record { rows = p.0; chains = p.1.0; uses = p.1.1.0; blocks = p.1.1.1 }) (λ _. refl)
 
 abbrev pub queue_code : Coded Queue
-queue_code = code_by (List Addr × ℕ) (coded× (coded_list addr_code) coded_ℕ) (λ q. (q.waiting, q.room))
-    (λ p. record { waiting = p.0; room = p.1 }) (λ _. refl)
+queue_code = code_by (List Addr × ℕ) (coded× (coded_list addr_code) coded_ℕ) (λ q. (q.queued, q.room))
+    (λ p. record { queued = p.0; room = p.1 }) (λ _. refl)

@@ -33,7 +33,7 @@ chain_of t k = slice_index_or t.chains (kind_number k) []
 -- the finalization queue: the addresses of the queued objects, first in first out, and the number of objects
 -- that it has room for
 pub record Queue : Type 0 where
-  pub waiting : List Addr
+  pub queued : List Addr
   pub room : ℕ
 
 -- the table at the start: no block has a use

@@ -43,3 +43,4 @@ pub use Rattle.hd_plan.specs.declared.moves.Condemned.{Condemned}
 pub use Rattle.hd_plan.specs.declared.moves.Fate.{Fate}
 pub use Rattle.hd_plan.specs.declared.moves.Fate.TheVariants.{Dead, Moves, MovesToNewRegion, Pinned}
 pub use Rattle.hd_plan.specs.declared.moves.Move.{Move}
+pub use Rattle.hd_model.specs.declared.limits.TheConstants.{CARD, FIELDS, HEADER, LEFT, OPEN, REGION}

@@ -1,5 +1,5 @@
 -- Lemmas on cards that are set and cleared.
-use Rattle.hd_plan.proofs.Basics.{Addr, AreCarded, Bool, Contains, HasClosedFields, Heap, IsExactAt, IsField, IsNext, IsSound, IsWalk, List, MayCard, Move, NamesYounger, NeedsCard, None, Object, Option, Some, and_from, and_left, and_parts, ap, arith, both_ways, cases_eq, cases_lt, eq-eqb, eq_by_cmp, eqb-true, false, false_from_ne_true, fields_in, generation_at, has_object, inl, inr, is_after, is_kept_fate, is_old_carded, is_set, is_some, lt-ltb, ltb-false, ltb-true, move_at, nat_cmp, nat_lt, not, object_at, or_left, refl, same_Some, same_address, starts_in, subst, sym, true, with_card, ℕ, ◌&&◌, ◌*◌, ◌+◌, ◌-◌, ◌/◌, ◌<◌, ◌^◌, ◌||◌, ◌↔◌, ◌∙◌, ◌≡◌, ◌≢◌, ◌≤◌}
+use Rattle.hd_plan.proofs.Basics.{Addr, AreCarded, Bool, CARD, Contains, HasClosedFields, Heap, IsExactAt, IsField, IsNext, IsSound, IsWalk, List, MayCard, Move, NamesYounger, NeedsCard, None, Object, Option, Some, and_from, and_left, and_parts, ap, arith, both_ways, cases_eq, cases_lt, eq-eqb, eq_by_cmp, eqb-true, false, false_from_ne_true, fields_in, generation_at, has_object, inl, inr, is_after, is_kept_fate, is_old_carded, is_set, is_some, lt-ltb, ltb-false, ltb-true, move_at, nat_cmp, nat_lt, not, object_at, or_left, refl, same_Some, same_address, starts_in, subst, sym, true, with_card, ℕ, ◌&&◌, ◌*◌, ◌+◌, ◌-◌, ◌/◌, ◌<◌, ◌^◌, ◌||◌, ◌↔◌, ◌∙◌, ◌≡◌, ◌≢◌, ◌≤◌}
 use Rattle.std.specs.Cmp.{nat_cmp_total}
 use Rattle.hd_model.specs.Heap.{card_of}
 use Rattle.hd_heap.proofs.IndexedLists.{tied, untied}
@@ -98,13 +98,13 @@ pub card_order : (a b : Addr) → a.0 ≤ b.0 → card_of a ≤ card_of b
 unfolding card_of
 card_order a b le = omega arith
 
-pub card_is : (a : Addr) → card_of a ≡ a.0 / 32
+pub card_is : (a : Addr) → card_of a ≡ a.0 / CARD
 unfolding card_of
 card_is a = refl
 
 -- the next object, where it starts in the same card and where it does not
 pub next_within : (h : Heap) (at next : Addr) → IsNext (has_object h) (Some at) next
-    → next.0 / 32 ≡ at.0 / 32 → IsNext (starts_in h (card_of at)) (Some at) next
+    → next.0 / CARD ≡ at.0 / CARD → IsNext (starts_in h (card_of at)) (Some at) next
 next_within h at next is here = record {
   member = starts_from h (card_of at) next is.member (card_is next ∙ here ∙ sym (card_is at));
   beyond = is.beyond;
@@ -112,12 +112,13 @@ next_within h at next is here = record {
 }
 
 pub next_beyond : (h : Heap) (at next : Addr) → IsNext (has_object h) (Some at) next
-    → (next.0 / 32 ≡ at.0 / 32 → ⊥) → (a : Addr) → starts_in h (card_of at) a ≡ true → nat_lt at.0 a.0 ≡ false
+    → (next.0 / CARD ≡ at.0 / CARD → ⊥) → (a : Addr) → starts_in h (card_of at) a ≡ true
+    → nat_lt at.0 a.0 ≡ false
 next_beyond h at next is other a starts = false_from_ne_true (nat_lt at.0 a.0) (λ after.
     let parts = starts_parts h (card_of at) a starts in
     let low = is.least a parts.0 after in
     let high = ltb-true at.0 next.0 is.beyond in
-    let same : a.0 / 32 ≡ at.0 / 32 = sym (card_is a) ∙ parts.1 ∙ card_is at in
+    let same : a.0 / CARD ≡ at.0 / CARD = sym (card_is a) ∙ parts.1 ∙ card_is at in
     other (omega arith))
 
 -- how many addresses of 32 bits there are from a given one on; none where there is none
@@ -207,7 +208,7 @@ pub record IsExactBehind (old h : Heap) (after : Option Addr) : Type 0 where
   pub same : h ≡ record old { cards = h.cards }
   pub needed : (c : ℕ) → c < end → is_set h c ≡ true → NeedsCard old c
   pub kept : (c : ℕ) → NeedsCard old c → is_set h c ≡ true
-  pub is : reach_of after ≡ end * 32
+  pub is : reach_of after ≡ end * CARD
 
 needs_like : (old h : Heap) (c : ℕ) → h ≡ record old { cards = h.cards } → NeedsCard h c → NeedsCard old c
 needs_like old h c same n =
@@ -230,7 +231,7 @@ module _ (old h : Heap) (after : Option Addr) (sound : IsSound h) (grown : (a : 
   beyond : (b : Addr) → r.end ≤ card_of b → is_after after b ≡ true
   beyond b high = by after r.is
     where
-      by : (o : Option Addr) → reach_of o ≡ r.end * 32 → is_after o b ≡ true
+      by : (o : Option Addr) → reach_of o ≡ r.end * CARD → is_after o b ≡ true
       by None e = refl
       by (Some a) e = lt-ltb a.0 b.0 (let is = card_is b in omega arith)
 
@@ -254,13 +255,13 @@ module _ (old h : Heap) (after : Option Addr) (sound : IsSound h) (grown : (a : 
         let high : r.end ≤ card_of b = subst (λ k. r.end ≤ k) (sym p.1) above in
         found.least b (walked b p.0 (ap (is_set h) p.1 ∙ parts.1)) (beyond b high)
 
-    pub exact_less : (last : Addr) → last.0 + 1 ≡ (card_of at + 1) * 32
+    pub exact_less : (last : Addr) → last.0 + 1 ≡ (card_of at + 1) * CARD
         → 2 ^ 32 - reach_of (Some last) < 2 ^ 32 - reach_of after
     exact_less last is =
         (let place = r.is in let up = above in let low = (address_low h sound at parts.0).1 in
         let card = card_is at in omega arith)
 
-    exact_next : (new : Heap) (needed : Bool) (last : Addr) → last.0 + 1 ≡ (card_of at + 1) * 32
+    exact_next : (new : Heap) (needed : Bool) (last : Addr) → last.0 + 1 ≡ (card_of at + 1) * CARD
         → ((needed ≡ true) ↔ NeedsCard h (card_of at)) → new ≡ with_card h (card_of at) needed
         → IsExactBehind old new (Some last)
     exact_next new needed last is decides step = record {
@@ -297,7 +298,7 @@ module _ (old h : Heap) (after : Option Addr) (sound : IsSound h) (grown : (a : 
               absurd (omega arith)
         ]
 
-    pub exact_step : (new : Heap) (last : Addr) → last.0 + 1 ≡ (card_of at + 1) * 32
+    pub exact_step : (new : Heap) (last : Addr) → last.0 + 1 ≡ (card_of at + 1) * CARD
         → IsExactAt h new (card_of at) → IsExactBehind old new (Some last)
     exact_step new last is exact = exact_next new exact.needed last is exact.decides exact.is
 

@@ -1,5 +1,5 @@
 -- Lemmas on the copying of objects.
-use Rattle.hd_plan.proofs.Basics.{Addr, AreCopied, Bool, CanCopy, Dead, Fate, Fits, Followed, HasGone, HasKeptFields, Heap, IsField, List, MayGo, Move, Moves, MovesToNewRegion, None, Option, Pinned, Placed, Region, Room, Some, [], add-one, ap, arith, both_ways, cases_eq, cases_lt, cells_of, cond, cursor_of, drop, drop-drop, false, fields_at, fields_in, filled, forwarded, generation_at, generation_in, get_or-drop, get_other, get_same, has-get, has_object, inl, inr, is_in_use, is_moving, is_some, length, length-drop, length-map, member_same, move_at, object_at, object_in, option_map, placed_at, put_fate, put_move, refl, region_at, region_generation, region_in, region_of, same_address, slice_index, subst, sym, true, unwrap_or, with_fresh, with_moved, ℕ, ◌*◌, ◌+◌, ◌<◌, ◌∙◌, ◌≡◌, ◌≢◌, ◌≤◌}
+use Rattle.hd_plan.proofs.Basics.{Addr, AreCopied, Bool, CanCopy, Dead, Fate, Fits, Followed, HEADER, HasGone, HasKeptFields, Heap, IsField, List, MayGo, Move, Moves, MovesToNewRegion, None, Option, Pinned, Placed, REGION, Region, Room, Some, [], add-one, ap, arith, both_ways, cases_eq, cases_lt, cells_of, cond, cursor_of, drop, drop-drop, false, fields_at, fields_in, filled, forwarded, generation_at, generation_in, get_or-drop, get_other, get_same, has-get, has_object, inl, inr, is_in_use, is_moving, is_some, length, length-drop, length-map, member_same, move_at, object_at, object_in, option_map, placed_at, put_fate, put_move, refl, region_at, region_generation, region_in, region_of, same_address, slice_index, subst, sym, true, unwrap_or, with_fresh, with_moved, ℕ, ◌*◌, ◌+◌, ◌<◌, ◌∙◌, ◌≡◌, ◌≢◌, ◌≤◌}
 use Rattle.hd_heap.proofs.Areas.{some_of}
 use Rattle.hd_plan.specs.Layout.{room_at}
 use Rattle.hd_plan.proofs.{MoveEnds.ends_more, MoveEnds.ends_here, RoomSteps.region_is, RoomSteps.room_cursor}
@@ -70,8 +70,8 @@ module _ (h k : Heap) (r g : ℕ) (fresh : k ≡ with_fresh h r g) where
   fresh_held = ap (λ (x : Heap). is_in_use x r) fresh
       ∙ ap is_some (get_same h.regions r r (record { generation = g; fill = 0 }) refl)
 
-  pub fresh_room : (a : Addr) → cells_of (placed_at h a) ≤ 256
-      → (region_at k r).fill + cells_of (placed_at k a) ≤ 256
+  pub fresh_room : (a : Addr) → cells_of (placed_at h a) ≤ REGION
+      → (region_at k r).fill + cells_of (placed_at k a) ≤ REGION
   fresh_room a small =
       let empty : (region_at k r).fill ≡ 0 = ap (λ (x : Region). x.fill) region_fresh in
       let same : cells_of (placed_at k a) ≡ cells_of (placed_at h a) =
@@ -131,9 +131,10 @@ module _ (place : Addr → Addr) (old h : Heap) (ms : List Move) (i : ℕ) (can 
 
   place_now : Followed (room_at old ms i).cursors (move_at ms i).to (move_at ms i).generation
       (cells_of (placed_at old (move_at ms i).from)) → (is_in_use h (region_of (move_at ms i).to) ≡ true)
-      × ((move_at ms i).to.0 ≡ region_of (move_at ms i).to * 256 +
+      × ((move_at ms i).to.0 ≡ region_of (move_at ms i).to * REGION +
       (region_at h (region_of (move_at ms i).to)).fill)
-      × ((region_at h (region_of (move_at ms i).to)).fill + cells_of (placed_at h (move_at ms i).from) ≤ 256)
+      × ((region_at h (region_of (move_at ms i).to)).fill + cells_of
+      (placed_at h (move_at ms i).from) ≤ REGION)
       × (is_in_use old (region_of (move_at ms i).to) ≡ false)
   place_now f =
       let q = room_at old ms i in
@@ -141,15 +142,16 @@ module _ (place : Addr → Addr) (old h : Heap) (ms : List Move) (i : ℕ) (can 
       let at = (room_cursor old q (can.put i (omega arith)).room (move_at ms i).generation
       (can.generations i low)).fresh f.begun in
       let P : ℕ → Type 0 =
-      λ n. (is_in_use h n ≡ true) × ((move_at ms i).to.0 ≡ n * 256 + (region_at h n).fill) ×
-      ((region_at h n).fill + cells_of (placed_at h (move_at ms i).from) ≤ 256) × (is_in_use old n ≡ false) in
+      λ n. (is_in_use h n ≡ true) × ((move_at ms i).to.0 ≡ n * REGION + (region_at h n).fill) ×
+      ((region_at h n).fill + cells_of (placed_at h (move_at ms i).from) ≤ REGION) × (is_in_use old n ≡ false)
+      in
       let fill : (region_at h s.region).fill ≡ s.fill = ap (λ rs. (region_in rs s.region).fill) regions_now
       ∙ at.1 in
       let cells = cells_same in
       let fits = f.room in
       subst P (sym (region_at_cursor f)) (
         ap (λ rs. fin.contains_key rs s.region) regions_now ∙ at.0.held,
-        f.place ∙ ap (λ n. s.region * 256 + n) (sym fill),
+        f.place ∙ ap (λ n. s.region * REGION + n) (sym fill),
         omega arith,
         at.0.new,
       )
@@ -283,7 +285,7 @@ module _ (place : Addr → Addr) (old h : Heap) (ms : List Move) (i : ℕ) (can 
 
   copy_cells : cells_of (forwarded place (placed_at h (move_at ms i).from))
       ≡ cells_of (placed_at old (move_at ms i).from)
-  copy_cells = ap (λ n. n + 3) (length-map (placed_at h (move_at ms i).from).fields (option_map place))
+  copy_cells = ap (λ n. n + HEADER) (length-map (placed_at h (move_at ms i).from).fields (option_map place))
       ∙ cells_same
 
   step_by : (w : Fate) (new : Heap) → (move_at ms i).fate ≡ w → Fits w old.spare (room_at old ms i).cursors
@@ -299,7 +301,7 @@ module _ (place : Addr → Addr) (old h : Heap) (ms : List Move) (i : ℕ) (can 
       let start : Region = record { generation = m.generation; fill = 0 } in
       let empty : (region_at (with_fresh h n m.generation) n).fill ≡ 0 =
       ap (λ (x : Region). x.fill) (ap (λ o. unwrap_or o no_region) (get_same h.regions n n start refl)) in
-      let key : n * 256 + (region_at (with_fresh h n m.generation) n).fill ≡ m.to.0 =
+      let key : n * REGION + (region_at (with_fresh h n m.generation) n).fill ≡ m.to.0 =
       omega (arith, empty, fits.place) in
       let placed = placed_alike old h m.from from_same in
       let spare : drop 1 h.spare ≡ drop (opened + 1) old.spare = ap (drop 1) spare_now
@@ -315,7 +317,7 @@ module _ (place : Addr → Addr) (old h : Heap) (ms : List Move) (i : ℕ) (can 
   step_by Moves new is fits gone =
       let m = move_at ms i in
       let n = region_of m.to in
-      let at : m.to.0 ≡ n * 256 + (region_at h n).fill = (place_now fits).1 in
+      let at : m.to.0 ≡ n * REGION + (region_at h n).fill = (place_now fits).1 in
       let placed = placed_alike old h m.from from_same in
       moves_on new (ap is_moving is) (gone
       ∙ (λ j. record h {

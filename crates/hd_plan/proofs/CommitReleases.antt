@@ -1,5 +1,5 @@
 -- Lemmas on what is removed.
-use Rattle.hd_plan.proofs.Basics.{Addr, AreGivenUp, AreRemovedIn, Bool, Condemned, Heap, IsRemoved, List, Move, None, Option, Region, Some, ap, arith, both_ways, cases_Bool, cases_eq, cases_lt, condemned_at, false, false≢true, get_left, get_other, get_removed, get_same, has-get, has_object, inl, inr, is_set, is_some, is_staying, length, move_at, nat_cmp, not, refl, region_at, same_address, subst, sym, true, unwrap_or, with_generation, without_region, ℕ, ◌+◌, ◌/◌, ◌<◌, ◌∙◌, ◌≡◌, ◌≢◌}
+use Rattle.hd_plan.proofs.Basics.{Addr, AreGivenUp, AreRemovedIn, Bool, CARD, Condemned, Heap, IsRemoved, List, Move, None, Option, REGION, Region, Some, ap, arith, both_ways, cases_Bool, cases_eq, cases_lt, condemned_at, false, false≢true, get_left, get_other, get_removed, get_same, has-get, has_object, inl, inr, is_set, is_some, is_staying, length, move_at, nat_cmp, not, refl, region_at, same_address, subst, sym, true, unwrap_or, with_generation, without_region, ℕ, ◌+◌, ◌/◌, ◌<◌, ◌∙◌, ◌≡◌, ◌≢◌}
 use Rattle.hd_model.specs.Heap.{region_of, card_of}
 use Rattle.hd_heap.proofs.RegionGiveUp.{object_gone, object_left, card_left}
 use Rattle.hd_plan.proofs.{MoveEnds.ends_more, MoveEnds.ends_here, MoveEnds.ends_cases, CommitCopies.has_alike}
@@ -80,7 +80,7 @@ module _ (here : ℕ → Bool) (old h : Heap) (ms : List Move) (i : ℕ) (r : Ar
   ]
 
 -- a region has eight cards
-card_region : (a : Addr) → card_of a / 8 ≡ region_of a
+card_region : (a : Addr) → card_of a / (REGION / CARD) ≡ region_of a
 unfolding region_of card_of
 card_region a = omega arith
 

@@ -1,5 +1,5 @@
 -- The heap after the moving.
-use Rattle.hd_plan.proofs.Basics.{Addr, AreCarded, ArePut, ChangesRegions, Commits, Contains, HasClosedFields, HasNoEmptyRegion, HasSoundCards, HasStay, Heap, IsCondemnedRegion, IsField, IsKeptAt, IsPacked, List, NamesYounger, NeedsCard, None, Option, Placed, PlanOf, Region, Some, [], and_from, and_parts, ap, arith, both_ways, card_of, cases_Bool, cases_lt, cells_of, condemned_at, false, false_from_ne_true, fields_at, fields_in, fields_placed, forwarded, generation_at, has_object, has_region, id_in, inl, inr, is_carded, is_in_use, is_kept_fate, is_moving, is_older_region, is_set, is_some, kept_in, length, length-map, lt-ltb, ltb-false, ltb-true, map, mapped_from, may_card, member_same, move_at, moved_object, nat_lt, object_at, object_in, option_map, place_in, placed_at, raised, raised_older, refl, region_at, region_generation, region_of, room_at, same_Some, same_address, share, stays_in, subst, sym, true, unwrap_or, used_of, ℕ, ◌&&◌, ◌+◌, ◌<◌, ◌↔◌, ◌∙◌, ◌≡◌, ◌≤◌}
+use Rattle.hd_plan.proofs.Basics.{Addr, AreCarded, ArePut, ChangesRegions, Commits, Contains, HEADER, HasClosedFields, HasNoEmptyRegion, HasSoundCards, HasStay, Heap, IsCondemnedRegion, IsField, IsKeptAt, IsPacked, List, NamesYounger, NeedsCard, None, Option, Placed, PlanOf, Region, Some, [], and_from, and_parts, ap, arith, both_ways, card_of, cases_Bool, cases_lt, cells_of, condemned_at, false, false_from_ne_true, fields_at, fields_in, fields_placed, forwarded, generation_at, has_object, has_region, id_in, inl, inr, is_carded, is_in_use, is_kept_fate, is_moving, is_older_region, is_set, is_some, kept_in, length, length-map, lt-ltb, ltb-false, ltb-true, map, mapped_from, may_card, member_same, move_at, moved_object, nat_lt, object_at, object_in, option_map, place_in, placed_at, raised, raised_older, refl, region_at, region_generation, region_of, room_at, same_Some, same_address, share, stays_in, subst, sym, true, unwrap_or, used_of, ℕ, ◌&&◌, ◌+◌, ◌<◌, ◌↔◌, ◌∙◌, ◌≡◌, ◌≤◌}
 use Rattle.hd_plan.proofs.{CondemnedAddresses.generation_is, CommitCards.has_from, CommitCards.names_back, CommitTotals.sum-coming, KeptMoves.all_put, KeptMoves.moving_kept, KeptMoves.fate_stays, KeptMoves.fate_rests, PackedRegions.IsTaken, PackedRegions.packed, PackedRegions.compact, CommitCopies.get_placed, CommitCopies.has_got, CommitCopies.has_alike, CommitShape.AreSettled, CommitShape.IsCommitting, CommitShape.moves_now, CommitShape.regions_now, CommitShape.closed_now, CommitImage.kept_by, CommitImage.kept_older, CommitImage.place_older, CommitImage.kept_move, CommitImage.place_move, CommitImage.kept_object, CommitImage.from_condemned, CommitImage.stays_there, CommitImage.image_at, CommitImage.image_only, CommitGenerations.AreMoved, CommitGenerations.places_same, CommitGenerations.raised_above, CommitGenerations.raised_some, CommitGenerations.place_generation, CommitGenerations.regions_room, CommitGenerations.region_kept, CommitGenerations.region_older, CommitGenerations.region_raised, CommitGenerations.region_given_up}
 use Rattle.std.specs.FinMap as fin
 
@@ -339,7 +339,7 @@ module _ (p : PlanOf) (old h1 h2 h3 h4 : Heap) (m : AreMoved p old h1 h2 h3 h4) 
         ∙ ending_at h7 same7 o.from kept ∙ ap (option_map (forwarded (place_in p))) there in (
           has_got h7 o.to _ now,
           placed_now o.to _ now
-              ∙ ap (λ n. n + 3) (length-map (placed_at old o.from).fields (option_map (place_in p))),
+              ∙ ap (λ n. n + HEADER) (length-map (placed_at old o.from).fields (option_map (place_in p))),
         )
       where
         placed_now : (a : Addr) (x : Placed) → fin.get h7.objects a.0 ≡ Some x

@@ -1,5 +1,5 @@
 -- A plan is valid for each heap of the same shape as the one for which it was laid.
-use Rattle.hd_plan.proofs.Basics.{Addr, AllocCursors, AreMoves, AreRegions, AreRemovedIn, AreSettledRegions, Basis, CanCopy, Condemned, Fits, HasSoundCards, Heap, IsField, IsLaid, IsSameShape, IsSound, List, Move, None, PlanOf, Room, Some, ap, cells_of, condemned_at, false, fields_at, fields_placed, find_move, generation_at, is_carded, is_condemned, is_in_use, is_kept_by, kept_in, length, member_same, move_at, nat_le, nat_lt, object_at, placed_at, put_fate, raised, region_at, region_generation, region_of, room_of, subst, suc, sym, true, zero, ℕ, ◌&&◌, ◌+◌, ◌<◌, ◌||◌, ◌∙◌, ◌≡◌, ◌≢◌, ◌≤◌}
+use Rattle.hd_plan.proofs.Basics.{Addr, AllocCursors, AreMoves, AreRegions, AreRemovedIn, AreSettledRegions, Basis, CanCopy, Condemned, Fits, HEADER, HasSoundCards, Heap, IsField, IsLaid, IsSameShape, IsSound, List, Move, None, PlanOf, Room, Some, ap, cells_of, condemned_at, false, fields_at, fields_placed, find_move, generation_at, is_carded, is_condemned, is_in_use, is_kept_by, kept_in, length, member_same, move_at, nat_le, nat_lt, object_at, placed_at, put_fate, raised, region_at, region_generation, region_of, room_of, subst, suc, sym, true, zero, ℕ, ◌&&◌, ◌+◌, ◌<◌, ◌||◌, ◌∙◌, ◌≡◌, ◌≢◌, ◌≤◌}
 use Rattle.hd_plan.specs.Layout.{room_at}
 use Rattle.hd_plan.proofs.{CommitCopies.generation_alike, CommitCards.has_from, KeptMoves.generation_some, KeptMoves.are_put, CondemnedAddresses.condemned_of}
 use Rattle.std.specs.FinMap as fin
@@ -25,7 +25,7 @@ module _ (h k : Heap) (s : IsSameShape h k) where
       λ i. there i && nat_le (generation i) n)
 
   shape_cells : (a : Addr) → cells_of (placed_at k a) ≡ cells_of (placed_at h a)
-  shape_cells a = ap (λ fs. length fs + 3) (s.fields a)
+  shape_cells a = ap (λ fs. length fs + HEADER) (s.fields a)
 
   shape_room : (ms : List Move) (i : ℕ) → room_at k ms i ≡ room_at h ms i
   unfolding room_at

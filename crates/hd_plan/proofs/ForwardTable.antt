@@ -1,14 +1,14 @@
 -- The table of new addresses, as it is filled and read.
-use Rattle.hd_plan.proofs.Basics.{Addr, AreListedTo, Condemned, HasMove, HasPlaces, HasRegionRoom, IsAdded, IsJoined, IsRising, List, Move, [], ap, arith, cases_eq, cases_lt, cell_at, condemned_at, false, first_at, get_or, get_or-set_other, get_or-set_same, get_or_read_under, inl, inr, is_last, is_staying, length, length-set, move_at, place_among, place_from, refl, same_address, set, spot_in, spot_of, subst, suc, sym, ℕ, ◌%◌, ◌*◌, ◌++◌, ◌+◌, ◌/◌, ◌<◌, ◌^◌, ◌∙◌, ◌∷◌, ◌≡◌, ◌≢◌, ◌≤◌, ◌⊎◌}
+use Rattle.hd_plan.proofs.Basics.{Addr, AreListedTo, Condemned, HasMove, HasPlaces, HasRegionRoom, IsAdded, IsJoined, IsRising, List, Move, REGION, [], ap, arith, cases_eq, cases_lt, cell_at, condemned_at, false, first_at, get_or, get_or-set_other, get_or-set_same, get_or_read_under, inl, inr, is_last, is_staying, length, length-set, move_at, place_among, place_from, refl, same_address, set, spot_in, spot_of, subst, suc, sym, ℕ, ◌%◌, ◌*◌, ◌++◌, ◌+◌, ◌/◌, ◌<◌, ◌^◌, ◌∙◌, ◌∷◌, ◌≡◌, ◌≢◌, ◌≤◌, ◌⊎◌}
 use Rattle.hd_model.specs.Heap.{region_of}
 use Rattle.hd_plan.proofs.RegionList.{region_once, below_region, joined_region, joined_length, added_length, added_before, added_last, listed_added, listed_fit, listed_next}
 
-pub region_is_quotient : (a : Addr) → region_of a ≡ a.0 / 256
+pub region_is_quotient : (a : Addr) → region_of a ≡ a.0 / REGION
 unfolding region_of
 region_is_quotient a = refl
 
 -- two addresses of one region with one offset are one
-same_spot : (a b : Addr) → region_of a ≡ region_of b → a.0 % 256 ≡ b.0 % 256 → a ≡ b
+same_spot : (a b : Addr) → region_of a ≡ region_of b → a.0 % REGION ≡ b.0 % REGION → a ≡ b
 unfolding region_of
 same_spot a b region offset = same_address a b (omega arith)
 
@@ -58,7 +58,7 @@ module _ (ms : List Move) (rising : IsRising ms) where
 
   places_added : (cs : List Condemned) (i : ℕ) (firsts firsts2 : List ℕ) (cells : List Addr)
       (ds : List Condemned) → AreListedTo ms cs i → i < length ms → HasPlaces ms cs i firsts cells
-      → region_of (move_at ms i).from < length firsts → 256 * (length cs + 1) ≤ length cells
+      → region_of (move_at ms i).from < length firsts → REGION * (length cs + 1) ≤ length cells
       → IsAdded cs ds (move_at ms i) firsts firsts2 → HasPlaces ms ds i firsts2 cells
   places_added cs i firsts firsts2 cells ds listed within places span room is =
       let r : ℕ = region_of (move_at ms i).from in
@@ -98,7 +98,7 @@ module _ (ms : List Move) (rising : IsRising ms) where
 
   pub places_listed : (cs ds : List Condemned) (i : ℕ) (firsts firsts2 : List ℕ) (cells : List Addr)
       → AreListedTo ms cs i → i < length ms → HasPlaces ms cs i firsts cells
-      → region_of (move_at ms i).from < length firsts → 256 * length ds ≤ length cells
+      → region_of (move_at ms i).from < length firsts → REGION * length ds ≤ length cells
       → IsJoined cs ds (move_at ms i) firsts firsts2 ⊎ IsAdded cs ds (move_at ms i) firsts firsts2
       → HasPlaces ms ds i firsts2 cells
   places_listed cs ds i firsts firsts2 cells listed within places span room (inl is) =
@@ -149,7 +149,7 @@ module _ (ms : List Move) (rising : IsRising ms) where
   pub record IsNoted (cs : List Condemned) (i : ℕ) (firsts : List ℕ) (cells : List Addr) : Type 0 where
     pub listed : AreListedTo ms cs (i + 1)
     pub places : HasPlaces ms cs i firsts cells
-    pub room : 256 * first_at firsts (region_of (move_at ms i).from) ≤ length cells
+    pub room : REGION * first_at firsts (region_of (move_at ms i).from) ≤ length cells
 
   pub room_next : (cs : List Condemned) (i room cells : ℕ) → AreListedTo ms cs i → i < length ms
       → HasRegionRoom (HasMove ms) room cells
@@ -176,7 +176,7 @@ module _ (ms : List Move) (rising : IsRising ms) where
       listed_next ms rising cs ds i firsts firsts2 listed within fate in
       let fit = listed_fit ms rising ds (i + 1) is.count next (omega arith) is.count_is in
       let table = is.table in
-      let spots : 256 * length ds ≤ length cells = omega arith in
+      let spots : REGION * length ds ≤ length cells = omega arith in
       let after : HasPlaces ms ds i firsts2 cells =
       places_listed cs ds i firsts firsts2 cells listed within places span spots fate in
       let (q, at) = next.all i (omega arith) in

@@ -1,6 +1,6 @@
 -- What is kept by moves, and where it goes: objects alone, all that is older and in place, and no two to one
 -- address.
-use Rattle.hd_plan.proofs.Basics.{Addr, AllocCursors, AreMoves, ArePut, Bool, Dead, Fate, Fits, Heap, IsCondemned, IsKeeping, IsPut, IsRoom, IsSound, List, Move, Moves, MovesToNewRegion, None, Object, Option, Pinned, Some, ap, arith, cases_Bool, cases_eq, cases_order, cells_of, false, find_move, generation_at, generation_in, has_object, inl, inr, is_kept_by, is_kept_fate, is_moving, is_some, is_staying, le-ltb, length, lt-ltb, ltb-true, min, move_at, nat_lt, object_at, or_cases, or_left, place_by, placed_at, put_move, raised, refl, subst, suc, sym, true, true≢false, young_raised, zero, ℕ, ◌+◌, ◌<◌, ◌||◌, ◌∙◌, ◌≡◌, ◌≢◌, ◌≤◌, ◌⊎◌}
+use Rattle.hd_plan.proofs.Basics.{Addr, AllocCursors, AreMoves, ArePut, Bool, Dead, FIELDS, Fate, Fits, HEADER, Heap, IsCondemned, IsKeeping, IsPut, IsRoom, IsSound, List, Move, Moves, MovesToNewRegion, None, Object, Option, Pinned, Some, ap, arith, cases_Bool, cases_eq, cases_order, cells_of, false, find_move, generation_at, generation_in, has_object, inl, inr, is_kept_by, is_kept_fate, is_moving, is_some, is_staying, le-ltb, length, lt-ltb, ltb-true, min, move_at, nat_lt, object_at, or_cases, or_left, place_by, placed_at, put_move, raised, refl, subst, suc, sym, true, true≢false, young_raised, zero, ℕ, ◌+◌, ◌<◌, ◌||◌, ◌∙◌, ◌≡◌, ◌≢◌, ◌≤◌, ◌⊎◌}
 use Rattle.hd_plan.specs.Layout.{room_at}
 use Rattle.hd_plan.proofs.{CondemnedAddresses.condemned_of, MoveSearch.find_at, MoveSearch.find_none, MoveSearch.find_some, MoveSearch.IsFound, RoomSteps.room_start, RoomSteps.goes, RoomSteps.Goes}
 
@@ -55,7 +55,7 @@ pub record IsMovedBy (ms : List Move) (a : Addr) (k : ℕ) : Type 0 where
 
 module _ (h : Heap) (n : ℕ) (sound : IsSound h) where
   pub cells_some : (a : Addr) → has_object h a ≡ true → (0 < cells_of (placed_at h a))
-      × (cells_of (placed_at h a) ≤ 64)
+      × (cells_of (placed_at h a) ≤ FIELDS + HEADER)
   cells_some a is = (omega arith, let few = sound.few_fields a is in omega arith)
 
   pub raised_some : (a : Addr) → IsCondemned (object_at h) n a

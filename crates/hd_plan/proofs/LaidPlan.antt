@@ -1,5 +1,5 @@
 -- All that is condemned has a move, and all regions are listed: the plan is laid.
-use Rattle.hd_plan.proofs.Basics.{Addr, AreChosen, AreListedTo, AreMoves, AreRegions, Bool, Condemned, CondemnedObject, Counts, HasCondemned, HasMove, HasNoEmptyCondemned, HasRegionRoom, Heap, IsClosed, IsCondemned, IsField, IsLaid, IsPlan, IsSettled, IsSound, List, Move, PlanOf, [], and_from, and_parts, ap, arith, cases_eq, cond, count_by, counts_like, false, first_at, has_object, inl, inr, is_in_use, is_kept_fate, is_staying, kept_in, length, move_at, not, not-true, object_at, objects_of, place_among, place_in, raised, refl, region_generation, region_of, room_at, stays_among, stays_in, subst, suc, sum_by-cons, sym, true, true≢false, zero, ℕ, ◌+◌, ◌-◌, ◌<◌, ◌^◌, ◌∙◌, ◌∷◌, ◌≡◌, ◌≤◌}
+use Rattle.hd_plan.proofs.Basics.{Addr, AreChosen, AreListedTo, AreMoves, AreRegions, Bool, Condemned, CondemnedObject, Counts, HasCondemned, HasMove, HasNoEmptyCondemned, HasRegionRoom, Heap, IsClosed, IsCondemned, IsField, IsLaid, IsPlan, IsSettled, IsSound, List, Move, PlanOf, REGION, [], and_from, and_parts, ap, arith, cases_eq, cond, count_by, counts_like, false, first_at, has_object, inl, inr, is_in_use, is_kept_fate, is_staying, kept_in, length, move_at, not, not-true, object_at, objects_of, place_among, place_in, raised, refl, region_generation, region_of, room_at, stays_among, stays_in, subst, suc, sum_by-cons, sym, true, true≢false, zero, ℕ, ◌+◌, ◌-◌, ◌<◌, ◌^◌, ◌∙◌, ◌∷◌, ◌≡◌, ◌≤◌}
 use Rattle.hd_plan.proofs.{CondemnedAddresses.condemned_is, CondemnedAddresses.older_or_young, CondemnedAddresses.same_tests, CondemnedAddresses.generation_is, KeptMoves.is_condemned_at, KeptMoves.kept, KeptMoves.place, KeptMoves.older_kept, KeptMoves.older_place, KeptMoves.move_kept, KeptMoves.move_place, KeptMoves.kept_cases, KeptMoves.keeping, KeptMoves.unmoved, KeptMoves.fate_rests, MoveWeights.counts_moves, MoveWeights.stays_counted, ForwardTable.place_none, ForwardTable.place_some, LayStep.address_low}
 
 one_of : (b : Bool) → cond {A = ℕ} b 1 0 + cond {A = ℕ} (not b) 1 0 ≡ 1
@@ -170,7 +170,7 @@ place_found p objects room_ms room_cs firsts cells laid is a kept_is =
 
 -- the moves are fewer than there are addresses
 rising_far : (h : Heap) (n : ℕ) → IsSound h → (ms : List Move) → AreMoves h n ms → (k : ℕ) → k < length ms
-    → k + 256 ≤ (move_at ms k).from.0
+    → k + REGION ≤ (move_at ms k).from.0
 rising_far h n sound ms moves zero low =
     (address_low h sound (move_at ms 0).from (is_condemned_at h n sound ms moves 0 low).object).0
 rising_far h n sound ms moves (suc k) low =

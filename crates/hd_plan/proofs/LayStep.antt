@@ -1,5 +1,5 @@
 -- One object more is laid, and at the end all are.
-use Rattle.hd_plan.proofs.Basics.{Addr, AllocCursors, AreChosen, AreMoves, Bool, CanPut, Fits, FitsMove, HasFreeRegions, Heap, IsCondemned, IsMoveOf, IsNext, IsRising, IsRoom, IsSound, List, Move, None, Option, Room, Some, [], ap, arith, cases_Bool, cases_eq, cells_of, cond, false, generation_at, get_or_append_left, get_or_at, has_object, inl, inr, is_after, is_condemned, is_kept_fate, is_moving, is_staying, le-ltb, length, length-append, ltb-false, ltb-true, move_at, object_at, placed_at, put_cursors, put_move, raised, refl, region_of, room_of, same_address, subst, suc, sum_by_push, sym, true, true≢false, zero, ℕ, ◌&&◌, ◌++◌, ◌+◌, ◌<◌, ◌^◌, ◌∙◌, ◌∷◌, ◌≡◌, ◌≤◌, ◌⊎◌}
+use Rattle.hd_plan.proofs.Basics.{Addr, AllocCursors, AreChosen, AreMoves, Bool, CanPut, FIELDS, Fits, FitsMove, HEADER, HasFreeRegions, Heap, IsCondemned, IsMoveOf, IsNext, IsRising, IsRoom, IsSound, List, Move, None, Option, REGION, Room, Some, [], ap, arith, cases_Bool, cases_eq, cells_of, cond, false, generation_at, get_or_append_left, get_or_at, has_object, inl, inr, is_after, is_condemned, is_kept_fate, is_moving, is_staying, le-ltb, length, length-append, ltb-false, ltb-true, move_at, object_at, placed_at, put_cursors, put_move, raised, refl, region_of, room_of, same_address, subst, suc, sum_by_push, sym, true, true≢false, zero, ℕ, ◌&&◌, ◌++◌, ◌+◌, ◌<◌, ◌^◌, ◌∙◌, ◌∷◌, ◌≡◌, ◌≤◌, ◌⊎◌}
 use Rattle.hd_plan.specs.Layout.{room_at}
 use Rattle.hd_plan.proofs.{CondemnedAddresses.condemned_of, KeptMoves.raised_some, KeptMoves.cells_some, MoveWeights.cells_laid, MoveWeights.cells_fit, RoomSteps.region_low, RoomSteps.region_high, RoomSteps.goes, RoomSteps.can_put, RoomSteps.room_start}
 
@@ -196,7 +196,8 @@ reach_on None at e = omega arith
 reach_on (Some b) at e = let l = ltb-true b.0 at.0 e in omega arith
 
 -- addresses of objects have 32 bits
-pub address_low : (h : Heap) → IsSound h → (a : Addr) → has_object h a ≡ true → (256 ≤ a.0) × (a.0 < 2 ^ 32)
+pub address_low : (h : Heap) → IsSound h → (a : Addr) → has_object h a ≡ true → (REGION ≤ a.0) ×
+    (a.0 < 2 ^ 32)
 address_low h sound a is =
     let number = sound.numbers (region_of a) (sound.held a is) in
     (let some = number.0 in omega (arith, region_low a), let low = number.1 in omega (arith, region_high a))
@@ -224,7 +225,7 @@ module _ (h : Heap) (n : ℕ) (sound : IsSound h) (promoted pinned : Addr → Bo
       let condemned : IsCondemned (object_at h) n m.from = condemned_of h n m.from next.member in
       let young : (0 < m.generation) × (m.generation ≤ 2) =
       subst (λ (x : ℕ). (0 < x) × (x ≤ 2)) (sym is.generation) (raised_some h n sound m.from condemned) in
-      let small : (0 < cells) × (cells ≤ 64) = cells_some h n sound m.from condemned.object in
+      let small : (0 < cells) × (cells ≤ FIELDS + HEADER) = cells_some h n sound m.from condemned.object in
       let fits : FitsMove h q m = subst (λ (s : AllocCursors).
       Fits m.fate h.spare s m.from m.to m.generation cells) (sym laying.cursors_are) is.fits in
       let more = room_pushed h ms m in

@@ -1,5 +1,5 @@
 -- The regions that are not older after the moving: each has an object that stays, or was opened.
-use Rattle.hd_plan.proofs.Basics.{Addr, AllPairs, AreMoves, Bool, Contains, FinMap, HasStay, Heap, IsPacked, IsSound, IsYoungRegion, List, Move, WasFree, [], ap, arith, cases_Bool, cells_of, cond, counts_keys, counts_le, counts_where, false, fewer, filter, first_in, get, get_left, get_or-take, has-get, has_object, inl, inr, is_in_use, is_moving, is_older_region, is_staying, later_in, len, length, length-append, length-filter, length-map, length-take, lighter, map, mapped_in, member_at, member_cases, move_at, nat_cmp, nat_lt, not, not-true, not_in_none, pairs_cons, pairs_first, pairs_none, pairs_passing, pairs_rest, passing_from, passing_in, placed_at, refl, region_at, region_generation, region_of, remove, same_address, share, stays_among, subst, suc, sum-remove, sum_by, sum_by-cons, sym, take, true, used_of, values, zero, ℕ, ⊎_elim, ◌&&◌, ◌++◌, ◌+◌, ◌/◌, ◌<◌, ◌∙◌, ◌∷◌, ◌≡◌, ◌≢◌, ◌≤◌, ◌⊎◌}
+use Rattle.hd_plan.proofs.Basics.{Addr, AllPairs, AreMoves, Bool, Contains, FinMap, HasStay, Heap, IsPacked, IsSound, IsYoungRegion, LEFT, List, Move, OPEN, WasFree, [], ap, arith, cases_Bool, cells_of, cond, counts_keys, counts_le, counts_where, false, fewer, filter, first_in, get, get_left, get_or-take, has-get, has_object, inl, inr, is_in_use, is_moving, is_older_region, is_staying, later_in, len, length, length-append, length-filter, length-map, length-take, lighter, map, mapped_in, member_at, member_cases, move_at, nat_cmp, nat_lt, not, not-true, not_in_none, pairs_cons, pairs_first, pairs_none, pairs_passing, pairs_rest, passing_from, passing_in, placed_at, refl, region_at, region_generation, region_of, remove, same_address, share, stays_among, subst, suc, sum-remove, sum_by, sum_by-cons, sym, take, true, used_of, values, zero, ℕ, ⊎_elim, ◌&&◌, ◌++◌, ◌+◌, ◌/◌, ◌<◌, ◌∙◌, ◌∷◌, ◌≡◌, ◌≢◌, ◌≤◌, ◌⊎◌}
 use Rattle.std.proofs.lemmas.List.Elements.{Contains-append_left, Contains-append_right}
 use Rattle.hd_plan.specs.Layout.{room_at}
 use Rattle.hd_plan.proofs.{CommitCopies.get_placed, KeptMoves.all_put, MoveWeights.stays_counted, RoomSteps.begun_most}
@@ -189,7 +189,7 @@ sum_within f w (x ∷ xs) m apart found =
 
 -- where no region is older, all are counted
 pub compact : (h new : Heap) (n stays : ℕ) → ((r : ℕ) → is_older_region h n r ≡ false)
-    → IsPacked h new n stays → len new.regions ≤ used_of new / 193 + 3 + stays
+    → IsPacked h new n stays → len new.regions ≤ used_of new / LEFT + OPEN + stays
 compact h new n stays young is =
     let keys = counts_keys new.regions (λ r. r) (λ r. r) (λ r. refl) (λ r. refl) in
     let all = counts_le (λ r. is_in_use new r ≡ true) (IsYoungRegion h new n) (len new.regions) is.regions

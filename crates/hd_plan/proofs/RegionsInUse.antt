@@ -1,5 +1,5 @@
 -- Each region in use has an object: what keeps it so.
-use Rattle.hd_plan.proofs.Basics.{Addr, Contains, HasNoEmptyRegion, Heap, IsField, IsMade, None, Object, Objects, Option, Placed, Region, Some, ap, cases_eq, empty_heap, false, fields_in, get_other, get_same, has-get, has_object, inl, inr, is_in_use, is_object, is_some, nat_cmp, not_in_none, refl, region_at, region_of, subst, sym, true, true≢false, with_generation, with_put, ℕ, ◌*◌, ◌+◌, ◌∙◌, ◌≡◌}
+use Rattle.hd_plan.proofs.Basics.{Addr, Contains, HasNoEmptyRegion, Heap, IsField, IsMade, None, Object, Objects, Option, Placed, REGION, Region, Some, ap, cases_eq, empty_heap, false, fields_in, get_other, get_same, has-get, has_object, inl, inr, is_in_use, is_object, is_some, nat_cmp, not_in_none, refl, region_at, region_of, subst, sym, true, true≢false, with_generation, with_put, ℕ, ◌*◌, ◌+◌, ◌∙◌, ◌≡◌}
 use Rattle.std.specs.FinMap as map
 
 -- free regions do not count
@@ -30,14 +30,15 @@ still_there h k o a is = elim (cases_eq a.0 k) [
 
 -- a new object is in the region that may have come into use
 put_filled : (h : Heap) (at : Addr) (o : Placed)
-    → at.0 ≡ region_of at * 256 + (region_at h (region_of at)).fill → HasNoEmptyRegion h
+    → at.0 ≡ region_of at * REGION + (region_at h (region_of at)).fill → HasNoEmptyRegion h
     → HasNoEmptyRegion (with_put h (region_of at) 0 o)
 put_filled h at o place full r held =
     elim (cases_eq r (region_of at)) [
       | inl same ↦ record {
         at = at;
         object = has-get (with_put h (region_of at) 0 o) at
-            ∙ ap is_some (get_same h.objects (region_of at * 256 + (region_at h (region_of at)).fill) at.0 o
+            ∙ ap is_some (get_same h.objects (region_of at * REGION + (region_at h (region_of at)).fill) at.0
+            o
             place);
         region = sym same;
       }

@@ -1,5 +1,5 @@
 -- The room while objects are laid: each fate of an object keeps what is true of it.
-use Rattle.hd_plan.proofs.Basics.{Addr, AllocCursors, Bool, CanPut, Dead, Fate, FinMap, Fits, Followed, HasSlack, Heap, IsCursor, IsFresh, IsPut, IsRoom, IsSound, Moves, MovesToNewRegion, Opened, Option, Pinned, Region, Room, Some, WasFree, ap, arith, begun, cases_eq, cond, cursor_of, eq-eqb, false, filled, followed_cursor, get, get_other, get_same, has_region, inl, inr, insert, is_in_use, is_moving, is_some, length, nat_cmp, ne_eqb, opened_cursor, put_fate, refl, region_in, room_of, slice_index, subst, sym, true, true≢false, unwrap_or, with_cursor, ℕ, ⊎_elim, ◌*◌, ◌+◌, ◌/◌, ◌<◌, ◌^◌, ◌∙◌, ◌≡◌, ◌≢◌, ◌≤◌, ◌⊎◌}
+use Rattle.hd_plan.proofs.Basics.{Addr, AllocCursors, Bool, CanPut, Dead, FIELDS, Fate, FinMap, Fits, Followed, HEADER, HasSlack, Heap, IsCursor, IsFresh, IsPut, IsRoom, IsSound, LEFT, Moves, MovesToNewRegion, OPEN, Opened, Option, Pinned, REGION, Region, Room, Some, WasFree, ap, arith, begun, cases_eq, cond, cursor_of, eq-eqb, false, filled, followed_cursor, get, get_other, get_same, has_region, inl, inr, insert, is_in_use, is_moving, is_some, length, nat_cmp, ne_eqb, opened_cursor, put_fate, refl, region_in, room_of, slice_index, subst, sym, true, true≢false, unwrap_or, with_cursor, ℕ, ⊎_elim, ◌*◌, ◌+◌, ◌/◌, ◌<◌, ◌^◌, ◌∙◌, ◌≡◌, ◌≢◌, ◌≤◌, ◌⊎◌}
 use Rattle.hd_model.specs.Heap.{region_of}
 use Rattle.hd_plan.specs.declared.cursors.AllocCursor.{AllocCursor}
 
@@ -7,15 +7,15 @@ abbrev Regions : Type 0
 Regions = FinMap nat_cmp Region
 
 -- the region of an address
-pub region_is : (a : Addr) (r off : ℕ) → a.0 ≡ r * 256 + off → off < 256 → region_of a ≡ r
+pub region_is : (a : Addr) (r off : ℕ) → a.0 ≡ r * REGION + off → off < REGION → region_of a ≡ r
 unfolding region_of
 region_is a r off place low = omega arith
 
-pub region_low : (a : Addr) → region_of a * 256 ≤ a.0
+pub region_low : (a : Addr) → region_of a * REGION ≤ a.0
 unfolding region_of
 region_low a = omega arith
 
-pub region_high : (a : Addr) → a.0 < region_of a * 256 + 256
+pub region_high : (a : Addr) → a.0 < region_of a * REGION + REGION
 unfolding region_of
 region_high a = omega arith
 
@@ -33,11 +33,11 @@ begun_most c = elim (cases_eq c.region 0) [
 
 -- the bounds of a cursor
 pub cursor_bounds : (h : Heap) (s : AllocCursors) → CanPut h s → (g : ℕ) → ((cursor_of s g).region < 2 ^ 24)
-    × ((cursor_of s g).fill ≤ 256)
+    × ((cursor_of s g).fill ≤ REGION)
 cursor_bounds h s can g = elim (cases_eq g 1) [
-  | inl one ↦ subst (λ (x : AllocCursor). (x.region < 2 ^ 24) × (x.fill ≤ 256))
+  | inl one ↦ subst (λ (x : AllocCursor). (x.region < 2 ^ 24) × (x.fill ≤ REGION))
       (sym (ap (λ b. cond b s.first s.second) (eq-eqb g 1 one))) can.first
-  | inr other ↦ subst (λ (x : AllocCursor). (x.region < 2 ^ 24) × (x.fill ≤ 256))
+  | inr other ↦ subst (λ (x : AllocCursor). (x.region < 2 ^ 24) × (x.fill ≤ REGION))
       (sym (ap (λ b. cond b s.first s.second) (ne_eqb g 1 other))) can.second
 ]
 
@@ -102,13 +102,13 @@ module _ (h : Heap) where
     before : has_region q.regions c.region ≡ true → (region_in q.regions c.region).generation ≡ g
     grows : has_region q.regions c.region ≡ true → (region_in q.regions c.region).fill ≤ c.fill
     young : (0 < g) × (g ≤ 2)
-    fits : c.fill ≤ 256
+    fits : c.fill ≤ REGION
     first : p.cursors.first ≡ (with_cursor q.cursors g c).first
     second : p.cursors.second ≡ (with_cursor q.cursors g c).second
     more : q.cursors.opened ≤ p.cursors.opened
     was : WasFree h p.cursors.opened c.region
-    weighs : 193 * p.cursors.opened + c.fill + 193 * begun (cursor_of q.cursors g) + q.cells
-        ≤ 193 * q.cursors.opened + (cursor_of q.cursors g).fill + p.cells + 193
+    weighs : LEFT * p.cursors.opened + c.fill + LEFT * begun (cursor_of q.cursors g) + q.cells
+        ≤ LEFT * q.cursors.opened + (cursor_of q.cursors g).fill + p.cells + LEFT
 
   -- an object meets its fate, and is put where it moves
   pub record Goes (moving : Bool) (q p : Room) (to : Addr) (g cells : ℕ) : Type 0 where
@@ -185,8 +185,8 @@ module _ (h : Heap) where
 
       -- the slack, where a is the cursor that has changed and b the other
       slack_two : (a b d e : AllocCursor) → cursor_of q.cursors g ≡ a → d ≡ c → e ≡ b
-          → 193 * q.cursors.opened + (a.fill + b.fill) ≤ q.cells + 193 * (begun a + begun b)
-          → 193 * p.cursors.opened + (d.fill + e.fill) ≤ p.cells + 193 * (begun d + begun e)
+          → LEFT * q.cursors.opened + (a.fill + b.fill) ≤ q.cells + LEFT * (begun a + begun b)
+          → LEFT * p.cursors.opened + (d.fill + e.fill) ≤ p.cells + LEFT * (begun d + begun e)
       slack_two a b d e at own other slack =
           let known = ap {B = ℕ} (λ x. x.fill) at in
           let also = ap {B = ℕ} (λ x. x.fill) own in
@@ -257,7 +257,7 @@ module _ (h : Heap) where
       ]
 
       -- and what is put is put, apart from what was
-      moves : (to : Addr) (cells : ℕ) → region_of to ≡ c.region → to.0 + cells ≤ c.region * 256 + c.fill
+      moves : (to : Addr) (cells : ℕ) → region_of to ≡ c.region → to.0 + cells ≤ c.region * REGION + c.fill
           → ((x : Addr) (k n : ℕ) → IsPut h q.regions x k n → 0 < n → x ≢ to) → Goes true q p to g cells
       moves to cells same low apart = record {
         room = put_room;
@@ -289,7 +289,7 @@ module _ (h : Heap) where
         })
 
     module _ (q : Room) (room : IsRoom h q) (from to : Addr) (g cells : ℕ) (young : (0 < g) × (g ≤ 2))
-        (small : (0 < cells) × (cells ≤ 64)) where
+        (small : (0 < cells) × (cells ≤ FIELDS + HEADER)) where
       -- the region that is opened was not in use
       opened_new : q.cursors.opened < length h.spare
           → has_region q.regions (slice_index h.spare q.cursors.opened) ≡ true → ⊥
@@ -361,7 +361,7 @@ module _ (h : Heap) where
 
     -- there is room for one object more
     pub can_put : (q : Room) → IsRoom h q → (cells : ℕ) → q.cells ≤ cells → cells < 2 ^ 38
-        → cells / 193 + 3 ≤ length h.spare → CanPut h q.cursors
+        → cells / LEFT + OPEN ≤ length h.spare → CanPut h q.cursors
     can_put q room cells within small enough = record {
       first = low 1 q.cursors.first room.first;
       second = low 2 q.cursors.second room.second;
@@ -371,7 +371,7 @@ module _ (h : Heap) where
           omega (arith, begun_most q.cursors.first, begun_most q.cursors.second));
     }
       where
-        low : (g : ℕ) (c : AllocCursor) → IsCursor h q.regions g c → (c.region < 2 ^ 24) × (c.fill ≤ 256)
+        low : (g : ℕ) (c : AllocCursor) → IsCursor h q.regions g c → (c.region < 2 ^ 24) × (c.fill ≤ REGION)
         low g c is = (
           elim (cases_eq c.region 0) [
             | inl none ↦ omega (arith, none)

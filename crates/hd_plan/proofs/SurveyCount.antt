@@ -1,5 +1,5 @@
 -- What a survey says of all that is condemned.
-use Rattle.hd_plan.proofs.Basics.{Addr, AllPairs, AreSurveyed, CondemnedObject, Contains, Heap, IsCondemned, IsExtent, IsSurvey, List, Survey, Takes, [], ap, arith, cells_of, cells_surveyed, first_in, get_or-map, get_or_default, later_in, length, length-map, map, mapped_from, object_at, placed_at, refl, subst, sum_by, sum_by-cons, surveyed, sym, true, ℕ, ◌+◌, ◌∙◌, ◌∷◌, ◌≡◌, ◌≢◌}
+use Rattle.hd_plan.proofs.Basics.{Addr, AllPairs, AreSurveyed, CondemnedObject, Contains, HEADER, Heap, IsCondemned, IsExtent, IsSurvey, List, Survey, Takes, [], ap, arith, cells_of, cells_surveyed, first_in, get_or-map, get_or_default, later_in, length, length-map, map, mapped_from, object_at, placed_at, refl, subst, sum_by, sum_by-cons, surveyed, sym, true, ℕ, ◌+◌, ◌∙◌, ◌∷◌, ◌≡◌, ◌≢◌}
 use Rattle.hd_plan.proofs.{CondemnedAddresses.condemned_of, CondemnedAddresses.condemned_is, MoveWeights.sum_map}
 
 -- sums of what is the same at each member
@@ -21,7 +21,7 @@ module _ (h : Heap) (n : ℕ) (s : List CondemnedObject) (is : AreSurveyed h n s
   cells_same : (o : CondemnedObject) → Contains s o → cells_of (placed_at h o.at) ≡ cells_surveyed o
   cells_same o c =
       subst (λ (x : CondemnedObject). cells_of (placed_at h x.at) ≡ cells_surveyed x) (read_at o c)
-      (ap (λ k. k + 3) (sym (is.fields c.0 c.1)))
+      (ap (λ k. k + HEADER) (sym (is.fields c.0 c.1)))
 
   addresses_apart : AllPairs (λ x y. x ≢ y) addresses
   addresses_apart = λ i j d less high same.

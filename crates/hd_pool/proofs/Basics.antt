@@ -15,3 +15,5 @@ pub use Rattle.hd_model.proofs.IndexedItems.{by_place-clear, by_place-empty, by_
 pub use Rattle.hd_pool.specs.Inside.{HasFree, IsPool, kind_at, place_of}
 pub use Rattle.hd_pool.specs.Masks.{HasAllOf, HasNoneBetween, Held, IsLeastBetween, is_marked, numbers_of, set_of}
 pub use Rattle.hd_pool.specs.Pool.{FreeSlots, HasNoneFor, IsFreeFor, IsLeastFreeFor, IsLeastWholeOf, IsWholeOf}
+pub use Rattle.hd_model.specs.declared.limits.TheConstants.{BLOCKS, ROWS}
+pub use Rattle.hd_mask.specs.declared.TheConstants.{BITS}

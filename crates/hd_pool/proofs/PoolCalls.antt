@@ -1,5 +1,5 @@
 -- What each call of a pool does to its fields and to the set of free slots.
-use Rattle.hd_pool.proofs.Basics.{Bool, FinSet, FreeSlots, HasAllOf, HasFree, HasNoneBetween, HasNoneFor, Held, IfNone, IfSome, IsFreeFor, IsLeastBetween, IsLeastFreeFor, IsLeastWholeOf, IsPool, IsSome, IsWholeOf, List, None, Option, Some, ap, arith, both_ways, by_place-clear, by_place-put, cases_eq, cases_lt, contains, contains-empty, difference, empty, false, get, get-by_place, get_or, get_or-set_other, get_or-set_same, get_or_past, get_or_read, inl, inr, insert, is_some, kind_at, length, length-set, nat_cmp, numbers_of, place_of, refl, remove, same_Some, set, subst, sym, true, union, ℕ, ◌*◌, ◌+◌, ◌-◌, ◌/◌, ◌<◌, ◌∙◌, ◌≡◌, ◌≢◌, ◌≤◌, ◌⊎◌}
+use Rattle.hd_pool.proofs.Basics.{BLOCKS, Bool, FinSet, FreeSlots, HasAllOf, HasFree, HasNoneBetween, HasNoneFor, Held, IfNone, IfSome, IsFreeFor, IsLeastBetween, IsLeastFreeFor, IsLeastWholeOf, IsPool, IsSome, IsWholeOf, List, None, Option, ROWS, Some, ap, arith, both_ways, by_place-clear, by_place-put, cases_eq, cases_lt, contains, contains-empty, difference, empty, false, get, get-by_place, get_or, get_or-set_other, get_or-set_same, get_or_past, get_or_read, inl, inr, insert, is_some, kind_at, length, length-set, nat_cmp, numbers_of, place_of, refl, remove, same_Some, set, subst, sym, true, union, ℕ, ◌*◌, ◌+◌, ◌-◌, ◌/◌, ◌<◌, ◌∙◌, ◌≡◌, ◌≢◌, ◌≤◌, ◌⊎◌}
 use Rattle.hd_model.specs.{declared.data.Kind.Kind, declared.data.Slot.Slot, Kinds.kind_number, Indexed.by_place}
 use Rattle.hd_model.proofs.KindTests.{same_number, few_kinds}
 use Rattle.hd_pool.proofs.SetMembers.{insert_same, insert_other, insert_keeps, remove_same, remove_other, union_same, union_other, difference_same, difference_other}
@@ -33,10 +33,10 @@ seen kinds free = record { blocks = length kinds - 1; kinds = by_place kinds; fr
 
 module _ {kinds : List (Option Kind)} {free ready : Held} (inv : IsPool kinds free ready) where
   -- a block that was added is small
-  pub block_small : (block : ℕ) → IsSome (kind_at kinds block) → block ≤ 256
+  pub block_small : (block : ℕ) → IsSome (kind_at kinds block) → block ≤ BLOCKS
   block_small block there = omega (arith, kind_within kinds block there, inv.limit)
 
-  pub place_small : (k : Kind) (block : ℕ) → block ≤ 256 → place_of k block < ready.room
+  pub place_small : (k : Kind) (block : ℕ) → block ≤ BLOCKS → place_of k block < ready.room
   place_small k block small = omega (arith, few_kinds k, inv.ready_room)
 
   -- ---- a block is added
@@ -50,25 +50,25 @@ module _ {kinds : List (Option Kind)} {free ready : Held} (inv : IsPool kinds fr
       limit = omega (arith, inv.limit, length-set kinds block (Some k));
       room = omega (arith, inv.room, length-set kinds block (Some k));
       ready_room = inv.ready_room;
-      added = λ slot member. elim (cases_eq (slot / 64) block) [
-        | inl e ↦ ap is_some (here (slot / 64) e)
-        | inr apart ↦ ap is_some (other (slot / 64) apart)
+      added = λ slot member. elim (cases_eq (slot / ROWS) block) [
+        | inl e ↦ ap is_some (here (slot / ROWS) e)
+        | inr apart ↦ ap is_some (other (slot / ROWS) apart)
             ∙ inv.added slot (sym (union_other block slot free.members apart) ∙ member)
       ];
-      opened = λ j slot of_kind member. elim (cases_eq (slot / 64) block) [
-        | inl e ↦ insert_same ready.members (place_of k block) (place_of j (slot / 64))
-            (λ i. place_of (same_Some j k (sym of_kind ∙ here (slot / 64) e) i) (e i))
-        | inr apart ↦ insert_keeps ready.members (place_of k block) (place_of j (slot / 64))
-            (inv.opened j slot (sym (other (slot / 64) apart) ∙ of_kind)
+      opened = λ j slot of_kind member. elim (cases_eq (slot / ROWS) block) [
+        | inl e ↦ insert_same ready.members (place_of k block) (place_of j (slot / ROWS))
+            (λ i. place_of (same_Some j k (sym of_kind ∙ here (slot / ROWS) e) i) (e i))
+        | inr apart ↦ insert_keeps ready.members (place_of k block) (place_of j (slot / ROWS))
+            (inv.opened j slot (sym (other (slot / ROWS) apart) ∙ of_kind)
             (sym (union_other block slot free.members apart) ∙ member))
       ];
       has_free = λ j b small member. elim (cases_eq (place_of j b) (place_of k block)) [
         | inl e ↦ let same = same_place j k b block small (omega (arith, inv.limit)) e in (
           here b same.1 ∙ ap Some (sym same.0),
           record {
-            slot = 64 * b;
+            slot = ROWS * b;
             of_block = omega arith;
-            free = union_same block (64 * b) free.members (omega (arith, same.1));
+            free = union_same block (ROWS * b) free.members (omega (arith, same.1));
           },
         )
         | inr apart ↦ let old = inv.has_free j b small
@@ -95,7 +95,7 @@ module _ {kinds : List (Option Kind)} {free ready : Held} (inv : IsPool kinds fr
 
   -- ---- a slot is taken
 
-  module _ {k : Kind} (slot : ℕ) (of_kind : kind_at kinds (slot / 64) ≡ Some k) where
+  module _ {k : Kind} (slot : ℕ) (of_kind : kind_at kinds (slot / ROWS) ≡ Some k) where
     kept_member : (q : ℕ) → contains (remove free.members slot) q ≡ true → contains free.members q ≡ true
     kept_member q member =
         elim (cases_eq q slot) [
@@ -104,7 +104,7 @@ module _ {kinds : List (Option Kind)} {free ready : Held} (inv : IsPool kinds fr
         ]
 
     -- its block has another free slot
-    pub taken : HasFree (record free { members = remove free.members slot }) (slot / 64)
+    pub taken : HasFree (record free { members = remove free.members slot }) (slot / ROWS)
         → IsPool kinds (record free { members = remove free.members slot }) ready
     taken left = record {
       some = inv.some;
@@ -115,22 +115,23 @@ module _ {kinds : List (Option Kind)} {free ready : Held} (inv : IsPool kinds fr
       opened = λ j q is member. inv.opened j q is (kept_member q member);
       has_free = λ j b small member. let old = inv.has_free j b small member in (
         old.0,
-        elim (cases_eq b (slot / 64)) [
+        elim (cases_eq b (slot / ROWS)) [
           | inl e ↦ subst (HasFree (record free { members = remove free.members slot })) (sym e) left
           | inr apart ↦ record {
             slot = old.1.slot;
             of_block = old.1.of_block;
             free = remove_other free.members slot old.1.slot
-                (λ e. apart (sym old.1.of_block ∙ ap (λ x. x / 64) e)) ∙ old.1.free;
+                (λ e. apart (sym old.1.of_block ∙ ap (λ x. x / ROWS) e)) ∙ old.1.free;
           }
         ],
       );
     }
 
     -- it was the last free slot of its block
-    pub taken_last : HasNoneBetween (remove free.members slot) (64 * (slot / 64)) (64 * (slot / 64 + 1))
+    pub taken_last : HasNoneBetween (remove free.members slot) (ROWS * (slot / ROWS))
+        (ROWS * (slot / ROWS + 1))
         → IsPool kinds (record free { members = remove free.members slot })
-        (record ready { members = remove ready.members (place_of k (slot / 64)) })
+        (record ready { members = remove ready.members (place_of k (slot / ROWS)) })
     taken_last none = record {
       some = inv.some;
       limit = inv.limit;
@@ -138,24 +139,24 @@ module _ {kinds : List (Option Kind)} {free ready : Held} (inv : IsPool kinds fr
       ready_room = inv.ready_room;
       added = λ q member. inv.added q (kept_member q member);
       opened = λ j q is member.
-          let apart : q / 64 ≢ slot / 64 = λ e. not_both _ (none q (omega arith) (omega arith)) member in
-          let small = block_small (q / 64) (is_there kinds (q / 64) j is) in
-          let small' = block_small (slot / 64) (is_there kinds (slot / 64) k of_kind) in
-          remove_other ready.members (place_of k (slot / 64)) (place_of j (q / 64))
-          (λ e. apart (same_place j k (q / 64) (slot / 64) (omega arith) (omega arith) e).1)
+          let apart : q / ROWS ≢ slot / ROWS = λ e. not_both _ (none q (omega arith) (omega arith)) member in
+          let small = block_small (q / ROWS) (is_there kinds (q / ROWS) j is) in
+          let small' = block_small (slot / ROWS) (is_there kinds (slot / ROWS) k of_kind) in
+          remove_other ready.members (place_of k (slot / ROWS)) (place_of j (q / ROWS))
+          (λ e. apart (same_place j k (q / ROWS) (slot / ROWS) (omega arith) (omega arith) e).1)
           ∙ inv.opened j q is (kept_member q member);
-      has_free = λ j b small member. elim (cases_eq (place_of j b) (place_of k (slot / 64))) [
-        | inl e ↦ not_both _ (remove_same ready.members (place_of k (slot / 64)) (place_of j b) e) member
+      has_free = λ j b small member. elim (cases_eq (place_of j b) (place_of k (slot / ROWS))) [
+        | inl e ↦ not_both _ (remove_same ready.members (place_of k (slot / ROWS)) (place_of j b) e) member
         | inr apart ↦ let old = inv.has_free j b small
-            (sym (remove_other ready.members (place_of k (slot / 64)) (place_of j b) apart) ∙ member) in
-            let differs : b ≢ slot / 64 = λ e. apart
+            (sym (remove_other ready.members (place_of k (slot / ROWS)) (place_of j b) apart) ∙ member) in
+            let differs : b ≢ slot / ROWS = λ e. apart
             (λ i. place_of (same_Some j k (sym old.0 ∙ ap (kind_at kinds) e ∙ of_kind) i) (e i)) in (
               old.0,
               record {
                 slot = old.1.slot;
                 of_block = old.1.of_block;
                 free = remove_other free.members slot old.1.slot
-                    (λ e. differs (sym old.1.of_block ∙ ap (λ x. x / 64) e)) ∙ old.1.free;
+                    (λ e. differs (sym old.1.of_block ∙ ap (λ x. x / ROWS) e)) ∙ old.1.free;
               },
             )
       ];
@@ -164,31 +165,31 @@ module _ {kinds : List (Option Kind)} {free ready : Held} (inv : IsPool kinds fr
     -- ---- a slot is put back
 
     pub put : IsPool kinds (record free { members = insert free.members slot })
-        (record ready { members = insert ready.members (place_of k (slot / 64)) })
+        (record ready { members = insert ready.members (place_of k (slot / ROWS)) })
     put = record {
       some = inv.some;
       limit = inv.limit;
       room = inv.room;
       ready_room = inv.ready_room;
       added = λ q member. elim (cases_eq q slot) [
-        | inl e ↦ ap (λ x. is_some (kind_at kinds (x / 64))) e ∙ ap is_some of_kind
+        | inl e ↦ ap (λ x. is_some (kind_at kinds (x / ROWS))) e ∙ ap is_some of_kind
         | inr apart ↦ inv.added q (sym (insert_other free.members slot q apart) ∙ member)
       ];
       opened = λ j q is member. elim (cases_eq q slot) [
-        | inl e ↦ insert_same ready.members (place_of k (slot / 64)) (place_of j (q / 64))
-            (λ i. place_of (same_Some j k (sym is ∙ ap (λ x. kind_at kinds (x / 64)) e ∙ of_kind) i)
-            (e i / 64))
-        | inr apart ↦ insert_keeps ready.members (place_of k (slot / 64)) (place_of j (q / 64))
+        | inl e ↦ insert_same ready.members (place_of k (slot / ROWS)) (place_of j (q / ROWS))
+            (λ i. place_of (same_Some j k (sym is ∙ ap (λ x. kind_at kinds (x / ROWS)) e ∙ of_kind) i)
+            (e i / ROWS))
+        | inr apart ↦ insert_keeps ready.members (place_of k (slot / ROWS)) (place_of j (q / ROWS))
             (inv.opened j q is (sym (insert_other free.members slot q apart) ∙ member))
       ];
-      has_free = λ j b small member. elim (cases_eq (place_of j b) (place_of k (slot / 64))) [
-        | inl e ↦ let small' = block_small (slot / 64) (is_there kinds (slot / 64) k of_kind) in
-            let same = same_place j k b (slot / 64) small (omega arith) e in (
+      has_free = λ j b small member. elim (cases_eq (place_of j b) (place_of k (slot / ROWS))) [
+        | inl e ↦ let small' = block_small (slot / ROWS) (is_there kinds (slot / ROWS) k of_kind) in
+            let same = same_place j k b (slot / ROWS) small (omega arith) e in (
               ap (kind_at kinds) same.1 ∙ of_kind ∙ ap Some (sym same.0),
               record { slot = slot; of_block = sym same.1; free = insert_same free.members slot slot refl },
             )
         | inr apart ↦ let old = inv.has_free j b small
-            (sym (insert_other ready.members (place_of k (slot / 64)) (place_of j b) apart) ∙ member) in (
+            (sym (insert_other ready.members (place_of k (slot / ROWS)) (place_of j b) apart) ∙ member) in (
               old.0,
               record {
                 slot = old.1.slot;
@@ -210,15 +211,15 @@ module _ {kinds : List (Option Kind)} {free ready : Held} (inv : IsPool kinds fr
       limit = omega (arith, inv.limit, length-set kinds block None);
       room = omega (arith, inv.room, length-set kinds block None);
       ready_room = inv.ready_room;
-      added = λ q member. let apart = outside q member in ap is_some (other (q / 64) apart) ∙ inv.added q
+      added = λ q member. let apart = outside q member in ap is_some (other (q / ROWS) apart) ∙ inv.added q
           (kept q apart member);
       opened = λ j q is member.
           let apart = outside q member in
-          let was = sym (other (q / 64) apart) ∙ is in
-          let small = block_small (q / 64) (is_there kinds (q / 64) j was) in
+          let was = sym (other (q / ROWS) apart) ∙ is in
+          let small = block_small (q / ROWS) (is_there kinds (q / ROWS) j was) in
           let small' = block_small block (is_there kinds block k of_kind) in
-          remove_other ready.members (place_of k block) (place_of j (q / 64))
-          (λ e. apart (same_place j k (q / 64) block (omega arith) (omega arith) e).1)
+          remove_other ready.members (place_of k block) (place_of j (q / ROWS))
+          (λ e. apart (same_place j k (q / ROWS) block (omega arith) (omega arith) e).1)
           ∙ inv.opened j q was (kept q apart member);
       has_free = λ j b small member. elim (cases_eq (place_of j b) (place_of k block)) [
         | inl e ↦ not_both _ (remove_same ready.members (place_of k block) (place_of j b) e) member
@@ -240,35 +241,36 @@ module _ {kinds : List (Option Kind)} {free ready : Held} (inv : IsPool kinds fr
         other : (b : ℕ) → b ≢ block → kind_at (set kinds block None) b ≡ kind_at kinds b
         other b apart = get_or-set_other kinds block b None None apart
 
-        outside : (q : ℕ) → contains (difference free.members (numbers_of block)) q ≡ true → q / 64 ≢ block
+        outside : (q : ℕ) → contains (difference free.members (numbers_of block)) q ≡ true → q / ROWS ≢ block
         outside q member e = not_both _ (difference_same block q free.members e) member
 
-        kept : (q : ℕ) → q / 64 ≢ block → contains (difference free.members (numbers_of block)) q ≡ true →
+        kept : (q : ℕ) → q / ROWS ≢ block → contains (difference free.members (numbers_of block)) q ≡ true →
             contains free.members q ≡ true
         kept q apart member = sym (difference_other block q free.members apart) ∙ member
 
   -- ---- what is found
 
   module _ (k : Kind) where
-    kind_of_free : (slot : Slot) → IsFreeFor (seen kinds free) k slot → kind_at kinds (slot.0 / 64) ≡ Some k
-    kind_of_free slot is = sym (get-by_place kinds (slot.0 / 64)) ∙ is.1
+    kind_of_free : (slot : Slot) → IsFreeFor (seen kinds free) k slot → kind_at kinds (slot.0 / ROWS) ≡ Some k
+    kind_of_free slot is = sym (get-by_place kinds (slot.0 / ROWS)) ∙ is.1
 
     block_is_ready : (slot : Slot) → IsFreeFor (seen kinds free) k slot → contains ready.members
-        (place_of k (slot.0 / 64)) ≡ true
+        (place_of k (slot.0 / ROWS)) ≡ true
     block_is_ready slot is = inv.opened k slot.0 (kind_of_free slot is) is.0
 
-    low_block : (slot : Slot) → IsFreeFor (seen kinds free) k slot → slot.0 / 64 ≤ 256
-    low_block slot is = block_small (slot.0 / 64) (is_there kinds (slot.0 / 64) k (kind_of_free slot is))
+    low_block : (slot : Slot) → IsFreeFor (seen kinds free) k slot → slot.0 / ROWS ≤ BLOCKS
+    low_block slot is = block_small (slot.0 / ROWS) (is_there kinds (slot.0 / ROWS) k (kind_of_free slot is))
 
     -- no block of the kind has a free slot
-    pub none_ready : HasNoneBetween ready.members (64 * (kind_number k * 5)) (64 * (kind_number k * 5 + 5)) →
+    pub none_ready : HasNoneBetween ready.members (ROWS * (kind_number k * 5))
+        (ROWS * (kind_number k * 5 + 5)) →
         HasNoneFor (seen kinds free) k
     none_ready none slot is =
         let low = low_block slot is in
-        not_both _ (none (place_of k (slot.0 / 64)) (omega arith) (omega arith)) (block_is_ready slot is)
+        not_both _ (none (place_of k (slot.0 / ROWS)) (omega arith) (omega arith)) (block_is_ready slot is)
 
-    module _ {at : ℕ} (first : IsLeastBetween ready.members (64 * (kind_number k * 5))
-        (64 * (kind_number k * 5 + 5)) at) {block : ℕ} (block_is : block ≡ at - place_of k 0) where
+    module _ {at : ℕ} (first : IsLeastBetween ready.members (ROWS * (kind_number k * 5))
+        (ROWS * (kind_number k * 5 + 5)) at) {block : ℕ} (block_is : block ≡ at - place_of k 0) where
       at_is : at ≡ place_of k block
       at_is = omega (arith, first.low, first.high)
 
@@ -279,30 +281,30 @@ module _ {kinds : List (Option Kind)} {free ready : Held} (inv : IsPool kinds fr
       block_has = inv.has_free k block small (ap (contains ready.members) (sym at_is) ∙ first.member)
 
       -- so a search in the block finds a slot
-      pub block_not_empty : HasNoneBetween free.members (64 * block) (64 * (block + 1)) → ⊥
+      pub block_not_empty : HasNoneBetween free.members (ROWS * block) (ROWS * (block + 1)) → ⊥
       block_not_empty none =
           let w = block_has.1 in
           let where_is = w.of_block in
           not_both _ (none w.slot (omega arith) (omega arith)) w.free
 
-      module _ {slot : ℕ} (least : IsLeastBetween free.members (64 * block) (64 * (block + 1)) slot) where
-        pub of_block : slot / 64 ≡ block
+      module _ {slot : ℕ} (least : IsLeastBetween free.members (ROWS * block) (ROWS * (block + 1)) slot) where
+        pub of_block : slot / ROWS ≡ block
         of_block = omega (arith, least.low, least.high)
 
-        pub slot_kind : kind_at kinds (slot / 64) ≡ Some k
+        pub slot_kind : kind_at kinds (slot / ROWS) ≡ Some k
         slot_kind = ap (kind_at kinds) of_block ∙ block_has.0
 
         pub least_free : IsLeastFreeFor (seen kinds free) k (record { 0 = slot })
         least_free = record {
-          free = (least.member, get-by_place kinds (slot / 64) ∙ slot_kind);
-          least = λ other is. at_most other is (cases_lt (other.0 / 64) block) (cases_lt other.0 slot);
+          free = (least.member, get-by_place kinds (slot / ROWS) ∙ slot_kind);
+          least = λ other is. at_most other is (cases_lt (other.0 / ROWS) block) (cases_lt other.0 slot);
         }
           where
-            at_most : (other : Slot) → IsFreeFor (seen kinds free) k other → (other.0 / 64 < block) ⊎
-                (block ≤ other.0 / 64) → (other.0 < slot) ⊎ (slot ≤ other.0) → slot ≤ other.0
+            at_most : (other : Slot) → IsFreeFor (seen kinds free) k other → (other.0 / ROWS < block) ⊎
+                (block ≤ other.0 / ROWS) → (other.0 < slot) ⊎ (slot ≤ other.0) → slot ≤ other.0
             at_most other is _ (inr le) = le
             at_most other is (inl before) (inl less) =
-                not_both _ (first.least (place_of k (other.0 / 64)) (omega arith) (omega (arith, at_is)))
+                not_both _ (first.least (place_of k (other.0 / ROWS)) (omega arith) (omega (arith, at_is)))
                 (block_is_ready other is)
             at_most other is (inr after) (inl less) =
                 not_both _ (least.least other.0 (omega arith) less) is.0
@@ -311,7 +313,7 @@ module _ {kinds : List (Option Kind)} {free ready : Held} (inv : IsPool kinds fr
 
 pub opened_empty : (kinds : List (Option Kind)) (free ready : Held) → ((b : ℕ) → kind_at kinds b ≡ None) → 1 ≤
     length kinds → length kinds ≤ 257
-    → free ≡ record { room = 64 * length kinds; members = empty } → ready ≡ record
+    → free ≡ record { room = ROWS * length kinds; members = empty } → ready ≡ record
     { room = 2240; members = empty } → IsPool kinds free ready
 opened_empty kinds free ready none some limit free_is ready_is = record {
   some = some;
@@ -399,10 +401,10 @@ module _ {kinds : List (Option Kind)} {free ready : Held} (inv : IsPool kinds fr
     pub in_list : block < length kinds
     in_list = kind_within kinds block (there block some)
 
-    pub low : block ≤ 256
+    pub low : block ≤ BLOCKS
     low = block_small inv block (there block some)
 
-    pub has_room : 64 * block + 63 < free.room
+    pub has_room : ROWS * block + 63 < free.room
     has_room = omega (arith, in_list, inv.room)
 
     pub has_place : (k : Kind) {at : ℕ} → at ≡ place_of k block → at < ready.room
@@ -445,7 +447,7 @@ none_of None P p e = p
 none_of (Some x) P p e = not_both true e refl
 
 left_free : (s : Held) (block : ℕ) (o : Option ℕ) → IfSome o
-    (IsLeastBetween s.members (64 * block) (64 * (block + 1))) → is_some o ≡ true → HasFree s block
+    (IsLeastBetween s.members (ROWS * block) (ROWS * (block + 1))) → is_some o ≡ true → HasFree s block
 left_free s block None found e = not_both false refl e
 left_free s block (Some slot) found e =
     let low = found.low in
@@ -454,16 +456,17 @@ left_free s block (Some slot) found e =
 
 module _ {kinds : List (Option Kind)} {free ready : Held} (inv : IsPool kinds free ready) {v : FreeSlots}
     (is : seen kinds free ≡ v) (k : Kind) {n : ℕ} (n_is : n ≡ kind_number k) where
-  pub take_none : HasNoneBetween ready.members (64 * (n * 5)) (64 * (n * 5 + 5)) → HasNoneFor v k
+  pub take_none : HasNoneBetween ready.members (ROWS * (n * 5)) (ROWS * (n * 5 + 5)) → HasNoneFor v k
   take_none none =
       subst (λ (u : FreeSlots). HasNoneFor u k) is
-      (none_ready inv k (subst (λ m. HasNoneBetween ready.members (64 * (m * 5)) (64 * (m * 5 + 5))) n_is
+      (none_ready inv k (subst (λ m. HasNoneBetween ready.members (ROWS * (m * 5)) (ROWS * (m * 5 + 5))) n_is
       none))
 
-  module _ {at : ℕ} (found : IsLeastBetween ready.members (64 * (n * 5)) (64 * (n * 5 + 5)) at) {start : ℕ}
+  module _ {at : ℕ} (found : IsLeastBetween ready.members (ROWS * (n * 5)) (ROWS * (n * 5 + 5)) at)
+      {start : ℕ}
       (start_is : start ≡ place_of k 0) where
-    first : IsLeastBetween ready.members (64 * (kind_number k * 5)) (64 * (kind_number k * 5 + 5)) at
-    first = subst (λ m. IsLeastBetween ready.members (64 * (m * 5)) (64 * (m * 5 + 5)) at) n_is found
+    first : IsLeastBetween ready.members (ROWS * (kind_number k * 5)) (ROWS * (kind_number k * 5 + 5)) at
+    first = subst (λ m. IsLeastBetween ready.members (ROWS * (m * 5)) (ROWS * (m * 5 + 5)) at) n_is found
 
     block_is : at - start ≡ at - place_of k 0
     block_is = ap (λ m. at - m) start_is
@@ -471,25 +474,26 @@ module _ {kinds : List (Option Kind)} {free ready : Held} (inv : IsPool kinds fr
     has : (kind_at kinds (at - start) ≡ Some k) × HasFree free (at - start)
     has = block_has inv k first block_is
 
-    pub take_room : 64 * (at - start + 1) ≤ free.room
+    pub take_room : ROWS * (at - start + 1) ≤ free.room
     take_room = omega (arith, kind_within kinds (at - start) (ap is_some has.0), inv.room)
 
     module _ (o : Option ℕ) where
-      pub take_some : IfNone o (HasNoneBetween free.members (64 * (at - start)) (64 * (at - start + 1)))
+      pub take_some : IfNone o (HasNoneBetween free.members (ROWS * (at - start)) (ROWS * (at - start + 1)))
           → IsSome o
       take_some none = some_of o _ none (block_not_empty inv k first block_is)
 
       module _ {slot : ℕ} (is_slot : o ≡ Some slot)
-          (found_slot : IfSome o (IsLeastBetween free.members (64 * (at - start)) (64 * (at - start + 1))))
+          (found_slot : IfSome o
+          (IsLeastBetween free.members (ROWS * (at - start)) (ROWS * (at - start + 1))))
         where
-          least : IsLeastBetween free.members (64 * (at - start)) (64 * (at - start + 1)) slot
-          least = subst (λ p. IfSome p (IsLeastBetween free.members (64 * (at - start))
-              (64 * (at - start + 1)))) is_slot found_slot
+          least : IsLeastBetween free.members (ROWS * (at - start)) (ROWS * (at - start + 1)) slot
+          least = subst (λ p. IfSome p (IsLeastBetween free.members (ROWS * (at - start))
+              (ROWS * (at - start + 1)))) is_slot found_slot
 
-          in_block : slot / 64 ≡ at - start
+          in_block : slot / ROWS ≡ at - start
           in_block = of_block inv k first block_is least
 
-          its_kind : kind_at kinds (slot / 64) ≡ Some k
+          its_kind : kind_at kinds (slot / ROWS) ≡ Some k
           its_kind = slot_kind inv k first block_is least
 
           pub take_least : IsLeastFreeFor v k (record { 0 = slot })
@@ -498,25 +502,27 @@ module _ {kinds : List (Option Kind)} {free ready : Held} (inv : IsPool kinds fr
 
           module _ {after : Held} (after_is : after ≡ record free { members = remove free.members slot })
               (left : Option ℕ) where
-            pub take_more : IfSome left (IsLeastBetween after.members (64 * (at - start))
-                (64 * (at - start + 1))) → is_some left ≡ true → IsPool kinds after ready
+            pub take_more : IfSome left (IsLeastBetween after.members (ROWS * (at - start))
+                (ROWS * (at - start + 1))) → is_some left ≡ true → IsPool kinds after ready
             take_more found_left some =
                 along after_is refl (taken inv slot its_kind
                 (subst (HasFree (record free { members = remove free.members slot })) (sym in_block)
                 (subst (λ s. HasFree s (at - start)) after_is
                 (left_free after (at - start) left found_left some))))
 
-            pub take_last : IfNone left (HasNoneBetween after.members (64 * (at - start))
-                (64 * (at - start + 1))) → is_some left ≡ false
+            pub take_last : IfNone left (HasNoneBetween after.members (ROWS * (at - start))
+                (ROWS * (at - start + 1))) → is_some left ≡ false
                 → {ready' : Held} → ready' ≡ record ready { members = remove ready.members at }
                 → IsPool kinds after ready'
             take_last none no_more ready_is =
-                let none_left : HasNoneBetween (remove free.members slot) (64 * (slot / 64))
-                (64 * (slot / 64 + 1)) =
-                subst (λ b. HasNoneBetween (remove free.members slot) (64 * b) (64 * (b + 1))) (sym in_block)
-                (subst (λ (s : Held). HasNoneBetween s.members (64 * (at - start)) (64 * (at - start + 1)))
+                let none_left : HasNoneBetween (remove free.members slot) (ROWS * (slot / ROWS))
+                (ROWS * (slot / ROWS + 1)) =
+                subst (λ b. HasNoneBetween (remove free.members slot) (ROWS * b) (ROWS * (b + 1)))
+                (sym in_block)
+                (subst (λ (s : Held). HasNoneBetween s.members (ROWS * (at - start))
+                (ROWS * (at - start + 1)))
                 after_is (none_of left _ none no_more)) in
-                let place : at ≡ place_of k (slot / 64) = omega (arith, first.low, in_block, start_is) in
+                let place : at ≡ place_of k (slot / ROWS) = omega (arith, first.low, in_block, start_is) in
                 along after_is (ready_is ∙ ap (λ m. record ready { members = remove ready.members m }) place)
                 (taken_last inv slot its_kind none_left)
 

@@ -1,5 +1,5 @@
 -- Members of sets of numbers after one change, and of runs of numbers.
-use Rattle.hd_pool.proofs.Basics.{Bool, FinSet, List, ap, arith, cases_eq, cond, contains, contains-difference, contains-empty, contains-from_list_nat, contains-insert, contains-remove, contains-union, difference, eq-eqb, eq_by_cmp, false, filter, get-empty, get-insert, get-remove, inl, inr, insert, list_any, nat_cmp, nat_cmp_total, nat_eq, ne_eqb, not, range_with_len, refl, remove, suc, true, union, unsigned_tied, zero, ℕ, ◌&&◌, ◌*◌, ◌+◌, ◌/◌, ◌<◌, ◌||◌, ◌∙◌, ◌∷◌, ◌≡◌, ◌≢◌, ◌≤◌, ◌⊎◌}
+use Rattle.hd_pool.proofs.Basics.{BITS, Bool, FinSet, List, ap, arith, cases_eq, cond, contains, contains-difference, contains-empty, contains-from_list_nat, contains-insert, contains-remove, contains-union, difference, eq-eqb, eq_by_cmp, false, filter, get-empty, get-insert, get-remove, inl, inr, insert, list_any, nat_cmp, nat_cmp_total, nat_eq, ne_eqb, not, range_with_len, refl, remove, suc, true, union, unsigned_tied, zero, ℕ, ◌&&◌, ◌*◌, ◌+◌, ◌/◌, ◌<◌, ◌||◌, ◌∙◌, ◌∷◌, ◌≡◌, ◌≢◌, ◌≤◌, ◌⊎◌}
 use Rattle.hd_pool.specs.Masks.{numbers_of}
 
 or-true : (a : Bool) → (a || true) ≡ true
@@ -99,38 +99,38 @@ module _ (q : ℕ) where
 -- ---- the numbers of one mask
 
 module _ (mask q : ℕ) where
-  pub numbers_same : q / 64 ≡ mask → contains (numbers_of mask) q ≡ true
+  pub numbers_same : q / BITS ≡ mask → contains (numbers_of mask) q ≡ true
   unfolding numbers_of
-  numbers_same e = contains-from_list_nat (range_with_len (64 * mask) 64) q ∙ run_in q 64 (64 * mask)
+  numbers_same e = contains-from_list_nat (range_with_len (BITS * mask) BITS) q ∙ run_in q BITS (BITS * mask)
       (omega arith) (omega arith)
 
-  out : q / 64 ≢ mask → (q < 64 * mask) ⊎ (64 * mask + 64 ≤ q)
+  out : q / BITS ≢ mask → (q < BITS * mask) ⊎ (BITS * mask + BITS ≤ q)
   out apart =
-      elim (Rattle.std.proofs.lemmas.Bool.cases_order (q / 64) mask) [
+      elim (Rattle.std.proofs.lemmas.Bool.cases_order (q / BITS) mask) [
         | inl e ↦ absurd (apart e)
         | inr (inl less) ↦ inl (omega arith)
         | inr (inr more) ↦ inr (omega arith)
       ]
 
-  pub numbers_other : q / 64 ≢ mask → contains (numbers_of mask) q ≡ false
+  pub numbers_other : q / BITS ≢ mask → contains (numbers_of mask) q ≡ false
   unfolding numbers_of
-  numbers_other apart = contains-from_list_nat (range_with_len (64 * mask) 64) q ∙ run_outside q 64
-      (64 * mask) (out apart)
+  numbers_other apart = contains-from_list_nat (range_with_len (BITS * mask) BITS) q ∙ run_outside q BITS
+      (BITS * mask) (out apart)
 
   module _ (s : FinSet nat_cmp) where
-    pub union_same : q / 64 ≡ mask → contains (union s (numbers_of mask)) q ≡ true
+    pub union_same : q / BITS ≡ mask → contains (union s (numbers_of mask)) q ≡ true
     union_same e = contains-union nat_cmp_total s (numbers_of mask) q ∙ ap (λ b. contains s q || b)
         (numbers_same e) ∙ or-true _
 
-    pub union_other : q / 64 ≢ mask → contains (union s (numbers_of mask)) q ≡ contains s q
+    pub union_other : q / BITS ≢ mask → contains (union s (numbers_of mask)) q ≡ contains s q
     union_other apart = contains-union nat_cmp_total s (numbers_of mask) q ∙ ap (λ b. contains s q || b)
         (numbers_other apart) ∙ or-false _
 
-    pub difference_same : q / 64 ≡ mask → contains (difference s (numbers_of mask)) q ≡ false
+    pub difference_same : q / BITS ≡ mask → contains (difference s (numbers_of mask)) q ≡ false
     difference_same e = contains-difference nat_cmp_total s (numbers_of mask) q ∙ ap
         (λ b. contains s q && not b) (numbers_same e) ∙ and-false _
 
-    pub difference_other : q / 64 ≢ mask → contains (difference s (numbers_of mask)) q ≡ contains s q
+    pub difference_other : q / BITS ≢ mask → contains (difference s (numbers_of mask)) q ≡ contains s q
     difference_other apart = contains-difference nat_cmp_total s (numbers_of mask) q ∙ ap
         (λ b. contains s q && not b) (numbers_other apart) ∙ and-true _
 

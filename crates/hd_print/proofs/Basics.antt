@@ -13,3 +13,4 @@ pub use Rattle.hd_model.specs.Grammar.{Reading, command, first_fault, handle_reg
 pub use Rattle.hd_model.specs.Text.{entry_text, lines_of, numbered_after}
 pub use Rattle.hd_model.specs.declared.data.Entry.{Entry}
 pub use Rattle.hd_print.specs.Operand.{operand_word}
+pub use Rattle.hd_model.specs.declared.limits.TheConstants.{CALLERS, FIELDS, REGISTERS, ROWS}

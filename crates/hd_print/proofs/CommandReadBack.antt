@@ -1,5 +1,5 @@
 -- The line of a command is read as that command.
-use Rattle.hd_print.proofs.Basics.{List, Ok, Option, Reading, Some, [], and_from, and_parts, ap, arith, codes, command, command_text, command_words, decimal, decimal_nonempty, extra_words, false, first_fault, handle_register_in, handle_word, join_with_byte, kind_name, length, list_all, ltb, ltb-true, map, object_register_in, object_word, one, option_map, refl, strength_word, three, true, two, unless_fault, words_of, ℕ, ◌&&◌, ◌++◌, ◌<◌, ◌^◌, ◌∙◌, ◌∷◌, ◌≡◌}
+use Rattle.hd_print.proofs.Basics.{FIELDS, List, Ok, Option, REGISTERS, Reading, Some, [], and_from, and_parts, ap, arith, codes, command, command_text, command_words, decimal, decimal_nonempty, extra_words, false, first_fault, handle_register_in, handle_word, join_with_byte, kind_name, length, list_all, ltb, ltb-true, map, object_register_in, object_word, one, option_map, refl, strength_word, three, true, two, unless_fault, words_of, ℕ, ◌&&◌, ◌++◌, ◌<◌, ◌^◌, ◌∙◌, ◌∷◌, ◌≡◌}
 use Rattle.std.specs.Option.{option_or}
 use Rattle.hd_model.specs.{declared.data.Kind.Kind, declared.data.Strength.Strength, declared.data.Make.Make, declared.command.Cmd.Cmd, Kinds.kind_of, Kinds.is_paired, Valid.IsValid, Valid.IsValidMake}
 use Rattle.hd_model.specs.Grammar.{reading_of, readings_of, lists_of, script_of, register_in, strength_of, make_of, trimmed_kind_of, fin_of, two_words, three_words, three_on_objects, three_on_handles, four_words, five_words, hnew_of}
@@ -12,11 +12,11 @@ use Rattle.hd_model.specs.declared.command.Cmd.TheVariants as cmd
 
 -- ---- words
 
-object_again : (d : ℕ) → d < 16 → object_register_in (object_word d) ≡ Some d
+object_again : (d : ℕ) → d < REGISTERS → object_register_in (object_word d) ≡ Some d
 unfolding register_in
 object_again d h = number_again 15 d (omega arith) (omega arith)
 
-handle_again : (d : ℕ) → d < 16 → handle_register_in (handle_word d) ≡ Some d
+handle_again : (d : ℕ) → d < REGISTERS → handle_register_in (handle_word d) ≡ Some d
 unfolding register_in
 handle_again d h = number_again 15 d (omega arith) (omega arith)
 
@@ -59,7 +59,7 @@ on_objects said others c e = ap (λ x. option_map command (option_or x others)) 
 read_again : (said : Option Cmd) (c : Cmd) → said ≡ Some c → option_map command said ≡ Some (command c)
 read_again said c e = ap (option_map command) e
 
-module _ (d t : ℕ) (small_d : d < 16) (small_t : t < 16) where
+module _ (d t : ℕ) (small_d : d < REGISTERS) (small_t : t < REGISTERS) where
   -- a new handle
   made_again : (make : Make) → option_map command
       (three cmd.HNew (handle_register_in (handle_word d)) (Some make) (object_register_in (object_word t)))
@@ -87,10 +87,10 @@ said_again : (c : Cmd) → IsValid c → reading_of (command_words c) ≡ Some (
 unfolding reading_of two_words three_words three_on_objects three_on_handles four_words fin_of
 said_again (cmd.New d fields false) v =
     on_objects _ _ _ (two_said (λ r f. cmd.New r f false) _ _ d fields (object_again d v.0)
-    (number_again 61 fields v.1 (omega arith)))
+    (number_again FIELDS fields v.1 (omega arith)))
 said_again (cmd.New d fields true) v =
     read_again _ _ (three_said cmd.New _ _ (Some true) d fields true (object_again d v.0)
-    (number_again 61 fields v.1 (omega arith)) refl)
+    (number_again FIELDS fields v.1 (omega arith)) refl)
 said_again (cmd.Set o i r) v =
     read_again _ _ (three_said cmd.Set _ _ _ o i r (object_again o v.0)
     (number_again 255 i (omega (arith, v.1)) (omega arith)) (object_again r v.2))
@@ -157,10 +157,10 @@ marked mark d high h = record {
   high = and_from (is_high mark) (list_all is_high (decimal d)) high (digit_bytes 36 (omega arith) d h);
 }
 
-object_is : (d : ℕ) → d < 16 → IsWord (object_word d)
+object_is : (d : ℕ) → d < REGISTERS → IsWord (object_word d)
 object_is d h = marked 114 d refl (omega arith)
 
-handle_is : (d : ℕ) → d < 16 → IsWord (handle_word d)
+handle_is : (d : ℕ) → d < REGISTERS → IsWord (handle_word d)
 handle_is d h = marked 104 d refl (omega arith)
 
 strength_is : (s : Strength) → IsWord (strength_word s)

@@ -1,5 +1,5 @@
 -- How the lines of a journal grow by those of one entry after another.
-use Rattle.hd_print.proofs.Basics.{All, Entry, List, SinkView, Some, Took, WriteBrokeOff, [], ap, append-nil, append_assoc, arith, concat, count_by, count_by-le-length, count_by_more_no, count_by_more_yes, drop, get_or, length, length-set, length-take-le, numbered_after, set, slice_get, subst, sym, take, take-append-drop, take_more, ℕ, ◌++◌, ◌+◌, ◌<◌, ◌==◌, ◌∙◌, ◌∷◌, ◌≡◌, ◌≤◌}
+use Rattle.hd_print.proofs.Basics.{All, CALLERS, Entry, List, SinkView, Some, Took, WriteBrokeOff, [], ap, append-nil, append_assoc, arith, concat, count_by, count_by-le-length, count_by_more_no, count_by_more_yes, drop, get_or, length, length-set, length-take-le, numbered_after, set, slice_get, subst, sym, take, take-append-drop, take_more, ℕ, ◌++◌, ◌+◌, ◌<◌, ◌==◌, ◌∙◌, ◌∷◌, ◌≡◌, ◌≤◌}
 use Rattle.std.proofs.{lemmas.Grind.common_steps, lemmas.Option.get_or_from_slice_get}
 use Rattle.hd_io.proofs.SinkPieces.{took_more, broke_after, broke_before}
 
@@ -50,13 +50,13 @@ module _ (es : List Entry) (i : ℕ) (e : Entry) (in_range : i < length es) (is_
         (append-nil (line e (count_of e.caller (take i es) + 1)))
 
     -- where all callers are below 16
-    module _ (all : All (λ (x : Entry). x.caller < 16) es) where
-      pub caller_below : e.caller < 16
-      caller_below = subst (λ (x : Entry). x.caller < 16) at_place (all i e in_range)
+    module _ (all : All (λ (x : Entry). x.caller < CALLERS) es) where
+      pub caller_below : e.caller < CALLERS
+      caller_below = subst (λ (x : Entry). x.caller < CALLERS) at_place (all i e in_range)
 
       -- and the entries before this one are counted
       module _ (counts : List ℕ)
-          (counted : (c : ℕ) → c < 16 → get_or counts c 0 ≡ count_of c (take i es)) where
+          (counted : (c : ℕ) → c < CALLERS → get_or counts c 0 ≡ count_of c (take i es)) where
         -- a count is at most the number of entries
         pub count_le : get_or counts e.caller 0 ≤ i
         count_le =
@@ -66,8 +66,8 @@ module _ (es : List Entry) (i : ℕ) (e : Entry) (in_range : i < length es) (is_
 
         -- and that of the entry's caller is raised, to its number
         module _ (number : ℕ) (is_next : number ≡ get_or counts e.caller 0 + 1) where
-          pub counts_more : (new : List ℕ) → new ≡ set counts e.caller number → length new ≡ 16 → (c : ℕ)
-              → c < 16 → get_or new c 0 ≡ count_of c (take (i + 1) es)
+          pub counts_more : (new : List ℕ) → new ≡ set counts e.caller number → length new ≡ CALLERS → (c : ℕ)
+              → c < CALLERS → get_or new c 0 ≡ count_of c (take (i + 1) es)
           counts_more new written sixteen c small =
               let below = caller_below in
               let is_e = at_place in

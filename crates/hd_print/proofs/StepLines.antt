@@ -1,5 +1,5 @@
 -- Steps of one command from one state, whose full lines are the same, are of one entry.
-use Rattle.hd_print.proofs.Basics.{Bool, Entry, List, None, Option, Some, ap, append_assoc, arith, decimal, drop, false, get_or, refl, subst, sym, true, ℕ, ⊎_elim, ◌*◌, ◌++◌, ◌/◌, ◌<◌, ◌^◌, ◌∙◌, ◌∷◌, ◌≡◌}
+use Rattle.hd_print.proofs.Basics.{Bool, Entry, List, None, Option, ROWS, Some, ap, append_assoc, arith, decimal, drop, false, get_or, refl, subst, sym, true, ℕ, ⊎_elim, ◌*◌, ◌++◌, ◌/◌, ◌<◌, ◌^◌, ◌∙◌, ◌∷◌, ◌≡◌}
 use Rattle.std.specs.Prelude.{MatchOption, cond, is_some, option_and_then, if◌then◌else◌}
 use Rattle.std.specs.Option.{option_map_or}
 use Rattle.std.specs.FinMap.{get}
@@ -125,14 +125,14 @@ module _ (n : Numbers) (s : State) (d e : Entry) (t u : State) (w : IsWellFormed
   -- a block of the table and its slots are small
   low_block : (slot : Slot) (kind : Kind) → IsFree s kind slot → IsSmall slot.0
   low_block slot kind free =
-      let block = (w.handles.blocks (slot.0 / 64) (ap is_some free.of_kind)).1 in omega arith
+      let block = (w.handles.blocks (slot.0 / ROWS) (ap is_some free.of_kind)).1 in omega arith
 
   slot_fits : (kind : Kind) (grown : Grown) (slot : Slot) → MayGive n s kind grown slot → IsSmall slot.0
   slot_fits kind Zero slot free = low_block slot kind free
   slot_fits kind (One block) slot may =
-      let high = may.1.high in let first : slot.0 ≡ block * 64 = ap (λ (x : Slot). x.0) may.2 in omega arith
+      let high = may.1.high in let first : slot.0 ≡ block * ROWS = ap (λ (x : Slot). x.0) may.2 in omega arith
   slot_fits kind (Two block other) slot may =
-      let high = may.1.high in let first : slot.0 ≡ block * 64 = ap (λ (x : Slot). x.0) may.3 in omega arith
+      let high = may.1.high in let first : slot.0 ≡ block * ROWS = ap (λ (x : Slot). x.0) may.3 in omega arith
   slot_fits kind (Back block) slot may = absurd may
 
   growth_fits : (kind : Kind) (grown : Grown) (slot : Slot) → MayGive n s kind grown slot

@@ -10,11 +10,20 @@ use Rattle.hd_model.specs.Heap.{Heap, has_object}
 use Rattle.hd_model.proofs.Members.{mapped_in, mapped_from}
 use Rattle.hd_root.specs.declared.anchors.Anchor.{Anchor}
 use Rattle.hd_root.specs.declared.trail.Found.{Found}
-use Rattle.hd_root.specs.Anchors.{anchor_of, id_of, AreListed, IsEntering}
+use Rattle.hd_root.specs.Anchors.{anchor_of, id_of, AreListed}
 use Rattle.hd_root.specs.Search.{number, HasEntered}
 use Rattle.hd_root.specs.Trail.{is_found, with_found, AreObjects}
 use Rattle.hd_root.proofs.Slices.{at_push, at_end}
 use Rattle.hd_root.proofs.TrailGrowth.{found_at, found_more}
+
+-- the first n of a list of anchors are found, in their order, and nothing else is
+pub record IsEntering (h : Heap) (listed : List Anchor) (n : ℕ) (found : List Found) : Type 0 where
+  pub none : (i : ℕ) (x : Found) → slice_get found i ≡ Some x → x.before ≡ None
+  pub only : (i : ℕ) (x : Found) → slice_get found i ≡ Some x
+      → (k : ℕ) × (k < n) × (slice_get listed k ≡ Some (anchor_of h x.at))
+  pub rising : (i j : ℕ) (x y : Found) → i ≤ j → slice_get found i ≡ Some x → slice_get found j ≡ Some y
+      → number h x.at ≤ number h y.at
+  pub all : (k : ℕ) (a : Anchor) → k < n → slice_get listed k ≡ Some a → is_found found a.at ≡ true
 
 pub listed_same : {h : Heap} {anchors : List Addr} {xs ys : List Anchor} → xs ≡ ys → AreListed h anchors xs
     → AreListed h anchors ys

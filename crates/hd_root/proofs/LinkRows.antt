@@ -1,5 +1,5 @@
 -- Which rows attach something: those of dependent handles, whose blocks are in one chain.
-use Rattle.std.proofs.Common.{◌≡◌, ◌≢◌, ℕ, ◌+◌, ◌*◌, ◌/◌, ◌<◌, ◌≤◌, true, cond, List, [], ◌∷◌, ◌++◌, length, Option, Some, None, refl, sym, ap, ◌∙◌, subst, arith, ⊎_elim, inr, eq-eqb, ne_eqb, Contains, AllPairs}
+use Rattle.std.proofs.Common.{◌≡◌, ◌==◌, ◌≢◌, ℕ, ◌+◌, ◌*◌, ◌/◌, ◌<◌, ◌≤◌, true, cond, List, [], ◌∷◌, ◌++◌, length, Option, Some, None, refl, sym, ap, ◌∙◌, subst, arith, ⊎_elim, inr, eq-eqb, ne_eqb, Contains, AllPairs}
 use Rattle.std.specs.Prelude.{slice_get}
 use Rattle.std.specs.FinMap.{get}
 use Rattle.std.proofs.lemmas.Bool.{cases_eq, false≢true}
@@ -17,7 +17,7 @@ use Rattle.hd_model.specs.Table.{Table, IsTable, chain_of, fits, kind_at, kind_i
 use Rattle.hd_model.specs.Reach.{IsAttached}
 use Rattle.hd_model.proofs.Members.{not_in_none, first_in, member_cases, pairs_first, pairs_rest}
 use Rattle.hd_root.specs.declared.dependents.Link.{Link}
-use Rattle.hd_root.specs.Links.{Attaches, IsPut, HasGathered, AreLinks, both_of, attached_in, left_from}
+use Rattle.hd_root.specs.Links.{Attaches, IsPut, HasGathered, AreLinks, both_of, attached_in}
 use Rattle.hd_root.proofs.LinkLists.{put_keeps, put_attaches, put_only}
 
 -- a row that attaches something has a target and a secondary, and the other way round
@@ -144,6 +144,11 @@ module _ (t : Table) (w : IsTable t) where
     all = λ x y a.
         p.all a.slot x y (subst (λ bs. Contains bs (a.slot / ROWS)) same (attached_block a)) (attached_of a);
   }
+
+-- how many blocks of a chain there are from one on
+abbrev pub left_from : List ℕ → ℕ → ℕ
+left_from [] b = 0
+left_from (c ∷ cs) b = cond (c == b) (length cs + 1) (left_from cs b)
 
 -- how many blocks are left, from one that is not among those before it
 pub left_split : (passed rest : List ℕ) (b : ℕ) → AllPairs (λ x y. x ≢ y) (passed ++ b ∷ rest)

@@ -1,5 +1,5 @@
 -- The rows of dependent handles by their targets: each has the index of the one before it with its target.
-use Rattle.std.specs.Prelude.{◌≡◌, ◌≢◌, ℕ, ◌+◌, ◌<◌, ◌≤◌, ◌==◌, ◌⊎◌, ◌++◌, ◌∷◌, [], cond, List, length, slice_get, Option, Some, None, MatchOption}
+use Rattle.std.specs.Prelude.{◌≡◌, ◌≢◌, ℕ, ◌+◌, ◌<◌, ◌≤◌, ◌⊎◌, ◌++◌, ◌∷◌, [], List, length, slice_get, Option, Some, None, MatchOption}
 use Rattle.hd_model.specs.declared.data.Addr.{Addr}
 use Rattle.hd_model.specs.State.{Handle, secondary_of}
 use Rattle.hd_model.specs.Table.{Table, row_at}
@@ -60,8 +60,3 @@ pub record HasGathered (t : Table) (low high : ℕ) (old new : List Link) : Type
 pub record AreLinks (t : Table) (links : List Link) : Type 0 where
   pub only : (x y : Addr) → Attaches links x y → IsAttached (row_at t) x y
   pub all : (x y : Addr) → IsAttached (row_at t) x y → Attaches links x y
-
--- how many blocks of a chain there are from one on
-abbrev pub left_from : List ℕ → ℕ → ℕ
-left_from [] b = 0
-left_from (c ∷ cs) b = cond (c == b) (length cs + 1) (left_from cs b)

@@ -47,7 +47,7 @@ pub record IsWithin (h : Heap) (found : List Found) (y : Addr) (bound : ℕ) : T
   pub at_is : one.at ≡ y
   pub near : key_at h found index ≤ bound
 
--- what a search keeps true, once it has taken so many of the found objects from the queue
+-- what a search keeps true, once it has taken that number of the found objects from the queue
 pub record IsSearching (h : Heap) (t : Table) (anchors : List Addr) (found : List Found) (taken : ℕ)
     : Type 0 where
   pub steps : (i : ℕ) (x : Found) → slice_get found i ≡ Some x

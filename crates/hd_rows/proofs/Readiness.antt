@@ -48,7 +48,7 @@ identities_differ h alone a b p q at_a at_b same =
 pub is_ready : (h : Heap) (t : Table) (ages : List ℕ) (q : Queue) (roots : List (Option Addr))
     → HasNoEmptyRegion h → length ages ≡ 4 * t.blocks → len h.objects ≤ q.room → IsBare h → AreAlone h
     → ArePlain h t ages → ((x : Addr) → Contains roots (Some x) → has_object h x ≡ true)
-    → length q.waiting ≡ 0 → IsReady (parts h t ages q roots)
+    → length q.queued ≡ 0 → IsReady (parts h t ages q roots)
 is_ready h t ages q roots full clumps room bare alone plain named empty = record {
   whole = record {
     fields = λ x y f. absurd (no_field h bare x y f);

@@ -5,8 +5,7 @@ use Rattle.hd_model.specs.declared.data.Addr.{Addr}
 use Rattle.hd_model.specs.Heap.{Heap, has_object}
 use Rattle.hd_heap.specs.Calls.{IsNext}
 use Rattle.hd_heap.specs.Sound.{IsSound}
-use Rattle.hd_gc.specs.Growing.{left_to}
-use Rattle.hd_gc.proofs.CardWalk.{object_fits}
+use Rattle.hd_gc.proofs.CardWalk.{left_to, object_fits}
 
 pub nearer : (h : Heap) (after : Option Addr) (a : Addr) → IsSound h → IsNext (has_object h) after a
     → left_to (Some a) < left_to after

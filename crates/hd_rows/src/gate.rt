@@ -108,8 +108,9 @@ fn play(rt: &impl Abort, alone: &mut Alone, lines: &[Line]) -> Result<(), Memory
     Ok(())
 }
 
-// Does commands of caller 0 in a new world, each of which must get its reply. The live handles and
-// the objects are then so many. It has no clause, so that no test carries what a call promises.
+// Does commands of caller 0 in a new world, each of which must get its reply; `end` has the numbers
+// of live handles and objects after them. It has no clause, so that no test carries what a call
+// promises.
 fn plays(
     rt: &impl Abort,
     alloc: Global,
@@ -258,7 +259,7 @@ fn follow<R: Wait>(rt: &R, shared: &Shared, caller: &mut Caller, cmds: &[Cmd])
     }
 }
 
-// A caller puts an object into its own static, and then does commands so many times over.
+// A caller puts an object into its own static, and then does the commands `times` times.
 fn work<R: Wait>(
     rt: &R,
     shared: &Shared,
@@ -317,7 +318,7 @@ fn play_all<R: Threads + Wait + Abort + Sync>(
 }
 
 // Does commands of one caller in a new world that could be shared. The journal has an entry for
-// each, and so many handles are then live.
+// each, and the number of live handles is then `live`.
 fn plays_shared<R: Threads + Wait + Abort + Sync>(
     rt: &R,
     alloc: Global,
@@ -368,8 +369,8 @@ fn a_caller_frees_a_slot_and_gives_its_block_back(rt: HostRuntime) -> Result<(),
     plays_shared(&rt, rt.alloc(), 1, &[11], &lines, 2)
 }
 
-// A new world that callers in threads share, after all did commands so many times over. The live
-// handles, the objects and the collections are then so many.
+// A new world that callers in threads share, after all did the commands `times` times; `end` has
+// the numbers of live handles, objects and collections after them.
 fn worked<R: AllocGlobal + Threads + Wait + Abort + Sync>(
     rt: &R,
     rooms: &[u32],

@@ -20,7 +20,7 @@ fn sink_of(alloc: Global, room: u32, fails: &[u32]) -> Result<MemorySink, Fail> 
     Ok(MemorySink::open(alloc, room, fails)?)
 }
 
-// Reads into four bytes, of which so many are lent: what each read returns and leaves there.
+// Reads into four bytes, of which `len` are lent: what each read returns and leaves there.
 fn reads<S: Source>(
     rt: &impl Abort,
     source: &mut S,
@@ -34,7 +34,7 @@ fn reads<S: Source>(
     }
 }
 
-// Reads all of a source, of which at most so many bytes are taken.
+// Reads all of a source, of which at most `most` bytes are taken.
 fn reads_all<S: Source>(
     rt: &impl Abort,
     alloc: Global,

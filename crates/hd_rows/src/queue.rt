@@ -40,8 +40,8 @@ fn revive(
     n: u8,
     keeps_first: bool,
 ) -> Result<u32, Memory>
-    requires { queue.old.waiting ≡ [] }
-    ensures { IfOk result (λ _. (a : Addr) → Contains queue.new.waiting a →
+    requires { queue.old.queued ≡ [] }
+    ensures { IfOk result (λ _. (a : Addr) → Contains queue.new.queued a →
         has_object heap.now a ≡ true) }
 {
     assert!(rt; is_closed(heap));
@@ -63,7 +63,7 @@ fn queue_of(
     keeps_first: bool,
     count: u32,
 ) -> Result<Final, Memory>
-    ensures { IfOk result (λ queue. (a : Addr) → Contains queue.waiting a →
+    ensures { IfOk result (λ queue. (a : Addr) → Contains queue.queued a →
         has_object heap.now a ≡ true) }
 {
     let mut queue = Final::open(alloc)?;
@@ -93,8 +93,8 @@ fn age(heap: &mut Heap) {
 
 // Removes the registrations of the queued objects from a position on.
 fn settle(heap: &mut Heap, queue: &Final, from: u32)
-    requires { (a : Addr) → Contains queue.now.waiting a → has_object heap.old a ≡ true }
-    ensures { (a : Addr) → Contains queue.now.waiting a → has_object heap.new a ≡ true }
+    requires { (a : Addr) → Contains queue.now.queued a → has_object heap.old a ≡ true }
+    ensures { (a : Addr) → Contains queue.now.queued a → has_object heap.new a ≡ true }
 {
     queue.settle(heap, from);
 }

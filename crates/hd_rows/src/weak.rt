@@ -94,8 +94,8 @@ fn young_values() -> [Row; 2] {
     ]
 }
 
-// The entry of an object to be finalized stays while the object waits in the queue, and after
-// that while the object is referenced.
+// The entry of an object to be finalized stays while the object is queued for finalization, and
+// after that while the object is referenced.
 fn finalized_keys() -> [Row; 1] {
     [runs(
         "new r0 0 fin\nnew r1 0\ncadd r0 r1\nhnew h0 short r1\ndrop r0\ndrop r1\ncollect 0\n\
@@ -132,7 +132,7 @@ fn refused_and_absent() -> [Row; 2] {
     ]
 }
 
-// A run of so many blocks in which nothing fails.
+// A run in which nothing fails, with the number of blocks that its words give.
 fn of_blocks(words: &'static [&'static str], input: &'static str, text: &'static str) -> Row {
     Row {
         words,

@@ -29,7 +29,7 @@ pub use Rattle.hd_model.specs.State.{BlockUse, Extra, Handle, count, extra_data,
 pub use Rattle.hd_model.specs.Table.{IsTable, Table, chain_of, live_at, row_at}
 pub use Rattle.hd_model.specs.declared.data.Addr.{Addr}
 pub use Rattle.hd_model.specs.declared.data.Kind.{Kind}
-pub use Rattle.hd_model.specs.declared.limits.TheConstants.{ROWS}
+pub use Rattle.hd_model.specs.declared.limits.TheConstants.{BLOCKS, ROWS}
 pub use Rattle.hd_scan.specs.Gathering.{root_at, root_by, roots_of, roots_of_block}
 pub use Rattle.hd_scan.specs.Passes.{ClearPass, IsPinnedBy, IsRootAt, IsSweptAt, IsTaken, IsTargetBy, PassView, PinsBy, RootPass, view_at}
 pub use Rattle.hd_scan.specs.Tasks.{has_role, is_role, long_tasks, root_tasks, short_tasks, swept, takes, takes_any, task_kind, task_role}

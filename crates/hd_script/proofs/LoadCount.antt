@@ -1,5 +1,5 @@
 -- The counts of the lists of a load, and of a journal whose parts they are.
-use Rattle.hd_script.proofs.Basics.{All, All-cons, All-head, All-nil, All-tail, Bool, Chain, Cmd, Entry, List, State, Step, [], ap, arith, collection_after, commands_of, cond, cond_both, eqb, false, get_or, get_or-map-range_with_len, is_collect, length, link, load_numbers, make_of_round, part_of, refl, round_of, stay, suc, sum_by, sum_by-append, sum_by-cons, touched_by, true, zero, ℕ, ◌%◌, ◌*◌, ◌+◌, ◌/◌, ◌<◌, ◌∙◌, ◌∷◌, ◌≡◌}
+use Rattle.hd_script.proofs.Basics.{All, All-cons, All-head, All-nil, All-tail, Bool, Chain, Cmd, Entry, List, ROUNDS_TO_COLLECTION, State, Step, [], ap, arith, collection_after, commands_of, cond, cond_both, eqb, false, get_or, get_or-map-range_with_len, is_collect, length, link, load_numbers, make_of_round, part_of, refl, round_of, stay, suc, sum_by, sum_by-append, sum_by-cons, touched_by, true, zero, ℕ, ◌%◌, ◌*◌, ◌+◌, ◌/◌, ◌<◌, ◌∙◌, ◌∷◌, ◌≡◌}
 use Rattle.hd_model.specs.Generated.{generated_list, generated_lists}
 use Rattle.hd_script.proofs.LoadStep.{bit, written}
 use Rattle.hd_script.proofs.LoadRounds.{rounds_of, round_more, by_rounds, collected}
@@ -69,12 +69,14 @@ one_round f c done =
 collection_sum : (f : Cmd → ℕ) (v round : ℕ) → f (cmd.Collect (round % 3)) ≡ v
     → sum_by f (collection_after round) ≡ v * length (collection_after round)
 collection_sum f v round e =
-    cond_both (eqb (round % 16) 0) (cmd.Collect (round % 3) ∷ []) []
+    cond_both (eqb (round % ROUNDS_TO_COLLECTION) 0) (cmd.Collect (round % 3) ∷ []) []
     (λ list. sum_by f list ≡ v * length list) (λ h. omega (arith, e)) (λ h. omega arith)
 
-pub collects_in : (c rounds : ℕ) → sum_by (λ x. bit (is_collect x)) (rounds_of c rounds) ≡ rounds / 16
+pub collects_in : (c rounds : ℕ)
+    → sum_by (λ x. bit (is_collect x)) (rounds_of c rounds) ≡ rounds / ROUNDS_TO_COLLECTION
 collects_in c =
-    by_rounds (λ rounds. sum_by (λ x. bit (is_collect x)) (rounds_of c rounds) ≡ rounds / 16) refl
+    by_rounds (λ rounds. sum_by (λ x. bit (is_collect x)) (rounds_of c rounds)
+    ≡ rounds / ROUNDS_TO_COLLECTION) refl
     (λ done before.
     (let known = collection_sum (λ x. bit (is_collect x)) 1 (done + 1) refl in
     omega (arith, one_round (λ x. bit (is_collect x)) c done, before, collected done, known)))

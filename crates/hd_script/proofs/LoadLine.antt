@@ -1,5 +1,5 @@
 -- The line of a load.
-use Rattle.hd_script.proofs.Basics.{Cmd, Entry, Id, List, None, Object, Option, Slot, State, [], ap, arith, commands_of, count_entries, empty, entries, get_or, get_or-replicate, handle_register_of, handles_are_made_less_freed, is_collect, len, len-empty, len-entries, length, length-replicate, load_numbers, load_text, load_text_of, makes_object, map, nat_cmp, nil_from_length, none-some, part_of, refl, replicate, replicate_cases, size_of, start_is_well_formed, start_of, sum_by, sym, total_size, touched_by, value_returned, ℕ, ◌*◌, ◌+◌, ◌/◌, ◌<◌, ◌∙◌, ◌≡◌, ◌≤◌}
+use Rattle.hd_script.proofs.Basics.{Cmd, Entry, Id, List, None, Object, Option, REGISTERS, Slot, State, [], ap, arith, commands_of, count_entries, empty, entries, get_or, get_or-replicate, handle_register_of, handles_are_made_less_freed, is_collect, len, len-empty, len-entries, length, length-replicate, load_numbers, load_text, load_text_of, makes_object, map, nat_cmp, nil_from_length, none-some, part_of, refl, replicate, replicate_cases, size_of, start_is_well_formed, start_of, sum_by, sym, total_size, touched_by, value_returned, ℕ, ◌*◌, ◌+◌, ◌/◌, ◌<◌, ◌∙◌, ◌≡◌, ◌≤◌}
 use Rattle.std.proofs.lemmas.List.Folds.{sum_by-replicate}
 use Rattle.hd_script.specs.Load.{IsLoadRun, collections_in, line_of_rounds, LoadsHaveTheirLine}
 use Rattle.hd_script.proofs.{LoadRounds.rounds_of, LoadRounds.rounds_length, LoadRun.Totals, LoadRun.totals}
@@ -19,8 +19,8 @@ nothing_used =
 
 nothing_held : (c : ℕ) → handle_register_of (start_of load_numbers) c 0 ≡ None
 nothing_held c =
-    replicate_cases (λ (row : List (Option Slot)). get_or row 0 None ≡ None) 4 c (replicate 16 None) []
-    (replicate_cases (λ (o : Option Slot). o ≡ None) 16 0 None None refl refl) refl
+    replicate_cases (λ (row : List (Option Slot)). get_or row 0 None ≡ None) 4 c (replicate REGISTERS None) []
+    (replicate_cases (λ (o : Option Slot). o ≡ None) REGISTERS 0 None None refl refl) refl
 
 place_first : (c j m : ℕ) → IsAtPlace (start_of load_numbers) c (place news j m None)
 place_first c j m = record {

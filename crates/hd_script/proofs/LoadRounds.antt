@@ -1,5 +1,5 @@
 -- The lists of a generated script, round by round.
-use Rattle.hd_script.proofs.Basics.{All, All-append, All-cons, All-from_recursion, All-nil, AreLists, Cmd, Global, IsValid, IsValidMake, List, Vec, [], ap, arith, collection_after, cond_both, contents, eqb, eqb-false, eqb-true, false, flat_map, flat_map_more, length, length-append, make_of_round, makes_in_turn, map, map-range_with_len_more, map_push, range_with_len, recursion_from_All, refl, round_of, subst, suc, sym, zero, ℕ, ◌%◌, ◌*◌, ◌++◌, ◌+◌, ◌/◌, ◌<◌, ◌^◌, ◌∙◌, ◌∷◌, ◌≡◌, ◌≤◌}
+use Rattle.hd_script.proofs.Basics.{All, All-append, All-cons, All-from_recursion, All-nil, AreLists, Cmd, Global, IsValid, IsValidMake, List, ROUNDS_TO_COLLECTION, Vec, [], ap, arith, collection_after, cond_both, contents, eqb, eqb-false, eqb-true, false, flat_map, flat_map_more, length, length-append, make_of_round, makes_in_turn, map, map-range_with_len_more, map_push, range_with_len, recursion_from_All, refl, round_of, subst, suc, sym, zero, ℕ, ◌%◌, ◌*◌, ◌++◌, ◌+◌, ◌/◌, ◌<◌, ◌^◌, ◌∙◌, ◌∷◌, ◌≡◌, ◌≤◌}
 use Rattle.hd_model.specs.Generated.{generated_list, generated_lists}
 use Rattle.hd_model.specs.declared.data.Make.TheVariants as make
 use Rattle.hd_model.specs.declared.command.Cmd.TheVariants as cmd
@@ -38,15 +38,20 @@ by_rounds P none more (suc done) =
 
 -- ---- the number of commands
 
-pub collected : (done : ℕ) → length (collection_after (done + 1)) + done / 16 ≡ (done + 1) / 16
+pub collected : (done : ℕ)
+    → length (collection_after (done + 1)) + done / ROUNDS_TO_COLLECTION ≡ (done + 1) / ROUNDS_TO_COLLECTION
 collected done =
-    cond_both (eqb ((done + 1) % 16) 0) _ _ (λ list. length list + done / 16 ≡ (done + 1) / 16)
-    (λ h. let e = eqb-true ((done + 1) % 16) 0 h in omega arith)
-    (λ h. let e : (done + 1) % 16 ≡ 0 → ⊥ = eqb-false ((done + 1) % 16) 0 h in omega arith)
+    cond_both (eqb ((done + 1) % ROUNDS_TO_COLLECTION) 0) _ _
+    (λ list. length list + done / ROUNDS_TO_COLLECTION ≡ (done + 1) / ROUNDS_TO_COLLECTION)
+    (λ h. let e = eqb-true ((done + 1) % ROUNDS_TO_COLLECTION) 0 h in omega arith)
+    (λ h. let e : (done + 1) % ROUNDS_TO_COLLECTION ≡ 0 → ⊥ = eqb-false ((done + 1) % ROUNDS_TO_COLLECTION) 0
+    h in omega arith)
 
-pub rounds_length : (caller rounds : ℕ) → length (rounds_of caller rounds) ≡ 8 * rounds + rounds / 16
+pub rounds_length : (caller rounds : ℕ)
+    → length (rounds_of caller rounds) ≡ 8 * rounds + rounds / ROUNDS_TO_COLLECTION
 rounds_length caller =
-    by_rounds (λ rounds. length (rounds_of caller rounds) ≡ 8 * rounds + rounds / 16) refl (λ done before.
+    by_rounds (λ rounds. length (rounds_of caller rounds) ≡ 8 * rounds + rounds / ROUNDS_TO_COLLECTION) refl
+    (λ done before.
     let eight : length (round_of caller (done + 1)) ≡ 8 + length (collection_after (done + 1)) =
     omega arith in
     (let known = length-append (rounds_of caller done) (round_of caller (done + 1)) in
@@ -56,7 +61,7 @@ rounds_length caller =
 
 valid_collection : (round : ℕ) → All IsValid (collection_after round)
 valid_collection round =
-    cond_both (eqb (round % 16) 0) _ _ (All IsValid)
+    cond_both (eqb (round % ROUNDS_TO_COLLECTION) 0) _ _ (All IsValid)
     (λ h. All-cons IsValid (cmd.Collect (round % 3)) [] (omega arith) (All-nil IsValid))
     (λ h. All-nil IsValid)
 

@@ -1,5 +1,5 @@
 -- What the step of each command of a load does.
-use Rattle.hd_script.proofs.Basics.{Bool, Cmd, Contains, DoesCollect, Entry, FindsTableFull, Id, IsOutcome, IsSome, IsWellFormed, List, MakesHandle, None, Object, Option, Slot, Some, State, StepOf, [], ap, arith, cell_here, cond, eqb, false, false≢true, frees_handle, fresh, get, get_beside, get_inserted, get_left, get_or, get_or-set_other, get_or-set_same, given_vacant, handle_at, handle_register_of, has, identity_of, inl, inr, insert, is_some, last_serial, length, length-replicate, load_numbers, ltb, ltb-true, make_of_round, makes_handle, makes_object, none-some, object_by_id, option_map, refl, register_of, same_Some, set, size_of, some_at, still_some, subst, suc, sym, total_size, touched_by, true, unwrap_or, value_returned, with_growth, with_handle, with_handle_register, with_made, with_object, with_register, with_serial, without_handle, ℕ, ⊎_elim, ◌%◌, ◌*◌, ◌++◌, ◌+◌, ◌/◌, ◌<◌, ◌^◌, ◌∙◌, ◌∷◌, ◌≡◌, ◌≤◌, ◌⊎◌}
+use Rattle.hd_script.proofs.Basics.{Bool, Cmd, Contains, DoesCollect, Entry, FindsTableFull, HEAP, Id, IsOutcome, IsSome, IsWellFormed, List, MakesHandle, None, Object, Option, ROUNDS_TO_COLLECTION, Slot, Some, State, StepOf, [], ap, arith, cell_here, cond, eqb, false, false≢true, frees_handle, fresh, get, get_beside, get_inserted, get_left, get_or, get_or-set_other, get_or-set_same, given_vacant, handle_at, handle_register_of, has, identity_of, inl, inr, insert, is_some, last_serial, length, length-replicate, load_numbers, ltb, ltb-true, make_of_round, makes_handle, makes_object, none-some, object_by_id, option_map, refl, register_of, same_Some, set, size_of, some_at, still_some, subst, suc, sym, total_size, touched_by, true, unwrap_or, value_returned, with_growth, with_handle, with_handle_register, with_made, with_object, with_register, with_serial, without_handle, ℕ, ⊎_elim, ◌%◌, ◌*◌, ◌++◌, ◌+◌, ◌/◌, ◌<◌, ◌^◌, ◌∙◌, ◌∷◌, ◌≡◌, ◌≤◌, ◌⊎◌}
 use Rattle.hd_model.specs.{declared.data.Grown.Grown, declared.data.Refusal.Refusal, declared.data.Reply.Reply, Kinds.kind_of, Scene.scene_of, Reach.named, Collect.cleared, Collect.survivor}
 use Rattle.hd_model.specs.Command.{Outcome, loaded, fresh_object, new_object, set_value, read_value, clear_register, get_target, free_handle, made_handle}
 use Rattle.hd_model.proofs.{Effects.growth_is, WholeScenes.register_named, WholeScenes.whole_scene, SceneCollection.keeps_root, SceneCollection.object_after}
@@ -165,8 +165,8 @@ module _ (s : State) (c : ℕ) (small : c < 4) (well : IsWellFormed load_numbers
       subst (λ (k : ℕ). IsOutcome e (new_object load_numbers s k 0 ((c + j) % 8) false) t) is step.1 in
       let serial : last_serial s c + 1 < 2 ^ 32 = subst (λ (k : ℕ). last_serial s k + 1 < 2 ^ 32) is step.0 in
       test_cases (λ o. IsOutcome e o t → Does s t c p x e.reply)
-      (ltb 1000000 (total_size s + ((c + j) % 8 + 3))) _ _
-      (λ full. let over = ltb-true 1000000 (total_size s + ((c + j) % 8 + 3)) full in absurd (omega arith))
+      (ltb HEAP (total_size s + ((c + j) % 8 + 3))) _ _
+      (λ full. let over = ltb-true HEAP (total_size s + ((c + j) % 8 + 3)) full in absurd (omega arith))
       (λ fits o. carry s t e c p x _ (made_new at_place serial) o) outcome
 
   -- a step to a later line of the round, which keeps the handle and the words of all objects
@@ -387,7 +387,8 @@ module _ (s : State) (c : ℕ) (small : c < 4) (well : IsWellFormed load_numbers
   place_after u false none =
       record { owns = tt; held = none; empty = refl; live = λ x h. absurd (none-some x h) }
 
-  goes_on : (t : State) (h : Option Slot) (r : Reply) (b : Bool) → eqb (j % 16) 0 ≡ b → Frame s t c
+  goes_on : (t : State) (h : Option Slot) (r : Reply) (b : Bool) → eqb (j % ROUNDS_TO_COLLECTION) 0 ≡ b
+      → Frame s t c
       → handle_register_of t c 0 ≡ None → total_size t ≤ total_size s
       → value_returned r ≡ 0 → bit (makes_handle (cmd.HFree 0) r) + one_if_some h
       ≡ bit (frees_handle (cmd.HFree 0) r) → Does s t c (place frees j m h) (cmd.HFree 0) r
@@ -412,7 +413,7 @@ module _ (s : State) (c : ℕ) (small : c < 4) (well : IsWellFormed load_numbers
       subst (λ (k : ℕ). IsOutcome e (free_handle s k 0) t) is step in
       on_handle_cases (λ w. IsOutcome e w t → Does s t c p (cmd.HFree 0) e.reply) s c 0 _
       (λ empty. carry s t e c p (cmd.HFree 0) _
-      (goes_on s h _ (eqb (j % 16) 0) refl (frame_same s c) empty (omega arith) refl
+      (goes_on s h _ (eqb (j % ROUNDS_TO_COLLECTION) 0) refl (frame_same s c) empty (omega arith) refl
       (omega (arith, ap one_if_some (sym at_place.held ∙ empty)))))
       (λ slot has gone. absurd (false≢true
       (sym (ap is_some gone) ∙ at_place.live slot (sym at_place.held ∙ has))))
@@ -422,7 +423,7 @@ module _ (s : State) (c : ℕ) (small : c < 4) (well : IsWellFormed load_numbers
           → Does s (with_handle_register (without_handle s slot) c 0 None) c (place frees j m h)
           (cmd.HFree 0) reply.Done
       freed slot has =
-          goes_on _ h reply.Done (eqb (j % 16) 0) refl
+          goes_on _ h reply.Done (eqb (j % ROUNDS_TO_COLLECTION) 0) refl
           (record {
             registers = λ d apart. refl;
             handle_registers = handle_register_beside s c 0 None;

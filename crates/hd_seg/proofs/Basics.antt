@@ -27,3 +27,4 @@ pub use Rattle.hd_seg.specs.declared.block.Block.{Block}
 pub use Rattle.hd_seg.specs.declared.cells.Cell.{Cell}
 pub use Rattle.hd_seg.specs.declared.row.Extra.{Extra}
 pub use Rattle.hd_seg.specs.declared.row.Row.{Row}
+pub use Rattle.hd_model.specs.declared.limits.TheConstants.{BLOCKS, CLUMP, CLUMPS, KINDS, ROWS}

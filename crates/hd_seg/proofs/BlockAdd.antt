@@ -1,5 +1,5 @@
 -- A block comes into use: for handles, at the end of a chain, or for the extras of another block's rows.
-use Rattle.hd_seg.proofs.Basics.{Block, BlockUse, Contains, Contains-append_left, Contains-push, IsBlocks, IsLeastWithout, IsLinked, IsListed, IsSome, Kind, List, None, Option, Some, Uses, [], ap, arith, block_at, cases_eq, cases_lt, empty, empty_table, extra_data, extras_at, few_kinds, get_or, get_or-set_other, get_or-set_same, get_or_append_left, get_or_push, handles_of, inl, inr, insert, is_some, kind_number, len, len-empty, length, length-replicate, length-set, length_push, mapped, nat_cmp, refl, replicate, set, subst, suc, sum_by, sum_by-set, sym, use_at, use_of, uses_in, with_block, with_data, zero, ℕ, ◌++◌, ◌+◌, ◌<◌, ◌∙◌, ◌∷◌, ◌≡◌, ◌≢◌, ◌≤◌}
+use Rattle.hd_seg.proofs.Basics.{BLOCKS, Block, BlockUse, Contains, Contains-append_left, Contains-push, IsBlocks, IsLeastWithout, IsLinked, IsListed, IsSome, KINDS, Kind, List, None, Option, Some, Uses, [], ap, arith, block_at, cases_eq, cases_lt, empty, empty_table, extra_data, extras_at, few_kinds, get_or, get_or-set_other, get_or-set_same, get_or_append_left, get_or_push, handles_of, inl, inr, insert, is_some, kind_number, len, len-empty, length, length-replicate, length-set, length_push, mapped, nat_cmp, refl, replicate, set, subst, suc, sum_by, sum_by-set, sym, use_at, use_of, uses_in, with_block, with_data, zero, ℕ, ◌++◌, ◌+◌, ◌<◌, ◌∙◌, ◌∷◌, ◌≡◌, ◌≢◌, ◌≤◌}
 use Rattle.hd_seg.proofs.FunctionMaps.{mapped-insert, mapped-same, mapped-empty, len-insert_new}
 use Rattle.hd_seg.proofs.ChainLinks.{none_is_some, some_of, use_is, one_kind, listed_like, found_in, linked_by, linked_with}
 use Rattle.hd_seg.specs.declared.row.BlockKind.TheVariants as block
@@ -291,23 +291,23 @@ module _ (number : ℕ) where
   extras-none : mapped 1 number (extras_at unused_blocks) ≡ empty
   extras-none = mapped-empty 1 number (extras_at unused_blocks) (λ q low high. no_extras q)
 
-  pub blocks-none : number ≤ 256
+  pub blocks-none : number ≤ BLOCKS
       → IsBlocks number 0 (replicate (number + 1) (record { kind = block.Unused; place = 0; extras = None }))
-      (replicate 7 [])
+      (replicate KINDS [])
   blocks-none few = record {
     limit = few;
     size = length-replicate (number + 1) (record { kind = block.Unused; place = 0; extras = None });
     counted = sym (ap len uses-none ∙ len-empty nat_cmp BlockUse);
     spare = omega arith;
-    linked = linked_by refl (λ k i lt. absurd (omega (arith, lt, ap length (no_chain 7 (kind_number k)))))
+    linked = linked_by refl (λ k i lt. absurd (omega (arith, lt, ap length (no_chain KINDS (kind_number k)))))
         (λ k q low high is. absurd (none_is_some _ (no_use q) (some_of _ _ is)));
     plain = λ q none. no_extras q;
   }
 
   pub view-none : uses_in number
-      (replicate (number + 1) (record { kind = block.Unused; place = 0; extras = None })) (replicate 7 [])
+      (replicate (number + 1) (record { kind = block.Unused; place = 0; extras = None })) (replicate KINDS [])
       ≡ record { table = empty_table number; extras = empty }
   view-none i = record {
-    table = record { rows = empty; chains = replicate 7 []; uses = uses-none i; blocks = number };
+    table = record { rows = empty; chains = replicate KINDS []; uses = uses-none i; blocks = number };
     extras = extras-none i;
   }

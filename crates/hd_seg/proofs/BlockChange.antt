@@ -1,5 +1,5 @@
 -- Rows are unchanged where a block comes into use or is taken back.
-use Rattle.hd_seg.proofs.Basics.{Addr, BlockUse, Cell, IsPaired, IsSeg, IsTable, Kind, List, None, Option, Some, Table, Uses, ap, arith, cases_eq, cell_at, cell_in, cond, extra_data, extra_place, false, get, get_beside, get_left, handles_of, has_handles, inl, inr, insert, is_paired, is_single, is_some, kind_in, len, mapped, not-true, place_in, refl, row_by, row_in, same_Some, sym, table_in, true, true≢false, with_block, with_data, without_block, ℕ, ◌%◌, ◌*◌, ◌+◌, ◌/◌, ◌∙◌, ◌≡◌, ◌≢◌, ◌≤◌}
+use Rattle.hd_seg.proofs.Basics.{Addr, BlockUse, Cell, IsPaired, IsSeg, IsTable, Kind, List, None, Option, ROWS, Some, Table, Uses, ap, arith, cases_eq, cell_at, cell_in, cond, extra_data, extra_place, false, get, get_beside, get_left, handles_of, has_handles, inl, inr, insert, is_paired, is_single, is_some, kind_in, len, mapped, not-true, place_in, refl, row_by, row_in, same_Some, sym, table_in, true, true≢false, with_block, with_data, without_block, ℕ, ◌%◌, ◌*◌, ◌+◌, ◌/◌, ◌∙◌, ◌≡◌, ◌≢◌, ◌≤◌}
 use Rattle.hd_seg.proofs.FunctionMaps.{mapped-same, get-insert_same, get-remove_same}
 use Rattle.hd_seg.proofs.ChainLinks.{none_is_some, some_of, one_kind}
 use Rattle.hd_seg.proofs.{BlockAdd.extras_apart, RowCells.row-unused, RowCells.row-empty}
@@ -13,16 +13,17 @@ module _ {u : Uses} {cells : List Cell} {masks : List ℕ} {live : ℕ} (inv : I
   -- other uses and data blocks of the same number of blocks, under which each row is as it was
   module _ (v : Uses) (blocks : v.table.blocks ≡ u.table.blocks)
       (rows : (q : ℕ) → row_in v cells q ≡ row_in u cells q) where
-    pub rows-same : mapped 64 (64 * v.table.blocks) (row_in v cells) ≡ mapped 64 (64 * u.table.blocks)
+    pub rows-same : mapped ROWS (ROWS * v.table.blocks) (row_in v cells) ≡ mapped ROWS (ROWS * u.table.blocks)
         (row_in u cells)
-    rows-same = mapped-same 64 (64 * v.table.blocks) (row_in u cells) (row_in v cells) (λ q low high. rows q)
-        ∙ ap (λ n. mapped 64 (64 * n) (row_in u cells)) blocks
+    rows-same = mapped-same ROWS (ROWS * v.table.blocks) (row_in u cells) (row_in v cells)
+        (λ q low high. rows q)
+        ∙ ap (λ n. mapped ROWS (ROWS * n) (row_in u cells)) blocks
 
     pub seg-same : IsTable v.table
-        → ((q : ℕ) → row_in u cells q ≡ None → (get v.table.uses (q / 64) ≡ Some extra_data → ⊥)
+        → ((q : ℕ) → row_in u cells q ≡ None → (get v.table.uses (q / ROWS) ≡ Some extra_data → ⊥)
         → cell_at cells q ≡ cell.Empty)
         → ((q : ℕ) (t : Option Addr) → cell_at cells q ≡ cell.Target t
-        → has_handles (get v.table.uses (q / 64)) ≡ true)
+        → has_handles (get v.table.uses (q / ROWS)) ≡ true)
         → ((q : ℕ) → row_in u cells q ≡ None → cell_in cells (extra_place v q) ≡ cell.Empty)
         → IsPaired v → IsSeg v cells masks live
     seg-same table vacant targets cleared paired = record {
@@ -31,7 +32,7 @@ module _ {u : Uses} {cells : List Cell} {masks : List ℕ} {live : ℕ} (inv : I
       words = omega (arith, inv.words, blocks);
       counted = inv.counted ∙ sym (ap len rows-same);
       bits = λ b i last lt. inv.bits b i (omega (arith, last, blocks)) lt
-          ∙ sym (ap (λ o. cond (is_some o) 1 0) (rows (64 * b + i)));
+          ∙ sym (ap (λ o. cond (is_some o) 1 0) (rows (ROWS * b + i)));
       fitting = λ q h is. inv.fitting q h (sym (rows q) ∙ is);
       vacant = λ q none plain. vacant q (sym (rows q) ∙ none) plain;
       targets = targets;
@@ -40,7 +41,7 @@ module _ {u : Uses} {cells : List Cell} {masks : List ℕ} {live : ℕ} (inv : I
     }
 
   -- a cell of an unused block
-  unused_cell : (q : ℕ) → get u.table.uses (q / 64) ≡ None → cell_at cells q ≡ cell.Empty
+  unused_cell : (q : ℕ) → get u.table.uses (q / ROWS) ≡ None → cell_at cells q ≡ cell.Empty
   unused_cell q none = inv.vacant q (row-unused _ _ _ none) (unused_apart _ extra_data none)
 
   -- ---- a block of handles
@@ -59,19 +60,19 @@ module _ {u : Uses} {cells : List Cell} {masks : List ℕ} {live : ℕ} (inv : I
 
     pub one_rows : (q : ℕ) → row_in one cells q ≡ row_in u cells q
     one_rows q =
-        elim (cases_eq (q / 64) b) [
-          | inl same ↦ row-empty _ _ _ (unused_cell q (was_none (q / 64) same))
-              ∙ sym (row-empty _ _ _ (unused_cell q (was_none (q / 64) same)))
+        elim (cases_eq (q / ROWS) b) [
+          | inl same ↦ row-empty _ _ _ (unused_cell q (was_none (q / ROWS) same))
+              ∙ sym (row-empty _ _ _ (unused_cell q (was_none (q / ROWS) same)))
           | inr apart ↦ ap (λ o. row_by o (cell_at cells q) (cell_in cells (extra_place u q)))
-              (one_use (q / 64) apart)
+              (one_use (q / ROWS) apart)
         ]
 
     one_targets : (q : ℕ) (t : Option Addr) → cell_at cells q ≡ cell.Target t
-        → has_handles (get one.table.uses (q / 64)) ≡ true
+        → has_handles (get one.table.uses (q / ROWS)) ≡ true
     one_targets q t is =
-        elim (cases_eq (q / 64) b) [
-          | inl same ↦ ap has_handles (one_here (q / 64) same)
-          | inr apart ↦ ap has_handles (one_use (q / 64) apart) ∙ inv.targets q t is
+        elim (cases_eq (q / ROWS) b) [
+          | inl same ↦ ap has_handles (one_here (q / ROWS) same)
+          | inr apart ↦ ap has_handles (one_use (q / ROWS) apart) ∙ inv.targets q t is
         ]
 
     one_paired : is_paired k ≡ false → IsPaired one
@@ -93,9 +94,9 @@ module _ {u : Uses} {cells : List Cell} {masks : List ℕ} {live : ℕ} (inv : I
     one-seg single table =
         seg-same one refl one_rows table
         (λ q nothing not_data.
-        elim (cases_eq (q / 64) b) [
-          | inl same ↦ unused_cell q (was_none (q / 64) same)
-          | inr apart ↦ inv.vacant q nothing (λ extras. not_data (one_use (q / 64) apart ∙ extras))
+        elim (cases_eq (q / ROWS) b) [
+          | inl same ↦ unused_cell q (was_none (q / ROWS) same)
+          | inr apart ↦ inv.vacant q nothing (λ extras. not_data (one_use (q / ROWS) apart ∙ extras))
         ])
         one_targets inv.cleared (one_paired single)
 
@@ -122,55 +123,56 @@ module _ {u : Uses} {cells : List Cell} {masks : List ℕ} {live : ℕ} (inv : I
       d_none : (q : ℕ) → q ≡ d → get u.table.uses q ≡ None
       d_none q same = ap (get u.table.uses) same ∙ unused
 
-      place_other : (q : ℕ) → q / 64 ≢ b → extra_place two q ≡ extra_place u q
-      place_other q not_b = ap (λ o. place_in o (q % 64)) (get_beside u.extras b d (q / 64) not_b)
+      place_other : (q : ℕ) → q / ROWS ≢ b → extra_place two q ≡ extra_place u q
+      place_other q not_b = ap (λ o. place_in o (q % ROWS)) (get_beside u.extras b d (q / ROWS) not_b)
 
       pub two_rows : (q : ℕ) → row_in two cells q ≡ row_in u cells q
       two_rows q =
-          elim (cases_eq (q / 64) b) [
-            | inl same ↦ row-empty _ _ _ (unused_cell q (was_none (q / 64) same))
-                ∙ sym (row-empty _ _ _ (unused_cell q (was_none (q / 64) same)))
-            | inr not_b ↦ elim (cases_eq (q / 64) d) [
-              | inl same ↦ row-empty _ _ _ (unused_cell q (d_none (q / 64) same))
-                  ∙ sym (row-empty _ _ _ (unused_cell q (d_none (q / 64) same)))
+          elim (cases_eq (q / ROWS) b) [
+            | inl same ↦ row-empty _ _ _ (unused_cell q (was_none (q / ROWS) same))
+                ∙ sym (row-empty _ _ _ (unused_cell q (was_none (q / ROWS) same)))
+            | inr not_b ↦ elim (cases_eq (q / ROWS) d) [
+              | inl same ↦ row-empty _ _ _ (unused_cell q (d_none (q / ROWS) same))
+                  ∙ sym (row-empty _ _ _ (unused_cell q (d_none (q / ROWS) same)))
               | inr not_d ↦
                   ap (λ o. row_by o (cell_at cells q) (cell_in cells (extra_place two q)))
-                  (two_use (q / 64) not_b not_d)
-                  ∙ ap (λ o. row_by (get u.table.uses (q / 64)) (cell_at cells q) (cell_in cells o))
+                  (two_use (q / ROWS) not_b not_d)
+                  ∙ ap (λ o. row_by (get u.table.uses (q / ROWS)) (cell_at cells q) (cell_in cells o))
                   (place_other q not_b)
             ]
           ]
 
-      two_vacant : (q : ℕ) → row_in u cells q ≡ None → (get two.table.uses (q / 64) ≡ Some extra_data → ⊥)
+      two_vacant : (q : ℕ) → row_in u cells q ≡ None → (get two.table.uses (q / ROWS) ≡ Some extra_data → ⊥)
           → cell_at cells q ≡ cell.Empty
       two_vacant q nothing not_data =
-          elim (cases_eq (q / 64) b) [
-            | inl same ↦ unused_cell q (was_none (q / 64) same)
-            | inr not_b ↦ elim (cases_eq (q / 64) d) [
-              | inl same ↦ unused_cell q (d_none (q / 64) same)
-              | inr not_d ↦ inv.vacant q nothing (λ extras. not_data (two_use (q / 64) not_b not_d ∙ extras))
+          elim (cases_eq (q / ROWS) b) [
+            | inl same ↦ unused_cell q (was_none (q / ROWS) same)
+            | inr not_b ↦ elim (cases_eq (q / ROWS) d) [
+              | inl same ↦ unused_cell q (d_none (q / ROWS) same)
+              | inr not_d ↦ inv.vacant q nothing
+                  (λ extras. not_data (two_use (q / ROWS) not_b not_d ∙ extras))
             ]
           ]
 
       two_targets : (q : ℕ) (t : Option Addr) → cell_at cells q ≡ cell.Target t
-          → has_handles (get two.table.uses (q / 64)) ≡ true
+          → has_handles (get two.table.uses (q / ROWS)) ≡ true
       two_targets q t is =
-          elim (cases_eq (q / 64) b) [
-            | inl same ↦ ap has_handles (two_here (q / 64) same)
-            | inr not_b ↦ elim (cases_eq (q / 64) d) [
-              | inl same ↦ let no : cell.Empty ≡ cell.Target t = sym (unused_cell q (d_none (q / 64) same))
+          elim (cases_eq (q / ROWS) b) [
+            | inl same ↦ ap has_handles (two_here (q / ROWS) same)
+            | inr not_b ↦ elim (cases_eq (q / ROWS) d) [
+              | inl same ↦ let no : cell.Empty ≡ cell.Target t = sym (unused_cell q (d_none (q / ROWS) same))
                   ∙ is in absurd (cc)
-              | inr not_d ↦ ap has_handles (two_use (q / 64) not_b not_d) ∙ inv.targets q t is
+              | inr not_d ↦ ap has_handles (two_use (q / ROWS) not_b not_d) ∙ inv.targets q t is
             ]
           ]
 
       two_cleared : (q : ℕ) → row_in u cells q ≡ None → cell_in cells (extra_place two q) ≡ cell.Empty
       two_cleared q nothing =
-          elim (cases_eq (q / 64) b) [
+          elim (cases_eq (q / ROWS) b) [
             | inl same ↦
-                let at : (d * 64 + q % 64) / 64 ≡ d = omega arith in
-                ap (λ o. cell_in cells (place_in o (q % 64))) (get-insert_same u.extras b d (q / 64) same)
-                ∙ unused_cell (d * 64 + q % 64) (d_none _ at)
+                let at : (d * ROWS + q % ROWS) / ROWS ≡ d = omega arith in
+                ap (λ o. cell_in cells (place_in o (q % ROWS))) (get-insert_same u.extras b d (q / ROWS) same)
+                ∙ unused_cell (d * ROWS + q % ROWS) (d_none _ at)
             | inr not_b ↦ ap (cell_in cells) (place_other q not_b) ∙ inv.cleared q nothing
           ]
 
@@ -233,7 +235,7 @@ module _ {u : Uses} {cells : List Cell} {masks : List ℕ} {live : ℕ} (inv : I
 
   -- ---- a block that is taken back
   module _ (b : ℕ) (k : Kind) (in_use : get u.table.uses b ≡ Some (handles_of k))
-      (vacant : (q : ℕ) → q / 64 ≡ b → row_in u cells q ≡ None) where
+      (vacant : (q : ℕ) → q / ROWS ≡ b → row_in u cells q ≡ None) where
     abbrev pub back : Uses
     back = record u { table = without_block u.table k b }
 
@@ -245,13 +247,13 @@ module _ {u : Uses} {cells : List Cell} {masks : List ℕ} {live : ℕ} (inv : I
 
     pub back_rows : (q : ℕ) → row_in back cells q ≡ row_in u cells q
     back_rows q =
-        elim (cases_eq (q / 64) b) [
-          | inl same ↦ row-unused _ _ _ (back_none (q / 64) same) ∙ sym (vacant q same)
+        elim (cases_eq (q / ROWS) b) [
+          | inl same ↦ row-unused _ _ _ (back_none (q / ROWS) same) ∙ sym (vacant q same)
           | inr apart ↦ ap (λ o. row_by o (cell_at cells q) (cell_in cells (extra_place u q)))
-              (back_use (q / 64) apart)
+              (back_use (q / ROWS) apart)
         ]
 
-    bare_cell : (q : ℕ) → q / 64 ≡ b → cell_at cells q ≡ cell.Empty
+    bare_cell : (q : ℕ) → q / ROWS ≡ b → cell_at cells q ≡ cell.Empty
     bare_cell q same = inv.vacant q (vacant q same)
         (λ extras. extras_apart _ k extras (ap (get u.table.uses) same ∙ in_use))
 
@@ -259,14 +261,14 @@ module _ {u : Uses} {cells : List Cell} {masks : List ℕ} {live : ℕ} (inv : I
     back-seg table =
         seg-same back refl back_rows table
         (λ q nothing not_data.
-        elim (cases_eq (q / 64) b) [
+        elim (cases_eq (q / ROWS) b) [
           | inl same ↦ bare_cell q same
-          | inr apart ↦ inv.vacant q nothing (λ extras. not_data (back_use (q / 64) apart ∙ extras))
+          | inr apart ↦ inv.vacant q nothing (λ extras. not_data (back_use (q / ROWS) apart ∙ extras))
         ])
         (λ q t is.
-        elim (cases_eq (q / 64) b) [
+        elim (cases_eq (q / ROWS) b) [
           | inl same ↦ let no : cell.Empty ≡ cell.Target t = sym (bare_cell q same) ∙ is in absurd (cc)
-          | inr apart ↦ ap has_handles (back_use (q / 64) apart) ∙ inv.targets q t is
+          | inr apart ↦ ap has_handles (back_use (q / ROWS) apart) ∙ inv.targets q t is
         ])
         inv.cleared
         (record {

@@ -1,5 +1,5 @@
 -- What the reading calls return, by the fields and the value of a table.
-use Rattle.hd_seg.proofs.Basics.{Addr, BlockUse, Cell, Contains, Extra, Handle, IfSome, IsLeastWithout, IsSeg, IsSome, IsTable, Kind, List, None, Option, Row, Some, Table, Uses, [], ap, arith, bit_and, bit_at, bit_at-shr, cell_at, cell_in, chain_of, cond, contains_key, drop, drop_more, empty, empty_table, extra_held, extra_of, extra_place, get, get-empty, get_beside, get_or, get_or_from_slice_get, handles_of, has_handles, is_some, kind_at, kind_in, len, len-empty, length, length-replicate, live_at, mapped, nat_cmp, option_map, place_in, refl, replicate, row_by, row_in, row_of, same_Some, slice_get, slice_get_within, subst, suc, sym, table_in, take, take-append-drop, true, with_block, zero, ℕ, ◌%◌, ◌*◌, ◌++◌, ◌+◌, ◌/◌, ◌<◌, ◌^◌, ◌∙◌, ◌∷◌, ◌≡◌, ◌≤◌}
+use Rattle.hd_seg.proofs.Basics.{Addr, BlockUse, CLUMP, CLUMPS, Cell, Contains, Extra, Handle, IfSome, IsLeastWithout, IsSeg, IsSome, IsTable, Kind, List, None, Option, ROWS, Row, Some, Table, Uses, [], ap, arith, bit_and, bit_at, bit_at-shr, cell_at, cell_in, chain_of, cond, contains_key, drop, drop_more, empty, empty_table, extra_held, extra_of, extra_place, get, get-empty, get_beside, get_or, get_or_from_slice_get, handles_of, has_handles, is_some, kind_at, kind_in, len, len-empty, length, length-replicate, live_at, mapped, nat_cmp, option_map, place_in, refl, replicate, row_by, row_in, row_of, same_Some, slice_get, slice_get_within, subst, suc, sym, table_in, take, take-append-drop, true, with_block, zero, ℕ, ◌%◌, ◌*◌, ◌++◌, ◌+◌, ◌/◌, ◌<◌, ◌^◌, ◌∙◌, ◌∷◌, ◌≡◌, ◌≤◌}
 use Rattle.std.proofs.lemmas.Nat.Bits.{bit_at-zero, bit_at_and, bit_at_ones, bit_at-lt}
 use Rattle.hd_model.proofs.WholeScenes.{if_some_from}
 use Rattle.hd_seg.proofs.{FunctionMaps.mapped-empty, RowRewrite.live_row}
@@ -82,17 +82,17 @@ module _ {u : Uses} {cells : List Cell} {masks : List ℕ} {live : ℕ} (inv : I
       → e ≡ extra_held (cell_in cells (extra_place u slot))
       → Some (record { target = target; extra = e }) ≡ option_map row_of (get t.rows slot)
   row_read target e is held =
-      let handles : get u.table.uses (slot / 64)
-      ≡ Some (handles_of (kind_in (get u.table.uses (slot / 64)))) =
+      let handles : get u.table.uses (slot / ROWS)
+      ≡ Some (handles_of (kind_in (get u.table.uses (slot / ROWS)))) =
       handles_in _ (inv.targets slot target is) in
       let row : row_in u cells slot
       ≡ Some (record {
-        kind = kind_in (get u.table.uses (slot / 64));
+        kind = kind_in (get u.table.uses (slot / ROWS));
         target = target;
         extra = extra_of (extra_held (cell_in cells (extra_place u slot)));
       }) =
       ap (λ o. row_by o (cell_at cells slot) (cell_in cells (extra_place u slot))) handles
-      ∙ ap (λ c. row_by (Some (handles_of (kind_in (get u.table.uses (slot / 64))))) c
+      ∙ ap (λ c. row_by (Some (handles_of (kind_in (get u.table.uses (slot / ROWS))))) c
       (cell_in cells (extra_place u slot))) is in
       ap (λ x. let r : Row = record { target = target; extra = x } in Some r)
       (held ∙ sym (extra-from-of (extra_held (cell_in cells (extra_place u slot)))))
@@ -112,22 +112,24 @@ module _ {u : Uses} {cells : List Cell} {masks : List ℕ} {live : ℕ} (inv : I
 -- the live rows of a clump, by the bits of its block's mask
 module _ {u : Uses} {cells : List Cell} {masks : List ℕ} {live : ℕ} (inv : IsSeg u cells masks live)
     {t : Table} (view_is : table_in u cells ≡ t) where
-  pub clump_bits : (mask block clump i : ℕ) → mask ≡ get_or masks block 0 → block ≤ u.table.blocks → clump < 4
-      → i < 16 → bit_at (bit_and (mask / 2 ^ (16 * clump)) 65535) i
-      ≡ cond (contains_key t.rows (64 * block + 16 * clump + i)) 1 0
+  pub clump_bits : (mask block clump i : ℕ) → mask ≡ get_or masks block 0 → block ≤ u.table.blocks
+      → clump < CLUMPS
+      → i < CLUMP → bit_at (bit_and (mask / 2 ^ (CLUMP * clump)) 65535) i
+      ≡ cond (contains_key t.rows (ROWS * block + CLUMP * clump + i)) 1 0
   clump_bits mask block clump i is high few lt =
-      (let low : bit_at 65535 i ≡ 1 = bit_at_ones 16 i lt in
-      let both : bit_at (bit_and (mask / 2 ^ (16 * clump)) 65535) i ≡ bit_at (mask / 2 ^ (16 * clump)) i =
-      (let known = bit_at_and (mask / 2 ^ (16 * clump)) 65535 i in
-      omega (arith, known, low, bit_at-lt (mask / 2 ^ (16 * clump)) i)) in
+      (let low : bit_at 65535 i ≡ 1 = bit_at_ones CLUMP i lt in
+      let both : bit_at (bit_and (mask / 2 ^ (CLUMP * clump)) 65535) i ≡ bit_at (mask / 2 ^ (CLUMP * clump)) i
+      =
+      (let known = bit_at_and (mask / 2 ^ (CLUMP * clump)) 65535 i in
+      omega (arith, known, low, bit_at-lt (mask / 2 ^ (CLUMP * clump)) i)) in
       both)
-      ∙ bit_at-shr mask (16 * clump) i
-      ∙ ap (λ m. bit_at m (16 * clump + i)) is
-      ∙ inv.bits block (16 * clump + i) high (omega arith)
+      ∙ bit_at-shr mask (CLUMP * clump) i
+      ∙ ap (λ m. bit_at m (CLUMP * clump + i)) is
+      ∙ inv.bits block (CLUMP * clump + i) high (omega arith)
       ∙ ap (λ q. cond (is_some (row_in u cells q)) 1 0)
-      (let e : 64 * block + (16 * clump + i) ≡ 64 * block + 16 * clump + i = omega arith in e)
-      ∙ ap (λ o. cond (is_some o) 1 0) (sym (row_is inv (64 * block + 16 * clump + i))
-      ∙ ap (λ (v : Table). get v.rows (64 * block + 16 * clump + i)) view_is)
+      (let e : ROWS * block + (CLUMP * clump + i) ≡ ROWS * block + CLUMP * clump + i = omega arith in e)
+      ∙ ap (λ o. cond (is_some o) 1 0) (sym (row_is inv (ROWS * block + CLUMP * clump + i))
+      ∙ ap (λ (v : Table). get v.rows (ROWS * block + CLUMP * clump + i)) view_is)
 
 -- ---- the lowest unused block, with rows and without
 
@@ -165,16 +167,16 @@ module _ (blocks : ℕ) where
   none = record { table = empty_table blocks; extras = empty }
 
   abbrev bare : List Cell
-  bare = replicate (64 * (blocks + 1)) cell.Empty
+  bare = replicate (ROWS * (blocks + 1)) cell.Empty
 
   no_row : (q : ℕ) → row_in none bare q ≡ None
-  no_row q = row-empty _ _ _ (empty_cell (64 * (blocks + 1)) q)
+  no_row q = row-empty _ _ _ (empty_cell (ROWS * (blocks + 1)) q)
 
   no_extra_cell : (q : ℕ) → cell_in bare (extra_place none q) ≡ cell.Empty
-  no_extra_cell q = ap (λ o. cell_in bare (place_in o (q % 64))) (get-empty nat_cmp (q / 64))
+  no_extra_cell q = ap (λ o. cell_in bare (place_in o (q % ROWS))) (get-empty nat_cmp (q / ROWS))
 
-  no_rows : mapped 64 (64 * blocks) (row_in none bare) ≡ empty
-  no_rows = mapped-empty 64 (64 * blocks) (row_in none bare) (λ q low high. no_row q)
+  no_rows : mapped ROWS (ROWS * blocks) (row_in none bare) ≡ empty
+  no_rows = mapped-empty ROWS (ROWS * blocks) (row_in none bare) (λ q low high. no_row q)
 
   no_use : {P : Type 0} (q : ℕ) (k : BlockUse) → get none.table.uses q ≡ Some k → P
   no_use q k is = absurd (none_is_some _ (get-empty nat_cmp q) (some_of _ _ is))
@@ -183,17 +185,17 @@ module _ (blocks : ℕ) where
   no_data q d is = absurd (none_is_some _ (get-empty nat_cmp q) (some_of _ _ is))
 
   pub seg-none : IsTable (empty_table blocks) → IsSeg (record { table = empty_table blocks; extras = empty })
-      (replicate (64 * (blocks + 1)) cell.Empty) (replicate (blocks + 1) 0) 0
+      (replicate (ROWS * (blocks + 1)) cell.Empty) (replicate (blocks + 1) 0) 0
   seg-none table = record {
     table = table;
-    room = length-replicate (64 * (blocks + 1)) cell.Empty;
+    room = length-replicate (ROWS * (blocks + 1)) cell.Empty;
     words = length-replicate (blocks + 1) 0;
     counted = sym (ap len no_rows ∙ len-empty nat_cmp (Handle Addr));
     bits = λ b i last lt. ap (λ m. bit_at m i) (no_mask (blocks + 1) b) ∙ bit_at-zero i
-        ∙ sym (ap (λ o. cond (is_some o) 1 0) (no_row (64 * b + i)));
+        ∙ sym (ap (λ o. cond (is_some o) 1 0) (no_row (ROWS * b + i)));
     fitting = λ q h is. absurd (none_is_some _ (no_row q) (some_of _ _ is));
-    vacant = λ q nothing plain. empty_cell (64 * (blocks + 1)) q;
-    targets = λ q t is. let no : cell.Empty ≡ cell.Target t = sym (empty_cell (64 * (blocks + 1)) q) ∙ is in
+    vacant = λ q nothing plain. empty_cell (ROWS * (blocks + 1)) q;
+    targets = λ q t is. let no : cell.Empty ≡ cell.Target t = sym (empty_cell (ROWS * (blocks + 1)) q) ∙ is in
         absurd (cc);
     cleared = λ q nothing. no_extra_cell q;
     paired = record {
@@ -205,5 +207,5 @@ module _ (blocks : ℕ) where
   }
 
   pub view-none : table_in (record { table = empty_table blocks; extras = empty })
-      (replicate (64 * (blocks + 1)) cell.Empty) ≡ empty_table blocks
+      (replicate (ROWS * (blocks + 1)) cell.Empty) ≡ empty_table blocks
   view-none = ap (λ m. let s : Table = record (empty_table blocks) { rows = m } in s) no_rows

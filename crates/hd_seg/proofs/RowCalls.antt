@@ -1,5 +1,5 @@
 -- Each call on one row, by the fields of a table.
-use Rattle.hd_seg.proofs.Basics.{Addr, BlockUse, Cell, Extra, Handle, IsSeg, IsSome, Kind, List, None, Option, Row, Some, Table, Uses, ap, arith, bit_or, bit_xor, cell_at, cell_in, extra_data, extra_held, extra_of, extra_place, fits, fits_in, get, get_or, handle_of, handles_of, inl, inr, kind_at, kind_in, length, length-set, live_at, refl, row_by, row_in, set, sym, table_in, true, true≢false, unwrap_or, with_cell, with_row, without_row, ℕ, ◌%◌, ◌*◌, ◌+◌, ◌-◌, ◌/◌, ◌<◌, ◌^◌, ◌∙◌, ◌≡◌, ◌≤◌}
+use Rattle.hd_seg.proofs.Basics.{Addr, BlockUse, Cell, Extra, Handle, IsSeg, IsSome, Kind, List, None, Option, ROWS, Row, Some, Table, Uses, ap, arith, bit_or, bit_xor, cell_at, cell_in, extra_data, extra_held, extra_of, extra_place, fits, fits_in, get, get_or, handle_of, handles_of, inl, inr, kind_at, kind_in, length, length-set, live_at, refl, row_by, row_in, set, sym, table_in, true, true≢false, unwrap_or, with_cell, with_row, without_row, ℕ, ◌%◌, ◌*◌, ◌+◌, ◌-◌, ◌/◌, ◌<◌, ◌^◌, ◌∙◌, ◌≡◌, ◌≤◌}
 use Rattle.hd_seg.proofs.{FunctionMaps.len-mapped_le, ChainLinks.none_is_some}
 use Rattle.hd_seg.proofs.RowCells.{cases_option, parts, HasParts, row_is, IsWrite, writes, NoTarget, write_cell, write_extra, cell_now, cell_stays, extra_stays, held_now, emptied}
 use Rattle.hd_seg.proofs.RowChange.{inside, block_inside, view-put, view-take, seg-new, seg-same, seg-gone, some_live}
@@ -28,15 +28,15 @@ module _ {u : Uses} {cells : List Cell} {masks : List ℕ} {live : ℕ} (inv : I
 
   -- the call that puts a row
   module _ (row : Row) (vacant : get t.rows slot ≡ None)
-      (fitting : fits_in (get t.uses (slot / 64)) (extra_of row.extra) ≡ true) where
+      (fitting : fits_in (get t.uses (slot / ROWS)) (extra_of row.extra) ≡ true) where
     abbrev pub k : Kind
-    k = kind_in (get t.uses (slot / 64))
+    k = kind_in (get t.uses (slot / ROWS))
 
-    fit : (get t.uses (slot / 64) ≡ Some (handles_of k)) × (fits k (extra_of row.extra) ≡ true)
-    fit = fits_handles (get t.uses (slot / 64)) (extra_of row.extra) fitting
+    fit : (get t.uses (slot / ROWS) ≡ Some (handles_of k)) × (fits k (extra_of row.extra) ≡ true)
+    fit = fits_handles (get t.uses (slot / ROWS)) (extra_of row.extra) fitting
 
-    pub put_block : get u.table.uses (slot / 64) ≡ Some (handles_of k)
-    put_block = ap (λ (v : Table). get v.uses (slot / 64)) view_is ∙ fit.0
+    pub put_block : get u.table.uses (slot / ROWS) ≡ Some (handles_of k)
+    put_block = ap (λ (v : Table). get v.uses (slot / ROWS)) view_is ∙ fit.0
 
     abbrev pub first : List Cell
     first = set cells slot (cell.Target row.target)
@@ -51,7 +51,7 @@ module _ {u : Uses} {cells : List Cell} {masks : List ℕ} {live : ℕ} (inv : I
     pub put_slot : slot < length cells
     put_slot = inside inv put_block put_write
 
-    pub put_mask : slot / 64 < length masks
+    pub put_mask : slot / ROWS < length masks
     put_mask = block_inside inv put_block put_write
 
     put_now : row_in u put slot ≡ Some (handle_of k row)
@@ -64,18 +64,18 @@ module _ {u : Uses} {cells : List Cell} {masks : List ℕ} {live : ℕ} (inv : I
         (held_now inv.paired slot put_block first row.extra
         (length-set cells slot (cell.Target row.target) ∙ inv.room) fit.1)
 
-    pub put-view : table_in u put ≡ with_row t slot (handle_of (kind_at t (slot / 64)) row)
+    pub put-view : table_in u put ≡ with_row t slot (handle_of (kind_at t (slot / ROWS)) row)
     put-view = view-put inv put_block put_write put_now view_is
 
-    pub put-seg : (m b : ℕ) → m ≡ get_or masks (slot / 64) 0 → b ≡ 2 ^ (slot % 64)
-        → IsSeg u put (set masks (slot / 64) (bit_or m b)) (live + 1)
+    pub put-seg : (m b : ℕ) → m ≡ get_or masks (slot / ROWS) 0 → b ≡ 2 ^ (slot % ROWS)
+        → IsSeg u put (set masks (slot / ROWS) (bit_or m b)) (live + 1)
     put-seg = seg-new inv put_block put_write put_now (sym row_seen ∙ vacant) fit.1
 
     pub put_live : live + 1 < 2 ^ 32
     put_live = omega (
       arith,
       inv.counted,
-      len-mapped_le 64 (64 * u.table.blocks) (row_in u cells),
+      len-mapped_le ROWS (ROWS * u.table.blocks) (row_in u cells),
       inv.table.limit,
     )
 
@@ -93,17 +93,17 @@ module _ {u : Uses} {cells : List Cell} {masks : List ℕ} {live : ℕ} (inv : I
               (record { kind = kind.Short; target = None; extra = state.nothing })) some.1))
         ]
 
-    its_parts : HasParts (get u.table.uses (slot / 64)) (cell_at cells slot)
+    its_parts : HasParts (get u.table.uses (slot / ROWS)) (cell_at cells slot)
         (cell_in cells (extra_place u slot)) h
     its_parts = parts _ _ _ h live_row
 
-    its_block : get u.table.uses (slot / 64) ≡ Some (handles_of h.kind)
+    its_block : get u.table.uses (slot / ROWS) ≡ Some (handles_of h.kind)
     its_block = its_parts.use_is
 
     pub live_slot : slot < length cells
     live_slot = inside inv its_block (write_cell inv.paired slot its_block cells cell.Empty)
 
-    pub live_mask : slot / 64 < length masks
+    pub live_mask : slot / ROWS < length masks
     live_mask = block_inside inv its_block (write_cell inv.paired slot its_block cells cell.Empty)
 
     -- another target
@@ -170,8 +170,8 @@ module _ {u : Uses} {cells : List Cell} {masks : List ℕ} {live : ℕ} (inv : I
     pub take-view : table_in u taken ≡ without_row t slot
     take-view = view-take inv its_block take_write live_row take_cell view_is
 
-    pub take-seg : (m b : ℕ) → m ≡ get_or masks (slot / 64) 0 → b ≡ 2 ^ (slot % 64)
-        → IsSeg u taken (set masks (slot / 64) (bit_xor m b)) (live - 1)
+    pub take-seg : (m b : ℕ) → m ≡ get_or masks (slot / ROWS) 0 → b ≡ 2 ^ (slot % ROWS)
+        → IsSeg u taken (set masks (slot / ROWS) (bit_xor m b)) (live - 1)
     take-seg = seg-gone inv its_block take_write live_row take_cell
         (emptied inv.paired slot its_block bare (length-set cells slot cell.Empty ∙ inv.room))
 

@@ -1,5 +1,5 @@
 -- Rows by their cells: what a write of a cell does to them, and what a table's users see of it.
-use Rattle.hd_seg.proofs.Basics.{Addr, BlockUse, Cell, Extra, Handle, IsPaired, IsSeg, IsTable, Kind, List, None, Option, Some, Table, Uses, [], ap, arith, cell_at, cell_in, drop, extra_data, extra_from, extra_held, extra_of, extra_place, fits, get, get_or-set_other, get_or-set_same, handles_of, inl, inr, is_some, length, length-set, mapped, place_in, refl, row_by, row_in, set, subst, suc, sym, table_in, take, take_at, true, with_cell, zero, ℕ, ◌%◌, ◌*◌, ◌++◌, ◌+◌, ◌/◌, ◌<◌, ◌∙◌, ◌∷◌, ◌≡◌, ◌≢◌, ◌≤◌, ◌⊎◌}
+use Rattle.hd_seg.proofs.Basics.{Addr, BlockUse, Cell, Extra, Handle, IsPaired, IsSeg, IsTable, Kind, List, None, Option, ROWS, Some, Table, Uses, [], ap, arith, cell_at, cell_in, drop, extra_data, extra_from, extra_held, extra_of, extra_place, fits, get, get_or-set_other, get_or-set_same, handles_of, inl, inr, is_some, length, length-set, mapped, place_in, refl, row_by, row_in, set, subst, suc, sym, table_in, take, take_at, true, with_cell, zero, ℕ, ◌%◌, ◌*◌, ◌++◌, ◌+◌, ◌/◌, ◌<◌, ◌∙◌, ◌∷◌, ◌≡◌, ◌≢◌, ◌≤◌, ◌⊎◌}
 use Rattle.hd_seg.proofs.FunctionMaps.{get-mapped, get-mapped_out, cases_within, len-mapped_le}
 use Rattle.hd_seg.proofs.{ChainLinks.some_of, BlockAdd.extras_apart, RowRewrite.single_nothing}
 use Rattle.hd_seg.specs.declared.row.Extra.TheVariants as extra
@@ -70,32 +70,32 @@ parts (Some (handles_of k)) (cell.Target t) x h is =
 module _ {u : Uses} (p : IsPaired u) where
   -- the cell of an extra is in a data block
   pub place_is : (q m : ℕ) → extra_place u q ≡ Some m
-      → (d : ℕ) × ((get u.extras (q / 64) ≡ Some d) × (m ≡ d * 64 + q % 64))
+      → (d : ℕ) × ((get u.extras (q / ROWS) ≡ Some d) × (m ≡ d * ROWS + q % ROWS))
   place_is q m is =
-      elim (cases_option (get u.extras (q / 64))) [
-        | inl none ↦ let no : None ≡ Some m = sym (ap (λ o. place_in o (q % 64)) none) ∙ is in absurd (cc)
-        | inr some ↦ let here : Some (some.0 * 64 + q % 64) ≡ Some m =
-            sym (ap (λ o. place_in o (q % 64)) some.1) ∙ is in (some.0, (some.1, cc))
+      elim (cases_option (get u.extras (q / ROWS))) [
+        | inl none ↦ let no : None ≡ Some m = sym (ap (λ o. place_in o (q % ROWS)) none) ∙ is in absurd (cc)
+        | inr some ↦ let here : Some (some.0 * ROWS + q % ROWS) ≡ Some m =
+            sym (ap (λ o. place_in o (q % ROWS)) some.1) ∙ is in (some.0, (some.1, cc))
       ]
 
-  pub place_extras : (q m : ℕ) → extra_place u q ≡ Some m → get u.table.uses (m / 64) ≡ Some extra_data
+  pub place_extras : (q m : ℕ) → extra_place u q ≡ Some m → get u.table.uses (m / ROWS) ≡ Some extra_data
   place_extras q m is =
-      let at : (d : ℕ) × ((get u.extras (q / 64) ≡ Some d) × (m ≡ d * 64 + q % 64)) = place_is q m is in
-      let here : m / 64 ≡ at.0 = omega (arith, at.1.1) in
-      ap (get u.table.uses) here ∙ p.used (q / 64) at.0 at.1.0
+      let at : (d : ℕ) × ((get u.extras (q / ROWS) ≡ Some d) × (m ≡ d * ROWS + q % ROWS)) = place_is q m is in
+      let here : m / ROWS ≡ at.0 = omega (arith, at.1.1) in
+      ap (get u.table.uses) here ∙ p.used (q / ROWS) at.0 at.1.0
 
-  pub place_within : (q m : ℕ) → extra_place u q ≡ Some m → m < 64 * (u.table.blocks + 1)
+  pub place_within : (q m : ℕ) → extra_place u q ≡ Some m → m < ROWS * (u.table.blocks + 1)
   place_within q m is =
-      let at : (d : ℕ) × ((get u.extras (q / 64) ≡ Some d) × (m ≡ d * 64 + q % 64)) = place_is q m is in
-      omega (arith, at.1.1, p.within (q / 64) at.0 at.1.0)
+      let at : (d : ℕ) × ((get u.extras (q / ROWS) ≡ Some d) × (m ≡ d * ROWS + q % ROWS)) = place_is q m is in
+      omega (arith, at.1.1, p.within (q / ROWS) at.0 at.1.0)
 
   -- two slots have their extras in two cells
   pub place_apart : (q s m : ℕ) → extra_place u q ≡ Some m → extra_place u s ≡ Some m → q ≡ s
   place_apart q s m is is' =
-      let a : (d : ℕ) × ((get u.extras (q / 64) ≡ Some d) × (m ≡ d * 64 + q % 64)) = place_is q m is in
-      let b : (d : ℕ) × ((get u.extras (s / 64) ≡ Some d) × (m ≡ d * 64 + s % 64)) = place_is s m is' in
+      let a : (d : ℕ) × ((get u.extras (q / ROWS) ≡ Some d) × (m ≡ d * ROWS + q % ROWS)) = place_is q m is in
+      let b : (d : ℕ) × ((get u.extras (s / ROWS) ≡ Some d) × (m ≡ d * ROWS + s % ROWS)) = place_is s m is' in
       let same : a.0 ≡ b.0 = omega (arith, a.1.1, b.1.1) in
-      let block : q / 64 ≡ s / 64 = p.apart (q / 64) (s / 64) b.0 (a.1.0 ∙ ap Some same) b.1.0 in
+      let block : q / ROWS ≡ s / ROWS = p.apart (q / ROWS) (s / ROWS) b.0 (a.1.0 ∙ ap Some same) b.1.0 in
       omega (arith, a.1.1, b.1.1, block)
 
 -- ---- the table
@@ -106,24 +106,25 @@ module _ {u : Uses} {cells : List Cell} {masks : List ℕ} {live : ℕ} (inv : I
 
   -- a live row is in a block of the table
   pub row_within : (q : ℕ) (h : Handle Addr) → row_in u cells q ≡ Some h
-      → (64 ≤ q) × (q < 64 + 64 * u.table.blocks)
+      → (ROWS ≤ q) × (q < ROWS + ROWS * u.table.blocks)
   row_within q h is =
-      let range : (1 ≤ q / 64) × (q / 64 ≤ u.table.blocks) = used (q / 64) _ (parts _ _ _ h is).use_is in
+      let range : (1 ≤ q / ROWS) × (q / ROWS ≤ u.table.blocks) = used (q / ROWS) _ (parts _ _ _ h is).use_is
+      in
       (omega (arith, range.0), omega (arith, range.1))
 
-  pub row_is : (q : ℕ) → get (mapped 64 (64 * u.table.blocks) (row_in u cells)) q ≡ row_in u cells q
+  pub row_is : (q : ℕ) → get (mapped ROWS (ROWS * u.table.blocks) (row_in u cells)) q ≡ row_in u cells q
   row_is q =
-      elim (cases_within 64 (64 * u.table.blocks) (row_in u cells) q) [
-        | inl is ↦ get-mapped 64 (64 * u.table.blocks) (row_in u cells) q is.0 is.1
-        | inr out ↦ get-mapped_out 64 (64 * u.table.blocks) (row_in u cells) q out ∙ sym (nothing out)
+      elim (cases_within ROWS (ROWS * u.table.blocks) (row_in u cells) q) [
+        | inl is ↦ get-mapped ROWS (ROWS * u.table.blocks) (row_in u cells) q is.0 is.1
+        | inr out ↦ get-mapped_out ROWS (ROWS * u.table.blocks) (row_in u cells) q out ∙ sym (nothing out)
       ]
     where
-      nothing : (q < 64) ⊎ (64 + 64 * u.table.blocks ≤ q) → row_in u cells q ≡ None
+      nothing : (q < ROWS) ⊎ (ROWS + ROWS * u.table.blocks ≤ q) → row_in u cells q ≡ None
       nothing out =
           elim (cases_option (row_in u cells q)) [
             | inl none ↦ none
             | inr some ↦
-                let range : (64 ≤ q) × (q < 64 + 64 * u.table.blocks) = row_within q some.0 some.1 in
+                let range : (ROWS ≤ q) × (q < ROWS + ROWS * u.table.blocks) = row_within q some.0 some.1 in
                 elim out [
                   | inl below ↦ absurd (omega (arith, range.0))
                   | inr past ↦ absurd (omega (arith, range.1))
@@ -136,7 +137,7 @@ module _ {u : Uses} {cells : List Cell} {masks : List ℕ} {live : ℕ} (inv : I
     limit = inv.table.limit;
     rows = λ q h is.
         let here : row_in u cells q ≡ Some h = sym (row_is q) ∙ is in
-        let range : (64 ≤ q) × (q < 64 + 64 * u.table.blocks) = row_within q h here in
+        let range : (ROWS ≤ q) × (q < ROWS + ROWS * u.table.blocks) = row_within q h here in
         record {
           block = (parts _ _ _ h here).use_is;
           fits = inv.fitting q h here;
@@ -145,7 +146,7 @@ module _ {u : Uses} {cells : List Cell} {masks : List ℕ} {live : ℕ} (inv : I
         };
     uses = inv.table.uses;
     given = inv.table.given;
-    live = len-mapped_le 64 (64 * u.table.blocks) (row_in u cells);
+    live = len-mapped_le ROWS (ROWS * u.table.blocks) (row_in u cells);
     kinds = inv.table.kinds;
     once = inv.table.once;
     chained = inv.table.chained;
@@ -159,10 +160,10 @@ module _ {u : Uses} {cells : List Cell} {masks : List ℕ} {live : ℕ} (inv : I
 -- the cells after a write of a slot's cell, or of the cell with its extra
 pub record IsWrite (u : Uses) (slot : ℕ) (cells after : List Cell) : Type 0 where
   pub size : length after ≡ length cells
-  pub cell_other : (q : ℕ) → q ≢ slot → (get u.table.uses (q / 64) ≡ Some extra_data → ⊥)
+  pub cell_other : (q : ℕ) → q ≢ slot → (get u.table.uses (q / ROWS) ≡ Some extra_data → ⊥)
       → cell_at after q ≡ cell_at cells q
   pub extra_other : (q : ℕ) → q ≢ slot → cell_in after (extra_place u q) ≡ cell_in cells (extra_place u q)
-  pub in_data : (q : ℕ) (t : Option Addr) → get u.table.uses (q / 64) ≡ Some extra_data
+  pub in_data : (q : ℕ) (t : Option Addr) → get u.table.uses (q / ROWS) ≡ Some extra_data
       → cell_at after q ≡ cell.Target t → cell_at cells q ≡ cell.Target t
 
 pub writes : {u : Uses} {slot : ℕ} {a b c : List Cell} → IsWrite u slot a b → IsWrite u slot b c
@@ -217,10 +218,10 @@ pub seg_at : {u : Uses} {xs ys : List Cell} {masks : List ℕ} {live : ℕ} → 
 seg_at {u} {xs} {ys} {masks} {live} same = subst (λ cs. IsSeg u cs masks live) (sym same)
 
 module _ {u : Uses} (p : IsPaired u) (slot : ℕ) {k : Kind}
-    (in_block : get u.table.uses (slot / 64) ≡ Some (handles_of k)) (cells : List Cell) where
+    (in_block : get u.table.uses (slot / ROWS) ≡ Some (handles_of k)) (cells : List Cell) where
   place_not_slot : (q m : ℕ) → extra_place u q ≡ Some m → m ≢ slot
   place_not_slot q m is same =
-      extras_apart _ k (sym (ap (λ n. get u.table.uses (n / 64)) same) ∙ place_extras p q m is) in_block
+      extras_apart _ k (sym (ap (λ n. get u.table.uses (n / ROWS)) same) ∙ place_extras p q m is) in_block
 
   -- the slot's own cell
   cell_kept : (c : Cell) (o : Option ℕ) → ((m : ℕ) → o ≡ Some m → m ≢ slot) → cell_in (set cells slot c) o
@@ -234,7 +235,7 @@ module _ {u : Uses} (p : IsPaired u) (slot : ℕ) {k : Kind}
     cell_other = λ q apart plain. get_or-set_other cells slot q c cell.Empty apart;
     extra_other = λ q apart. cell_kept c (extra_place u q) (place_not_slot q);
     in_data = λ q t data_block is.
-        let apart : q ≢ slot = λ same. extras_apart _ k (sym (ap (λ n. get u.table.uses (n / 64)) same)
+        let apart : q ≢ slot = λ same. extras_apart _ k (sym (ap (λ n. get u.table.uses (n / ROWS)) same)
         ∙ data_block) in_block in
         sym (get_or-set_other cells slot q c cell.Empty apart) ∙ is;
   }
@@ -261,7 +262,7 @@ module _ {u : Uses} (p : IsPaired u) (slot : ℕ) {k : Kind}
   write_extra x none = record {
     size = length-with cells x (extra_place u slot);
     cell_other = λ q apart plain. other_cell x (extra_place u slot) q
-        (λ m is same. plain (ap (λ n. get u.table.uses (n / 64)) same ∙ place_extras p slot m is));
+        (λ m is same. plain (ap (λ n. get u.table.uses (n / ROWS)) same ∙ place_extras p slot m is));
     extra_other = λ q apart. other_extra x (extra_place u slot) (extra_place u q)
         (λ m is is'. apart (place_apart p q slot m is' is));
     in_data = λ q t data_block is. target_before x none cells (extra_place u slot) q t is;
@@ -275,36 +276,36 @@ module _ {u : Uses} (p : IsPaired u) (slot : ℕ) {k : Kind}
   extra_there x None m is lt = absurd (cc)
   extra_there x (Some n) m is lt = let same : n ≡ m = cc in get_or-set_same cells n x cell.Empty (omega arith)
 
-  written_at : (x : Cell) (d : ℕ) → length cells ≡ 64 * (u.table.blocks + 1)
-      → get u.extras (slot / 64) ≡ Some d
+  written_at : (x : Cell) (d : ℕ) → length cells ≡ ROWS * (u.table.blocks + 1)
+      → get u.extras (slot / ROWS) ≡ Some d
       → cell_in (with_cell cells (extra_place u slot) x) (extra_place u slot) ≡ x
   written_at x d room is =
-      let at : extra_place u slot ≡ Some (d * 64 + slot % 64) = ap (λ o. place_in o (slot % 64)) is in
-      extra_there x (extra_place u slot) (d * 64 + slot % 64) at (omega (
+      let at : extra_place u slot ≡ Some (d * ROWS + slot % ROWS) = ap (λ o. place_in o (slot % ROWS)) is in
+      extra_there x (extra_place u slot) (d * ROWS + slot % ROWS) at (omega (
         arith,
         place_within p slot _ at,
         room,
       ))
 
   -- the extra that was written, or nothing where the kind has no extra data
-  pub held_now : (e : Extra) → length cells ≡ 64 * (u.table.blocks + 1) → fits k (extra_of e) ≡ true
+  pub held_now : (e : Extra) → length cells ≡ ROWS * (u.table.blocks + 1) → fits k (extra_of e) ≡ true
       → extra_of (extra_held (cell_in (with_cell cells (extra_place u slot) (cell.Extra e))
       (extra_place u slot))) ≡ extra_of e
   held_now e room fitting =
-      elim (cases_option (get u.extras (slot / 64))) [
+      elim (cases_option (get u.extras (slot / ROWS))) [
         | inl none ↦
-            ap (λ o. extra_of (extra_held (cell_in (with_cell cells (place_in o (slot % 64)) (cell.Extra e))
-            (place_in o (slot % 64))))) none
+            ap (λ o. extra_of (extra_held (cell_in (with_cell cells (place_in o (slot % ROWS)) (cell.Extra e))
+            (place_in o (slot % ROWS))))) none
             ∙ sym (single_nothing k (extra_of e)
-            (sym (p.paired (slot / 64) k in_block) ∙ ap is_some none) fitting)
+            (sym (p.paired (slot / ROWS) k in_block) ∙ ap is_some none) fitting)
         | inr some ↦ ap (λ c. extra_of (extra_held c)) (written_at (cell.Extra e) some.0 room some.1)
       ]
 
-  pub emptied : length cells ≡ 64 * (u.table.blocks + 1)
+  pub emptied : length cells ≡ ROWS * (u.table.blocks + 1)
       → cell_in (with_cell cells (extra_place u slot) cell.Empty) (extra_place u slot) ≡ cell.Empty
   emptied room =
-      elim (cases_option (get u.extras (slot / 64))) [
-        | inl none ↦ ap (λ o. cell_in (with_cell cells (place_in o (slot % 64)) cell.Empty)
-            (place_in o (slot % 64))) none
+      elim (cases_option (get u.extras (slot / ROWS))) [
+        | inl none ↦ ap (λ o. cell_in (with_cell cells (place_in o (slot % ROWS)) cell.Empty)
+            (place_in o (slot % ROWS))) none
         | inr some ↦ written_at cell.Empty some.0 room some.1
       ]

@@ -1,5 +1,5 @@
 -- A table after one row changed: what its users see, and what it keeps.
-use Rattle.hd_seg.proofs.Basics.{Addr, Cell, FinMap, Handle, IsSeg, Kind, List, None, Option, Some, Table, Uses, ap, arith, bit_at, bit_or, bit_xor, cases_eq, cases_lt, cell_at, cell_in, cond, empty_of_len, extra_data, extra_place, fits, flip_other, flip_same, get, get-empty, get_or, get_or-set_other, get_or-set_same, handles_of, has_handles, inl, inr, insert, is_some, len, len-insert, len-remove, length, length-set, mapped, nat_cmp, nat_cmp_total, refl, remove, row_by, row_in, same_Some, set, set_other, set_same, subst, sym, table_in, true, with_row, without_row, ℕ, ◌%◌, ◌*◌, ◌+◌, ◌-◌, ◌/◌, ◌<◌, ◌^◌, ◌∙◌, ◌≡◌, ◌≢◌, ◌≤◌}
+use Rattle.hd_seg.proofs.Basics.{Addr, Cell, FinMap, Handle, IsSeg, Kind, List, None, Option, ROWS, Some, Table, Uses, ap, arith, bit_at, bit_or, bit_xor, cases_eq, cases_lt, cell_at, cell_in, cond, empty_of_len, extra_data, extra_place, fits, flip_other, flip_same, get, get-empty, get_or, get_or-set_other, get_or-set_same, handles_of, has_handles, inl, inr, insert, is_some, len, len-insert, len-remove, length, length-set, mapped, nat_cmp, nat_cmp_total, refl, remove, row_by, row_in, same_Some, set, set_other, set_same, subst, sym, table_in, true, with_row, without_row, ℕ, ◌%◌, ◌*◌, ◌+◌, ◌-◌, ◌/◌, ◌<◌, ◌^◌, ◌∙◌, ◌≡◌, ◌≢◌, ◌≤◌}
 use Rattle.hd_seg.proofs.{FunctionMaps.mapped-insert, FunctionMaps.mapped-remove, ChainLinks.none_is_some, ChainLinks.some_of}
 use Rattle.hd_seg.proofs.RowCells.{cases_use, row-unused, row-extras, row-empty, row_is, IsWrite}
 use Rattle.hd_seg.specs.declared.cells.Cell.TheVariants as cell
@@ -17,70 +17,71 @@ one_of m k x is =
     ]
 
 module _ {u : Uses} {cells : List Cell} {masks : List ℕ} {live : ℕ} (inv : IsSeg u cells masks live)
-    {slot : ℕ} {k : Kind} (in_block : get u.table.uses (slot / 64) ≡ Some (handles_of k)) {after : List Cell}
+    {slot : ℕ} {k : Kind} (in_block : get u.table.uses (slot / ROWS) ≡ Some (handles_of k))
+    {after : List Cell}
     (w : IsWrite u slot cells after) where
   -- other rows stay
   pub row_other : (q : ℕ) → q ≢ slot → row_in u after q ≡ row_in u cells q
   row_other q apart =
-      elim (cases_use (get u.table.uses (q / 64))) [
+      elim (cases_use (get u.table.uses (q / ROWS))) [
         | inl none ↦ row-unused _ _ _ none ∙ sym (row-unused _ _ _ none)
         | inr (inl extras) ↦ row-extras _ _ _ extras ∙ sym (row-extras _ _ _ extras)
         | inr (inr rows) ↦
-            let plain : get u.table.uses (q / 64) ≡ Some extra_data → ⊥ =
+            let plain : get u.table.uses (q / ROWS) ≡ Some extra_data → ⊥ =
             λ extras. let no : Some (handles_of rows.0) ≡ Some extra_data = sym rows.1 ∙ extras in cc in
-            ap (λ c. row_by (get u.table.uses (q / 64)) c (cell_in after (extra_place u q)))
+            ap (λ c. row_by (get u.table.uses (q / ROWS)) c (cell_in after (extra_place u q)))
             (w.cell_other q apart plain)
-            ∙ ap (row_by (get u.table.uses (q / 64)) (cell_at cells q)) (w.extra_other q apart)
+            ∙ ap (row_by (get u.table.uses (q / ROWS)) (cell_at cells q)) (w.extra_other q apart)
       ]
 
-  range : (1 ≤ slot / 64) × (slot / 64 ≤ u.table.blocks)
-  range = inv.table.uses (slot / 64) (some_of _ _ in_block)
+  range : (1 ≤ slot / ROWS) × (slot / ROWS ≤ u.table.blocks)
+  range = inv.table.uses (slot / ROWS) (some_of _ _ in_block)
 
   pub inside : slot < length cells
   inside = omega (arith, range.1, inv.room)
 
-  pub block_inside : slot / 64 < length masks
+  pub block_inside : slot / ROWS < length masks
   block_inside = omega (arith, range.1, inv.words)
 
   -- the bits of the masks, where that of the slot is as its row is
-  bits-after : (m : ℕ) → bit_at m (slot % 64) ≡ bit_of (row_in u after slot)
-      → ((i : ℕ) → i ≢ slot % 64 → bit_at m i ≡ bit_at (get_or masks (slot / 64) 0) i)
-      → (b i : ℕ) → b ≤ u.table.blocks → i < 64 → bit_at (get_or (set masks (slot / 64) m) b 0) i
-      ≡ bit_of (row_in u after (64 * b + i))
+  bits-after : (m : ℕ) → bit_at m (slot % ROWS) ≡ bit_of (row_in u after slot)
+      → ((i : ℕ) → i ≢ slot % ROWS → bit_at m i ≡ bit_at (get_or masks (slot / ROWS) 0) i)
+      → (b i : ℕ) → b ≤ u.table.blocks → i < ROWS → bit_at (get_or (set masks (slot / ROWS) m) b 0) i
+      ≡ bit_of (row_in u after (ROWS * b + i))
   bits-after m here others b i last lt =
-      elim (cases_eq b (slot / 64)) [
+      elim (cases_eq b (slot / ROWS)) [
         | inl same ↦
-            ap (λ n. bit_at n i) (ap (λ n. get_or (set masks (slot / 64) m) n 0) same
-            ∙ get_or-set_same masks (slot / 64) m 0 block_inside)
-            ∙ elim (cases_eq i (slot % 64)) [
-              | inl at ↦ let it : 64 * b + i ≡ slot = omega (arith, same, at) in ap (bit_at m) at ∙ here
+            ap (λ n. bit_at n i) (ap (λ n. get_or (set masks (slot / ROWS) m) n 0) same
+            ∙ get_or-set_same masks (slot / ROWS) m 0 block_inside)
+            ∙ elim (cases_eq i (slot % ROWS)) [
+              | inl at ↦ let it : ROWS * b + i ≡ slot = omega (arith, same, at) in ap (bit_at m) at ∙ here
                   ∙ sym (ap (λ q. bit_of (row_in u after q)) it)
               | inr apart ↦
-                  let other : 64 * b + i ≢ slot = λ e. apart (omega (arith, e, same, lt)) in
+                  let other : ROWS * b + i ≢ slot = λ e. apart (omega (arith, e, same, lt)) in
                   others i apart ∙ sym (ap (λ n. bit_at (get_or masks n 0) i) same) ∙ inv.bits b i last lt
-                  ∙ sym (ap bit_of (row_other (64 * b + i) other))
+                  ∙ sym (ap bit_of (row_other (ROWS * b + i) other))
             ]
         | inr apart ↦
-            let other : 64 * b + i ≢ slot = λ e. apart (omega (arith, e, lt)) in
-            ap (λ n. bit_at n i) (get_or-set_other masks (slot / 64) b m 0 apart) ∙ inv.bits b i last lt
-            ∙ sym (ap bit_of (row_other (64 * b + i) other))
+            let other : ROWS * b + i ≢ slot = λ e. apart (omega (arith, e, lt)) in
+            ap (λ n. bit_at n i) (get_or-set_other masks (slot / ROWS) b m 0 apart) ∙ inv.bits b i last lt
+            ∙ sym (ap bit_of (row_other (ROWS * b + i) other))
       ]
 
   bits-same : is_some (row_in u after slot) ≡ is_some (row_in u cells slot) → (b i : ℕ)
-      → b ≤ u.table.blocks → i < 64 → bit_at (get_or masks b 0) i ≡ bit_of (row_in u after (64 * b + i))
+      → b ≤ u.table.blocks → i < ROWS → bit_at (get_or masks b 0) i ≡ bit_of (row_in u after (ROWS * b + i))
   bits-same alike b i last lt =
       inv.bits b i last lt
-      ∙ elim (cases_eq (64 * b + i) slot) [
+      ∙ elim (cases_eq (ROWS * b + i) slot) [
         | inl at ↦ ap (λ q. bit_of (row_in u cells q)) at ∙ ap (λ t. cond t 1 0) (sym alike)
             ∙ sym (ap (λ q. bit_of (row_in u after q)) at)
-        | inr other ↦ sym (ap bit_of (row_other (64 * b + i) other))
+        | inr other ↦ sym (ap bit_of (row_other (ROWS * b + i) other))
       ]
 
   -- what the table keeps
   seg-after : (new_masks : List ℕ) (new_live : ℕ) → length new_masks ≡ length masks
-      → new_live ≡ len (mapped 64 (64 * u.table.blocks) (row_in u after))
-      → ((b i : ℕ) → b ≤ u.table.blocks → i < 64 → bit_at (get_or new_masks b 0) i
-      ≡ bit_of (row_in u after (64 * b + i)))
+      → new_live ≡ len (mapped ROWS (ROWS * u.table.blocks) (row_in u after))
+      → ((b i : ℕ) → b ≤ u.table.blocks → i < ROWS → bit_at (get_or new_masks b 0) i
+      ≡ bit_of (row_in u after (ROWS * b + i)))
       → ((h : Handle Addr) → row_in u after slot ≡ Some h → fits h.kind h.extra ≡ true)
       → (row_in u after slot ≡ None → (cell_at after slot ≡ cell.Empty)
       × (cell_in after (extra_place u slot) ≡ cell.Empty))
@@ -112,11 +113,11 @@ module _ {u : Uses} {cells : List Cell} {masks : List ℕ} {live : ℕ} (inv : I
   }
     where
       target_block : (q : ℕ) (t : Option Addr) → cell_at after q ≡ cell.Target t
-          → has_handles (get u.table.uses (q / 64)) ≡ true
+          → has_handles (get u.table.uses (q / ROWS)) ≡ true
       target_block q t is =
-          elim (cases_use (get u.table.uses (q / 64))) [
+          elim (cases_use (get u.table.uses (q / ROWS))) [
             | inl none ↦ elim (cases_eq q slot) [
-              | inl same ↦ ap (λ n. has_handles (get u.table.uses (n / 64))) same ∙ ap has_handles in_block
+              | inl same ↦ ap (λ n. has_handles (get u.table.uses (n / ROWS))) same ∙ ap has_handles in_block
               | inr apart ↦ inv.targets q t
                   (sym (w.cell_other q apart (λ extras. let no : None ≡ Some extra_data = sym none ∙ extras in
                   cc)) ∙ is)
@@ -126,12 +127,12 @@ module _ {u : Uses} {cells : List Cell} {masks : List ℕ} {live : ℕ} (inv : I
           ]
 
   abbrev rows : List Cell → FinMap nat_cmp (Handle Addr)
-  rows cs = mapped 64 (64 * u.table.blocks) (row_in u cs)
+  rows cs = mapped ROWS (ROWS * u.table.blocks) (row_in u cs)
 
   -- a row is there afterwards
   module _ {h : Handle Addr} (now : row_in u after slot ≡ Some h) where
     rows-put : rows after ≡ insert (rows cells) slot h
-    rows-put = mapped-insert 64 (64 * u.table.blocks) (row_in u cells) (row_in u after) slot h
+    rows-put = mapped-insert ROWS (ROWS * u.table.blocks) (row_in u cells) (row_in u after) slot h
         (omega (arith, range.0)) (omega (arith, range.1)) now row_other
 
     pub view-put : {t : Table} → table_in u cells ≡ t → table_in u after ≡ with_row t slot h
@@ -146,8 +147,8 @@ module _ {u : Uses} {cells : List Cell} {masks : List ℕ} {live : ℕ} (inv : I
 
     seg-put : (new_masks : List ℕ) (new_live : ℕ) → length new_masks ≡ length masks
         → new_live ≡ len (rows after)
-        → ((b i : ℕ) → b ≤ u.table.blocks → i < 64 → bit_at (get_or new_masks b 0) i
-        ≡ bit_of (row_in u after (64 * b + i)))
+        → ((b i : ℕ) → b ≤ u.table.blocks → i < ROWS → bit_at (get_or new_masks b 0) i
+        ≡ bit_of (row_in u after (ROWS * b + i)))
         → fits h.kind h.extra ≡ true → IsSeg u after new_masks new_live
     seg-put new_masks new_live words counted bits fitting =
         seg-after new_masks new_live words counted bits
@@ -157,14 +158,15 @@ module _ {u : Uses} {cells : List Cell} {masks : List ℕ} {live : ℕ} (inv : I
 
     -- where there was none
     pub seg-new : row_in u cells slot ≡ None → fits h.kind h.extra ≡ true → (m b : ℕ)
-        → m ≡ get_or masks (slot / 64) 0 → b ≡ 2 ^ (slot % 64)
-        → IsSeg u after (set masks (slot / 64) (bit_or m b)) (live + 1)
+        → m ≡ get_or masks (slot / ROWS) 0 → b ≡ 2 ^ (slot % ROWS)
+        → IsSeg u after (set masks (slot / ROWS) (bit_or m b)) (live + 1)
     seg-new none fitting m b m_is b_is =
-        seg-put (set masks (slot / 64) (bit_or m b)) (live + 1) (length-set masks (slot / 64) (bit_or m b))
+        seg-put (set masks (slot / ROWS) (bit_or m b)) (live + 1)
+        (length-set masks (slot / ROWS) (bit_or m b))
         (sym (count-put ∙ ap (λ o. cond (is_some o) live (live + 1)) none))
         (bits-after (bit_or m b)
-        (ap (λ c. bit_at (bit_or m c) (slot % 64)) b_is ∙ set_same m (slot % 64) ∙ sym (ap bit_of now))
-        (λ i apart. ap (λ c. bit_at (bit_or m c) i) b_is ∙ set_other m (slot % 64) i apart
+        (ap (λ c. bit_at (bit_or m c) (slot % ROWS)) b_is ∙ set_same m (slot % ROWS) ∙ sym (ap bit_of now))
+        (λ i apart. ap (λ c. bit_at (bit_or m c) i) b_is ∙ set_other m (slot % ROWS) i apart
         ∙ ap (λ n. bit_at n i) m_is))
         fitting
 
@@ -182,7 +184,7 @@ module _ {u : Uses} {cells : List Cell} {masks : List ℕ} {live : ℕ} (inv : I
       none_now = row-empty _ _ _ cell_now
 
       rows-take : rows after ≡ remove (rows cells) slot
-      rows-take = mapped-remove 64 (64 * u.table.blocks) (row_in u cells) (row_in u after) slot none_now
+      rows-take = mapped-remove ROWS (ROWS * u.table.blocks) (row_in u cells) (row_in u after) slot none_now
           row_other
 
       pub view-take : {t : Table} → table_in u cells ≡ t → table_in u after ≡ without_row t slot
@@ -198,22 +200,23 @@ module _ {u : Uses} {cells : List Cell} {masks : List ℕ} {live : ℕ} (inv : I
           ∙ ap (λ o. cond (is_some o) (len (rows cells) - 1) (len (rows cells))) (row_is inv slot ∙ was)
           ∙ ap (λ n. n - 1) (sym inv.counted)
 
-      bit_was : bit_at (get_or masks (slot / 64) 0) (slot % 64) ≡ 1
+      bit_was : bit_at (get_or masks (slot / ROWS) 0) (slot % ROWS) ≡ 1
       bit_was =
-          inv.bits (slot / 64) (slot % 64) range.1 (omega arith)
-          ∙ ap (λ q. bit_of (row_in u cells q)) (let e : 64 * (slot / 64) + slot % 64 ≡ slot = omega arith in
+          inv.bits (slot / ROWS) (slot % ROWS) range.1 (omega arith)
+          ∙ ap (λ q. bit_of (row_in u cells q))
+          (let e : ROWS * (slot / ROWS) + slot % ROWS ≡ slot = omega arith in
           e)
           ∙ ap bit_of was
 
       pub seg-gone : cell_in after (extra_place u slot) ≡ cell.Empty → (m b : ℕ)
-          → m ≡ get_or masks (slot / 64) 0 → b ≡ 2 ^ (slot % 64)
-          → IsSeg u after (set masks (slot / 64) (bit_xor m b)) (live - 1)
+          → m ≡ get_or masks (slot / ROWS) 0 → b ≡ 2 ^ (slot % ROWS)
+          → IsSeg u after (set masks (slot / ROWS) (bit_xor m b)) (live - 1)
       seg-gone extra_now m b m_is b_is =
-          seg-after (set masks (slot / 64) (bit_xor m b)) (live - 1)
-          (length-set masks (slot / 64) (bit_xor m b)) (sym count-take)
+          seg-after (set masks (slot / ROWS) (bit_xor m b)) (live - 1)
+          (length-set masks (slot / ROWS) (bit_xor m b)) (sym count-take)
           (bits-after (bit_xor m b)
-          (ap (λ c. bit_at (bit_xor m c) (slot % 64)) b_is ∙ flip_same m (slot % 64)
-          ∙ ap (λ n. 1 - bit_at n (slot % 64)) m_is ∙ ap (λ n. 1 - n) bit_was ∙ sym (ap bit_of none_now))
-          (λ i apart. ap (λ c. bit_at (bit_xor m c) i) b_is ∙ flip_other m (slot % 64) i apart
+          (ap (λ c. bit_at (bit_xor m c) (slot % ROWS)) b_is ∙ flip_same m (slot % ROWS)
+          ∙ ap (λ n. 1 - bit_at n (slot % ROWS)) m_is ∙ ap (λ n. 1 - n) bit_was ∙ sym (ap bit_of none_now))
+          (λ i apart. ap (λ c. bit_at (bit_xor m c) i) b_is ∙ flip_other m (slot % ROWS) i apart
           ∙ ap (λ n. bit_at n i) m_is))
           (λ h is. absurd (none_is_some _ none_now (some_of _ _ is))) (λ none. (cell_now, extra_now))

@@ -9,6 +9,7 @@ use Rattle.hd_world.proofs.IdentityReadings.{no_some}
 use Rattle.hd_model.specs.declared.data.Refusal.TheVariants as refusal
 use Rattle.hd_model.specs.declared.data.Reply.TheVariants as reply
 use Rattle.hd_model.specs.declared.command.Cmd.TheVariants as cmd
+use Rattle.hd_model.specs.declared.limits.TheConstants.{REGISTERS}
 
 -- an entry of `addr` or `collect`
 abbrev pub entry_with : ℕ → Cmd → Reply → Entry
@@ -139,7 +140,7 @@ module _ (s : State) where
           (same_Some id x (sym a.0 ∙ is))
       by (Err refused) a = absurd (no_some x (sym is ∙ a.0))
 
-module _ (m : Machine) (caller h : ℕ) (known : caller < m.numbers.callers) (low : h < 16) where
+module _ (m : Machine) (caller h : ℕ) (known : caller < m.numbers.callers) (low : h < REGISTERS) where
   came_to : {w : Outcome} {after : State} (answer : Reply) → reply_with answer after ≡ w
       → IsOutcome (entry_with caller (cmd.AddrOf h) answer) w after
   came_to {w} {after} answer is = subst (λ o. IsOutcome (entry_with caller (cmd.AddrOf h) answer) o after) is

@@ -22,6 +22,7 @@ use Rattle.hd_world.proofs.RootRows.{rest-drop}
 use Rattle.hd_world.proofs.IdentityReadings.{no_some, name-is}
 use Rattle.hd_model.proofs.SceneCollection.{mapped_value}
 use Rattle.std.proofs.lemmas.List.{drop-map}
+use Rattle.hd_model.specs.declared.limits.TheConstants.{REGISTERS}
 
 -- ---- members
 
@@ -94,18 +95,18 @@ path_first (IsPath.more e rest) = refl
 
 module _ (f : Parts) (stored : IsStored f) where
   abbrev pub statics_in : List (Option Addr)
-  statics_in = drop (16 * callers_of f) f.roots
+  statics_in = drop (REGISTERS * callers_of f) f.roots
 
   abbrev pub listed : List Addr
-  listed = anchor_list statics_in f.queue.waiting (roots_of f.table)
+  listed = anchor_list statics_in f.queue.queued (roots_of f.table)
 
   -- what is made of the parts one after the other is that list
   pub listed-is : {statics roots : List (Option Addr)} {held : List Root} {made list : List Addr}
-      → (n : ℕ) → list ≡ made → made ≡ anchor_list statics f.queue.waiting held
-      → statics ≡ drop (16 * n) roots
+      → (n : ℕ) → list ≡ made → made ≡ anchor_list statics f.queue.queued held
+      → statics ≡ drop (REGISTERS * n) roots
       → roots ≡ f.roots → n ≡ callers_of f → held ≡ roots_of f.table → list ≡ listed
   listed-is n is of cut whole callers of_table =
-      is ∙ of ∙ (λ k. anchor_list ((cut ∙ (λ j. drop (16 * callers j) (whole j))) k) f.queue.waiting
+      is ∙ of ∙ (λ k. anchor_list ((cut ∙ (λ j. drop (REGISTERS * callers j) (whole j))) k) f.queue.queued
       (of_table k))
 
   abbrev AnchorAt : Addr → Type 0
@@ -116,14 +117,14 @@ module _ (f : Parts) (stored : IsStored f) where
 
   anchor_listed : (x : Addr) → AnchorAt x → Contains listed x
   anchor_listed x (in_static h) =
-      Contains-append_left (statics_listed ++ f.queue.waiting) (map place_of (roots_of f.table)) x
-      (Contains-append_left statics_listed f.queue.waiting x
+      Contains-append_left (statics_listed ++ f.queue.queued) (map place_of (roots_of f.table)) x
+      (Contains-append_left statics_listed f.queue.queued x
       (flat_in option_to_list statics_in (Some x) x h (listed_in (Some x) x refl)))
   anchor_listed x (in_queue h) =
-      Contains-append_left (statics_listed ++ f.queue.waiting) (map place_of (roots_of f.table)) x
-      (Contains-append_right statics_listed f.queue.waiting x h)
+      Contains-append_left (statics_listed ++ f.queue.queued) (map place_of (roots_of f.table)) x
+      (Contains-append_right statics_listed f.queue.queued x h)
   anchor_listed x (by_handle h) =
-      Contains-append_right (statics_listed ++ f.queue.waiting) (map place_of (roots_of f.table)) x
+      Contains-append_right (statics_listed ++ f.queue.queued) (map place_of (roots_of f.table)) x
       (held_listed f.table x h)
 
   static_anchor : (x : Addr) → Contains statics_listed x → AnchorAt x
@@ -135,15 +136,15 @@ module _ (f : Parts) (stored : IsStored f) where
   listed_anchor x h =
       ⊎_elim
       (λ named. ⊎_elim (static_anchor x) in_queue
-      (Contains-append_cases statics_listed f.queue.waiting x named))
+      (Contains-append_cases statics_listed f.queue.queued x named))
       (λ held. by_handle (listed_held f.table x held))
-      (Contains-append_cases (statics_listed ++ f.queue.waiting) (map place_of (roots_of f.table)) x h)
+      (Contains-append_cases (statics_listed ++ f.queue.queued) (map place_of (roots_of f.table)) x h)
 
   static_object : (x : Addr) → Contains statics_in (Some x) → has_object f.heap x ≡ true
   static_object x h =
       stored.whole.named x
-      (subst (λ os. Contains os (Some x)) (take-append-drop (16 * callers_of f) f.roots)
-      (Contains-append_right (take (16 * callers_of f) f.roots) statics_in (Some x) h))
+      (subst (λ os. Contains os (Some x)) (take-append-drop (REGISTERS * callers_of f) f.roots)
+      (Contains-append_right (take (REGISTERS * callers_of f) f.roots) statics_in (Some x) h))
 
   anchor_object : (x : Addr) → AnchorAt x → has_object f.heap x ≡ true
   anchor_object x (in_static h) = static_object x h
@@ -155,7 +156,7 @@ module _ (f : Parts) (stored : IsStored f) where
 
   statics_read : map (option_map (id_at f.heap)) statics_in ≡ (state_of f).statics
   statics_read =
-      sym (drop-map (option_map (id_at f.heap)) (16 * callers_of f) f.roots)
+      sym (drop-map (option_map (id_at f.heap)) (REGISTERS * callers_of f) f.roots)
       ∙ sym (rest-drop (callers_of f) (map (option_map (id_at f.heap)) f.roots))
 
   -- ---- by identity

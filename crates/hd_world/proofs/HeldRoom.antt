@@ -3,39 +3,40 @@ use Rattle.hd_world.proofs.StoreWords.{BlockUse, Bool, Contains, Contains-append
 use Rattle.std.proofs.lemmas.List.FromFn.{length-range_with_len, get_or-range_with_len}
 use Rattle.hd_model.proofs.MapEntries.{entry_of}
 use Rattle.hd_world.proofs.EntrySearch.{at-idle}
+use Rattle.hd_model.specs.declared.limits.TheConstants.{ROWS}
 
 -- the slots of the blocks of dependent handles, 64 for each
 abbrev slots_of : List (ℕ × BlockUse) → List ℕ
 slots_of [] = []
-slots_of (e ∷ es) = range_with_len (64 * e.0) (64 * one_dependent e.1) ++ slots_of es
+slots_of (e ∷ es) = range_with_len (ROWS * e.0) (ROWS * one_dependent e.1) ++ slots_of es
 
 length_slots : (es : List (ℕ × BlockUse))
-    → length (slots_of es) ≡ 64 * sum_by one_dependent (map (λ e. e.1) es)
+    → length (slots_of es) ≡ ROWS * sum_by one_dependent (map (λ e. e.1) es)
 length_slots [] = refl
 length_slots (e ∷ es) =
-    let known = length-append (range_with_len (64 * e.0) (64 * one_dependent e.1)) (slots_of es) in
-    let also = length-range_with_len (64 * e.0) (64 * one_dependent e.1) in
+    let known = length-append (range_with_len (ROWS * e.0) (ROWS * one_dependent e.1)) (slots_of es) in
+    let also = length-range_with_len (ROWS * e.0) (ROWS * one_dependent e.1) in
     omega (arith, known, also, length_slots es, sum_by-cons one_dependent e.1 (map (λ w. w.1) es))
 
-in_block : (b slot : ℕ) → slot / 64 ≡ b → Contains (range_with_len (64 * b) 64) slot
+in_block : (b slot : ℕ) → slot / ROWS ≡ b → Contains (range_with_len (ROWS * b) ROWS) slot
 in_block b slot is =
-    subst (λ s. Contains (range_with_len (64 * b) 64) s)
-    (get_or-range_with_len (64 * b) 64 (slot % 64) 0 (omega arith) ∙ omega (arith, is))
-    (Contains-get_or (range_with_len (64 * b) 64) (slot % 64) 0
-    (omega (arith, length-range_with_len (64 * b) 64)))
+    subst (λ s. Contains (range_with_len (ROWS * b) ROWS) s)
+    (get_or-range_with_len (ROWS * b) ROWS (slot % ROWS) 0 (omega arith) ∙ omega (arith, is))
+    (Contains-get_or (range_with_len (ROWS * b) ROWS) (slot % ROWS) 0
+    (omega (arith, length-range_with_len (ROWS * b) ROWS)))
 
-in_slots : (es : List (ℕ × BlockUse)) (slot : ℕ) → Contains es (slot / 64, handles_of Dependent)
+in_slots : (es : List (ℕ × BlockUse)) (slot : ℕ) → Contains es (slot / ROWS, handles_of Dependent)
     → Contains (slots_of es) slot
-in_slots [] slot h = absurd (not_in_none (slot / 64, handles_of Dependent) h)
+in_slots [] slot h = absurd (not_in_none (slot / ROWS, handles_of Dependent) h)
 in_slots (e ∷ es) slot h =
-    let here : List ℕ = range_with_len (64 * e.0) (64 * one_dependent e.1) in
+    let here : List ℕ = range_with_len (ROWS * e.0) (ROWS * one_dependent e.1) in
     ⊎_elim
     (λ same. Contains-append_left here (slots_of es) slot
-    (subst (λ (d : ℕ × BlockUse). Contains (range_with_len (64 * d.0) (64 * one_dependent d.1)) slot)
+    (subst (λ (d : ℕ × BlockUse). Contains (range_with_len (ROWS * d.0) (ROWS * one_dependent d.1)) slot)
     (sym same)
-    (in_block (slot / 64) slot refl)))
+    (in_block (slot / ROWS) slot refl)))
     (λ later. Contains-append_right here (slots_of es) slot (in_slots es slot later))
-    (member_cases e es (slot / 64, handles_of Dependent) h)
+    (member_cases e es (slot / ROWS, handles_of Dependent) h)
 
 -- a block has dependent handles or extra data, not both
 one_use : (u : BlockUse) → one_dependent u + one_extra u ≤ 1
@@ -55,7 +56,7 @@ at_most_all (e ∷ es) =
 
 module _ (f : Parts) (stored : IsStored f) (table : IsTable f.table) where
   abbrev IsDependent : ℕ → Type 0
-  IsDependent slot = get f.table.uses (slot / 64) ≡ Some (handles_of Dependent)
+  IsDependent slot = get f.table.uses (slot / ROWS) ≡ Some (handles_of Dependent)
 
   -- a slot that the weak table holds is in a block of dependent handles
   pub held-block : (slot : ℕ) → IsSome (get f.weak.held slot) → IsDependent slot
@@ -67,18 +68,18 @@ module _ (f : Parts) (stored : IsStored f) (table : IsTable f.table) where
 
   -- slots in such blocks are no more than the blocks have
   few_slots : (m : FinMap nat_cmp (Option Id)) → ((slot : ℕ) → IsSome (get m slot) → IsDependent slot)
-      → len m ≤ 64 * (f.table.blocks / 2)
+      → len m ≤ ROWS * (f.table.blocks / 2)
   few_slots m each =
       let keys = counts_keys m (λ k. k) (λ k. k) (λ k. refl) (λ k. refl) in
       let most = fewer keys.members (slots_of (entries f.table.uses)) keys.apart
-      (λ k h. in_slots (entries f.table.uses) k (entry_of f.table.uses (k / 64) (handles_of Dependent)
+      (λ k h. in_slots (entries f.table.uses) k (entry_of f.table.uses (k / ROWS) (handles_of Dependent)
       (each k (keys.each k h)))) in
       let known = length_slots (entries f.table.uses) in
       let also = at_most_all (entries f.table.uses) in
       omega (arith, keys.number, most, known, also, len-entries f.table.uses, table.given, stored.uses.extras)
 
   pub room-held : (slot : ℕ) → get f.weak.held slot ≡ None → IsDependent slot
-      → len f.weak.held < 64 * (f.weak.blocks / 2)
+      → len f.weak.held < ROWS * (f.weak.blocks / 2)
   room-held slot free here =
       let more = insert f.weak.held slot None in
       let all = few_slots more (λ s is. elim (cases_eq s slot) [
@@ -96,8 +97,8 @@ module _ (f : Parts) (stored : IsStored f) (table : IsTable f.table) where
   idle-within m view None is = tt
   idle-within m view (Some slot) is =
       let held = at-idle f m view slot.0 (idle_found m.state slot (sym is)) in
-      let inside = stored.uses.within (slot.0 / 64) (ap is_some (held-block slot.0 (ap is_some held))) in
-      (inside.0, subst (λ n. slot.0 / 64 ≤ n) (ap (λ (x : Machine). x.numbers.blocks) view) inside.1)
+      let inside = stored.uses.within (slot.0 / ROWS) (ap is_some (held-block slot.0 (ap is_some held))) in
+      (inside.0, subst (λ n. slot.0 / ROWS ≤ n) (ap (λ (x : Machine). x.numbers.blocks) view) inside.1)
 
 -- what is found is in the weak table
 pub found-held : (s : State) (key : Id) (o : Option Slot) → o ≡ slot_of_key s key

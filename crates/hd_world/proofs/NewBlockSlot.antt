@@ -1,6 +1,7 @@
 -- A new handle's slot in a block that has just come into use.
 use Rattle.hd_world.proofs.StoreWords.{Back, Dependent, Grown, Handle, HasHandles, HasWeakTable, Id, IsFree, IsLeastUnused, IsPlace, Kind, Machine, None, One, Option, Slot, Some, Two, WeakEntry, Zero, ap, arith, block_of, blocks_needed, extra_data, false, first_slot, get, get_beside, get_inserted, given_of, handle_at, handles_of, insert, is_paired, is_some, refl, subst, sym, true, use_of, with_growth, ℕ, ◌*◌, ◌+◌, ◌/◌, ◌∙◌, ◌≡◌, ◌≤◌}
 use Rattle.hd_world.proofs.IdentityReadings.{no_some}
+use Rattle.hd_model.specs.declared.limits.TheConstants.{ROWS}
 
 abbrev is_growth : Grown → Type 0
 is_growth Zero = ⊥
@@ -8,7 +9,7 @@ is_growth (One b) = Unit {0}
 is_growth (Two b d) = Unit {0}
 is_growth (Back b) = Unit {0}
 
-first_block : (block : ℕ) → block * 64 / 64 ≡ block
+first_block : (block : ℕ) → block * ROWS / ROWS ≡ block
 first_block block = omega arith
 
 -- no handle is in a block without a use
@@ -21,19 +22,19 @@ vacant_first m block handles unused = by (handle_at m.state (first_slot block)) 
     by None is = is
     by (Some h) is =
         absurd (no_some (handles_of h.kind)
-        (sym (handles.kinds (block * 64) h is) ∙ ap (use_of m.state) (first_block block) ∙ unused))
+        (sym (handles.kinds (block * ROWS) h is) ∙ ap (use_of m.state) (first_block block) ∙ unused))
 
 -- nor does the weak table hold a slot there
 not_weak_first : (m : Machine) (block : ℕ) → HasWeakTable m.state → use_of m.state block ≡ None
-    → get m.state.weak (block * 64) ≡ None
-not_weak_first m block weak unused = by (get m.state.weak (block * 64)) refl
+    → get m.state.weak (block * ROWS) ≡ None
+not_weak_first m block weak unused = by (get m.state.weak (block * ROWS)) refl
   where
-    by : (o : Option (Option (WeakEntry Id))) → get m.state.weak (block * 64) ≡ o
-        → get m.state.weak (block * 64) ≡ None
+    by : (o : Option (Option (WeakEntry Id))) → get m.state.weak (block * ROWS) ≡ o
+        → get m.state.weak (block * ROWS) ≡ None
     by None is = is
     by (Some e) is =
         absurd (no_some (handles_of Dependent)
-        (sym (weak.kinds (block * 64) (ap is_some is)) ∙ ap (use_of m.state) (first_block block) ∙ unused))
+        (sym (weak.kinds (block * ROWS) (ap is_some is)) ∙ ap (use_of m.state) (first_block block) ∙ unused))
 
 module _ (old new : Machine) (kind : Kind) (slot : Slot) (handles : HasHandles old.numbers old.state)
     (weak : HasWeakTable old.state) (block : ℕ) (at : slot ≡ first_slot block)

@@ -3,6 +3,7 @@ use Rattle.hd_world.proofs.StoreWords.{Addr, Contains, IfSome, IsNamed, IsStored
 use Rattle.hd_world.proofs.RootRows.{rows-get, rest-get, rows-set, rest-set_row, rest-set, rows-set_rest}
 use Rattle.hd_world.proofs.{IdentityReadings.named-is, EntryReadings.tied-agrees, Barrier.contains_set}
 use Rattle.hd_world.proofs.NamedAddresses.{named_objects, objects_named, field-read}
+use Rattle.hd_model.specs.declared.limits.TheConstants.{REGISTERS}
 
 -- the parts with another root at an index
 abbrev pub with_root : Parts → ℕ → Option Addr → Parts
@@ -11,7 +12,7 @@ with_root f i v = record f { roots = set f.roots i v }
 -- other roots and another queue, which reference objects
 pub stored-named : (f : Parts) (roots : List (Option Addr)) (q : Queue) → IsStored f
     → length f.roots ≡ length roots → ((x : Addr) → Contains roots (Some x) → has_object f.heap x ≡ true)
-    → ((x : Addr) → Contains q.waiting x → has_object f.heap x ≡ true) → len f.heap.objects ≤ q.room
+    → ((x : Addr) → Contains q.queued x → has_object f.heap x ≡ true) → len f.heap.objects ≤ q.room
     → IsStored (record f { roots = roots; queue = q })
 stored-named f roots q stored long named queue room = record {
   identities = stored.identities;
@@ -57,28 +58,30 @@ module _ (f : Parts) (m : Machine) (view : machine_of f ≡ m) (stored : IsStore
       (objects_named f.heap x
       (λ y same. stored.whole.named y (subst (Contains f.roots) same (i, within, sym is))))
 
-  pub register-within : (c d : ℕ) → c < m.numbers.callers → d < 16 → 16 * c + d < length f.roots
+  pub register-within : (c d : ℕ) → c < m.numbers.callers → d < REGISTERS → REGISTERS * c + d < length f.roots
   register-within c d known within =
       let callers : callers_of f ≡ m.numbers.callers = ap (λ (n : Machine). n.numbers.callers) view in
       omega (arith, callers, stored.roots)
 
-  pub static-within : (k : ℕ) → k < 16 → 16 * callers_of f + k < length f.roots
+  pub static-within : (k : ℕ) → k < REGISTERS → REGISTERS * callers_of f + k < length f.roots
   static-within k within = omega (arith, stored.roots)
 
-  pub register-is : (c d : ℕ) (x : Option Addr) → c < m.numbers.callers → d < 16
-      → x ≡ get_or f.roots (16 * c + d) x → named_in m.names x ≡ register_of m.state c d
+  pub register-is : (c d : ℕ) (x : Option Addr) → c < m.numbers.callers → d < REGISTERS
+      → x ≡ get_or f.roots (REGISTERS * c + d) x → named_in m.names x ≡ register_of m.state c d
   register-is c d x known within is =
       let mine : c < callers_of f = subst (λ (n : Machine). c < n.numbers.callers) (sym view) known in
-      read_at (16 * c + d) x (register-within c d known within) is
-      ∙ sym (rows-get (callers_of f) c d (16 * c + d)
+      read_at (REGISTERS * c + d) x (register-within c d known within) is
+      ∙ sym (rows-get (callers_of f) c d (REGISTERS * c + d)
       (map (option_map (id_at f.heap)) f.roots) None refl mine within)
       ∙ ap (λ (n : Machine). register_of n.state c d) view
 
-  pub static-is : (k : ℕ) (x : Option Addr) → k < 16 → x ≡ get_or f.roots (16 * callers_of f + k) x
+  pub static-is : (k : ℕ) (x : Option Addr) → k < REGISTERS → x ≡ get_or f.roots
+      (REGISTERS * callers_of f + k) x
       → named_in m.names x ≡ static_of m.state k
   static-is k x within is =
-      read_at (16 * callers_of f + k) x (static-within k within) is ∙ sym
-      (rest-get (callers_of f) k (16 * callers_of f + k) (map (option_map (id_at f.heap)) f.roots) None refl)
+      read_at (REGISTERS * callers_of f + k) x (static-within k within) is ∙ sym
+      (rest-get (callers_of f) k (REGISTERS * callers_of f + k) (map (option_map (id_at f.heap)) f.roots) None
+      refl)
       ∙ ap (λ (n : Machine). static_of n.state k) view
 
   -- another root
@@ -98,25 +101,26 @@ module _ (f : Parts) (m : Machine) (view : machine_of f ≡ m) (stored : IsStore
       map-set (option_map (id_at f.heap)) f.roots i v
       ∙ ap (set (map (option_map (id_at f.heap)) f.roots) i) (sym (read v))
 
-  pub machine-register : (c d : ℕ) (v : Option Addr) → c < m.numbers.callers → d < 16
-      → machine_of (with_root f (16 * c + d) v)
+  pub machine-register : (c d : ℕ) (v : Option Addr) → c < m.numbers.callers → d < REGISTERS
+      → machine_of (with_root f (REGISTERS * c + d) v)
       ≡ record m { state = with_register m.state c d (named_in m.names v) }
   machine-register c d v known within =
       let mine : c < callers_of f = subst (λ (n : Machine). c < n.numbers.callers) (sym view) known in
       let names = map (option_map (id_at f.heap)) f.roots in
-      let rows = ap (rows_of (callers_of f)) (roots_set (16 * c + d) v)
-      ∙ rows-set (callers_of f) c d (16 * c + d) names (named_in m.names v) refl mine within in
-      let rest = ap (rest_of (callers_of f)) (roots_set (16 * c + d) v)
-      ∙ rest-set_row (callers_of f) c d (16 * c + d) names (named_in m.names v) refl mine within in
-      (λ i. record (machine_of (with_root f (16 * c + d) v)) {
-        state = record (state_of (with_root f (16 * c + d) v)) { registers = rows i; statics = rest i };
+      let rows = ap (rows_of (callers_of f)) (roots_set (REGISTERS * c + d) v)
+      ∙ rows-set (callers_of f) c d (REGISTERS * c + d) names (named_in m.names v) refl mine within in
+      let rest = ap (rest_of (callers_of f)) (roots_set (REGISTERS * c + d) v)
+      ∙ rest-set_row (callers_of f) c d (REGISTERS * c + d) names (named_in m.names v) refl mine within in
+      (λ i. record (machine_of (with_root f (REGISTERS * c + d) v)) {
+        state = record (state_of (with_root f (REGISTERS * c + d) v))
+            { registers = rows i; statics = rest i };
       })
       ∙ (λ i. record (view i) { state = with_register (view i).state c d (named_in m.names v) })
 
-  pub machine-static : (k : ℕ) (v : Option Addr) → machine_of (with_root f (16 * callers_of f + k) v)
+  pub machine-static : (k : ℕ) (v : Option Addr) → machine_of (with_root f (REGISTERS * callers_of f + k) v)
       ≡ record m { state = with_static m.state k (named_in m.names v) }
   machine-static k v =
-      let at = 16 * callers_of f + k in
+      let at = REGISTERS * callers_of f + k in
       let names = map (option_map (id_at f.heap)) f.roots in
       let rows = ap (rows_of (callers_of f)) (roots_set at v)
       ∙ rows-set_rest (callers_of f) k at names (named_in m.names v) refl in

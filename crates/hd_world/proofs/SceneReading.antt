@@ -2,14 +2,15 @@
 use Rattle.hd_world.proofs.StoreWords.{Addr, HasIdentities, Id, IsReading, IsStored, List, Parts, Placed, Scene, Some, ap, append_assoc, callers_of, drop, get, has_object, id_at, id_in, is_object, is_some, joined, map, object_at, object_in, objects_by_id, option_map, placed_at, refl, region_generation, region_of, rename_handle, rename_object, rest_of, rows_of, scene_of, scene_of_parts, some_value, state_of, suc, sym, take, take-append-drop, true, zero, ℕ, ◌++◌, ◌∙◌, ◌≡◌}
 use Rattle.hd_world.proofs.IdentityReadings.{same_id, objects-get, objects-under}
 use Rattle.hd_world.proofs.{EntryReadings.row-reads, NamedAddresses.placed_is, NamedAddresses.object_is}
+use Rattle.hd_model.specs.declared.limits.TheConstants.{REGISTERS}
 
 -- all registers and then the statics are the roots
 pub rows-all : {A : Type 0} (n : ℕ) (xs : List A) → joined (rows_of n xs) ++ rest_of n xs ≡ xs
 unfolding rows_of rest_of
 rows-all zero xs = refl
 rows-all (suc n) xs =
-    append_assoc (take 16 xs) (joined (rows_of n (drop 16 xs))) (rest_of n (drop 16 xs))
-    ∙ ap (λ ys. take 16 xs ++ ys) (rows-all n (drop 16 xs)) ∙ take-append-drop 16 xs
+    append_assoc (take REGISTERS xs) (joined (rows_of n (drop REGISTERS xs))) (rest_of n (drop REGISTERS xs))
+    ∙ ap (λ ys. take REGISTERS xs ++ ys) (rows-all n (drop REGISTERS xs)) ∙ take-append-drop REGISTERS xs
 
 module _ (f : Parts) (identities : HasIdentities f.heap) where
   id_here : (x : Addr) → has_object f.heap x ≡ true → id_at f.heap x ≡ (placed_at f.heap x).id

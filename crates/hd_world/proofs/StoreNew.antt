@@ -2,7 +2,7 @@
 use Rattle.hd_world.proofs.StoreWords.{Addr, Bool, Contains, HasNoEmptyRegion, Heap, Id, IsField, IsMade, IsObjectRefused, IsStored, KeepsNames, List, Machine, None, not_there, Object, Option, Parts, Placed, Queue, Region, Some, T, age_of, ap, arith, callers_of, cases_eq, cells_of, cond, fields_in, fresh_object, generation_at, generation_in, get, get_beside, get_inserted, get_or, id_at, identity_of, inl, inr, insert, is_carded, is_in_use, is_object, is_some, last_serial, len, len-insert, length, length-replicate, length-set, machine_of, map, max, names_of, nat_cmp_total, new_object, object_at, object_in, objects_by_id, option_map, read_object, refl, region_at, region_generation, region_of, replicate, rest_of, rows_of, same_address, set, share, state_of, subst, suc, sum-insert, sum_by, sym, total_size, true, unheld, unwrap_or, used_of, values, with_object, with_serial, without_spare, zero, ℕ, ◌+◌, ◌<◌, ◌∙◌, ◌∷◌, ◌≡◌, ◌≤◌, ◌⊎◌}
 use Rattle.hd_heap.specs.{Calls.IsRefused as IsRefusedBy, declared.fault.NewFault.NewFault, declared.fault.NewFault.TheVariants.Full, declared.fault.NewFault.TheVariants.Memory}
 use Rattle.std.proofs.Math.Nat.{le-max_left, le-max_right}
-use Rattle.hd_world.proofs.{StateCounts.used-is, NamedAddresses.has-placed, QueueTake.stored-waiting, EntryReadings.unheld-some, EntryReadings.tied-agrees}
+use Rattle.hd_world.proofs.{StateCounts.used-is, NamedAddresses.has-placed, QueueTake.stored-queued, EntryReadings.unheld-some, EntryReadings.tied-agrees}
 use Rattle.hd_world.proofs.IdentityReadings.{no_some, names-get, objects-get}
 use Rattle.hd_world.proofs.StoreAdd.{Adds, placed, id-add, names-add, identities-add, roots-add, queue-add, rows-add, weak-add, objects-add}
 
@@ -156,7 +156,7 @@ module _ (f : Parts) (k : Heap) (at : Addr) (id : Id) (count : ℕ) (fin : Bool)
   made_parts serials q = record f { heap = k; serials = serials; queue = q }
 
   pub stored-made : (serials : List ℕ) (q : Queue) → length serials ≡ length f.serials
-      → q.waiting ≡ f.queue.waiting → len f.heap.objects + 1 ≤ q.room → IsStored (made_parts serials q)
+      → q.queued ≡ f.queue.queued → len f.heap.objects + 1 ≤ q.room → IsStored (made_parts serials q)
   stored-made serials q size is_queued enough = record {
     whole = record {
       fields = λ x y field. still y (stored.whole.fields x y (field_was x y field).1);
@@ -208,7 +208,7 @@ module _ (f : Parts) (k : Heap) (at : Addr) (id : Id) (count : ℕ) (fin : Bool)
     registered = fin;
   }
 
-  pub machine-made : (serials : List ℕ) (q : Queue) → q.waiting ≡ f.queue.waiting
+  pub machine-made : (serials : List ℕ) (q : Queue) → q.queued ≡ f.queue.queued
       → machine_of (made_parts serials q)
       ≡ record (machine_of f) {
         state = record (with_object (state_of f) id (fresh_object count fin)) { serials = serials };
@@ -235,7 +235,7 @@ module _ (f : Parts) (k : Heap) (at : Addr) (id : Id) (count : ℕ) (fin : Bool)
           (roots-add f.heap k at.0 (new_object id count fin) adds f.roots stored.whole.named i);
       board = f.board;
       queue = (ap (map (id_at k)) is_queued ∙ queue-add f.heap k at.0
-          (new_object id count fin) adds f.queue.waiting stored.whole.queue) i;
+          (new_object id count fin) adds f.queue.queued stored.whole.queue) i;
       places = (state_of f).places;
       blocks = f.table.uses;
       serials = serials;
@@ -251,7 +251,7 @@ module _ (f : Parts) (m : Machine) (view : machine_of f ≡ m) (stored : IsStore
     (caller serial : ℕ) (last : serial ≡ last_serial m.state caller + 1)
     (id_is : id ≡ identity_of caller serial)
     (vacant : get m.state.objects (identity_of caller (last_serial m.state caller + 1)).0 ≡ None) (q : Queue)
-    (is_queued : q.waiting ≡ f.queue.waiting) (enough : len f.heap.objects + 1 ≤ q.room) where
+    (is_queued : q.queued ≡ f.queue.queued) (enough : len f.heap.objects + 1 ≤ q.room) where
   free : get (objects_by_id f.heap) id.0 ≡ None
   free =
       ap (λ (i : Id). get (objects_by_id f.heap) i.0) (id_is ∙ ap (identity_of caller) last)
@@ -293,11 +293,11 @@ module _ (f : Parts) (m : Machine) (view : machine_of f ≡ m) (stored : IsStore
 
 -- the queue with more room, or as it was
 abbrev pub IsRoomier : Queue → Queue → Type 0
-IsRoomier old new = (new.waiting ≡ old.waiting) × (old.room ≤ new.room)
+IsRoomier old new = (new.queued ≡ old.queued) × (old.room ≤ new.room)
 
 pub roomier : (q w : Queue) (n : ℕ) → w ≡ record q { room = max n q.room } → IsRoomier q w
 roomier q w n is = let same = ap (λ (v : Queue). v.room) is in let most =
-    le-max_right n q.room in (ap (λ (v : Queue). v.waiting) is, omega (arith, same, most))
+    le-max_right n q.room in (ap (λ (v : Queue). v.queued) is, omega (arith, same, most))
 
 pub room_enough : (q w : Queue) (n : ℕ) → w ≡ record q { room = max n q.room } → n ≤ w.room
 room_enough q w n is = let same = ap (λ (v : Queue). v.room) is in let most =
@@ -307,7 +307,7 @@ pub either_roomier : (q w : Queue) (n : ℕ) → (w ≡ q) ⊎ (w ≡ record q {
 either_roomier q w n is =
     elim is [
       | inl same ↦ let room = ap (λ (v : Queue). v.room) same in
-          (ap (λ (v : Queue). v.waiting) same, omega (arith, room))
+          (ap (λ (v : Queue). v.queued) same, omega (arith, room))
       | inr more ↦ roomier q w n more
     ]
 
@@ -316,12 +316,12 @@ module _ (f : Parts) (m : Machine) (view : machine_of f ≡ m) (stored : IsStore
     (same : k ≡ f.heap) (q : Queue) (more : IsRoomier f.queue q) where
   pub machine-room : machine_of (record f { heap = k; queue = q }) ≡ m
   machine-room =
-      (λ i. machine_of (record f { heap = same i; queue = record q { waiting = more.0 i } })) ∙ view
+      (λ i. machine_of (record f { heap = same i; queue = record q { queued = more.0 i } })) ∙ view
 
   pub stored-room : IsStored (record f { heap = k; queue = q })
   stored-room =
       subst (λ h. IsStored (record f { heap = h; queue = q })) (sym same)
-      (stored-waiting f q stored (λ x c. subst (λ xs. Contains xs x) more.0 c)
+      (stored-queued f q stored (λ x c. subst (λ xs. Contains xs x) more.0 c)
       (omega (arith, stored.room, more.1)))
 
 -- a refused object, in the words of the machine

@@ -1,6 +1,7 @@
 -- A store at first: nothing is made, and each register, static and entry of the board is null or empty.
 use Rattle.hd_world.proofs.StoreWords.{Addr, Contains, Handle, Id, IsSome, IsStored, List, None, Object, Option, Parts, Placed, Region, Some, T, [], ap, arith, callers_of, cells_of, empty, empty_heap, empty_table, entries, entry_named, fields_in, from_entries, get, get-empty, id_at, is_in_use, is_none, is_some, len-empty, len-entries, length, length-replicate, map, names_of, nat_cmp, not_in_none, numbers_of, object_at, object_in, objects_by_id, one_dependent, option_map, read_object, refl, region_generation, region_of, rename_handle, replicate, rest_of, rows_by_id, rows_of, start_of, state_of, subst, sum_by, sym, true, unheld, values, weak_by_id, ℕ, ◌*◌, ◌+◌, ◌∙◌, ◌∷◌, ◌≡◌, ◌≤◌}
 use Rattle.hd_world.proofs.{EntryMaps.same_numbers, EntryReadings.none_kept, EntryReadings.unheld-get, IdentityReadings.no_some, StoreNew.no_names, StoreNew.nothing_mapped, RootRows.rows-first, RootRows.rest-first}
+use Rattle.hd_model.specs.declared.limits.TheConstants.{BLOCKS, HEAP, REGISTERS}
 
 nothing_at : {A : Type 0} (q : ℕ) (x : A) → get (empty {X = A} {R = nat_cmp}) q ≡ Some x → ⊥
 nothing_at q x e = no_some x (sym e ∙ get-empty nat_cmp q)
@@ -23,10 +24,10 @@ module _ (limit blocks callers : ℕ) where
     table = empty_table blocks;
     ages = replicate (4 * blocks) 2;
     weak = record { blocks = blocks; held = empty };
-    queue = record { waiting = []; room = 0 };
-    roots = replicate (16 * callers + 16) None;
-    handle_registers = replicate callers (replicate 16 None);
-    board = replicate 16 None;
+    queue = record { queued = []; room = 0 };
+    roots = replicate (REGISTERS * callers + REGISTERS) None;
+    handle_registers = replicate callers (replicate REGISTERS None);
+    board = replicate REGISTERS None;
     serials = replicate callers 0;
   }
 
@@ -43,9 +44,10 @@ module _ (limit blocks callers : ℕ) where
   -- parts are those of an opened store where each is as it was made
   pub are_opened : (f : Parts) → f.heap ≡ empty_heap limit → f.table ≡ empty_table blocks
       → f.ages ≡ replicate (4 * blocks) 2 → f.weak ≡ record { blocks = blocks; held = empty }
-      → f.queue ≡ record { waiting = []; room = 0 } → f.roots ≡ replicate (16 * callers + 16) None
-      → f.handle_registers ≡ replicate callers (replicate 16 None)
-      → f.board ≡ replicate 16 None → f.serials ≡ replicate callers 0 → opened ≡ f
+      → f.queue ≡ record { queued = []; room = 0 } → f.roots ≡ replicate (REGISTERS * callers + REGISTERS)
+      None
+      → f.handle_registers ≡ replicate callers (replicate REGISTERS None)
+      → f.board ≡ replicate REGISTERS None → f.serials ≡ replicate callers 0 → opened ≡ f
   are_opened f heap table ages weak queue roots handle_registers board serials = λ i. record {
     heap = sym heap i;
     table = sym table i;
@@ -58,11 +60,11 @@ module _ (limit blocks callers : ℕ) where
     serials = sym serials i;
   }
 
-  pub stored-opened : limit ≤ 1000000 → blocks ≤ 256 → IsStored opened
+  pub stored-opened : limit ≤ HEAP → blocks ≤ BLOCKS → IsStored opened
   stored-opened small few = record {
     whole = record {
       fields = λ x y field. absurd (no_field x y field);
-      named = λ x named. absurd (no_names (16 * callers + 16) x named);
+      named = λ x named. absurd (no_names (REGISTERS * callers + REGISTERS) x named);
       queue = λ x queued. absurd (not_in_none x queued);
       targets = λ slot h x row at. absurd (nothing_at slot h row);
       secondaries = λ slot h x row at. absurd (nothing_at slot h row);
@@ -79,9 +81,9 @@ module _ (limit blocks callers : ℕ) where
     room = let none = len-empty nat_cmp Placed in omega (arith, none);
     within = omega (arith, no_sum cells_of);
     limit = small;
-    roots = ap (λ n. 16 * n + 16) (length-replicate callers (replicate 16 None))
-        ∙ sym (length-replicate (16 * callers + 16) None);
-    serials = length-replicate callers 0 ∙ sym (length-replicate callers (replicate 16 None));
+    roots = ap (λ n. REGISTERS * n + REGISTERS) (length-replicate callers (replicate REGISTERS None))
+        ∙ sym (length-replicate (REGISTERS * callers + REGISTERS) None);
+    serials = length-replicate callers 0 ∙ sym (length-replicate callers (replicate REGISTERS None));
     clumps = sym (length-replicate (4 * blocks) 2);
     blocks = few;
     uses = record {
@@ -125,23 +127,26 @@ module _ (limit blocks callers : ℕ) where
   rows-opened : rows_by_id (empty_heap limit) (unheld empty empty) ≡ empty
   rows-opened = ap (rows_by_id (empty_heap limit)) unheld-opened ∙ rows-empty
 
-  none_named : map (option_map (id_at (empty_heap limit))) opened.roots ≡ replicate (16 * callers + 16) None
-  none_named = nothing_mapped (id_at (empty_heap limit)) (16 * callers + 16)
+  none_named : map (option_map (id_at (empty_heap limit))) opened.roots
+      ≡ replicate (REGISTERS * callers + REGISTERS) None
+  none_named = nothing_mapped (id_at (empty_heap limit)) (REGISTERS * callers + REGISTERS)
 
   size : callers_of opened ≡ callers
-  size = length-replicate callers (replicate 16 None)
+  size = length-replicate callers (replicate REGISTERS None)
 
   registers-opened : rows_of (callers_of opened) (map (option_map (id_at (empty_heap limit))) opened.roots)
-      ≡ replicate (callers_of opened) (replicate 16 None)
+      ≡ replicate (callers_of opened) (replicate REGISTERS None)
   registers-opened =
       ap (rows_of (callers_of opened)) none_named
-      ∙ rows-first (callers_of opened) 16 (16 * callers + 16) None (ap (λ n. 16 * n + 16) (sym size))
+      ∙ rows-first (callers_of opened) REGISTERS (REGISTERS * callers + REGISTERS) None
+      (ap (λ n. REGISTERS * n + REGISTERS) (sym size))
 
   statics-opened : rest_of (callers_of opened)
-      (map (option_map (id_at (empty_heap limit))) opened.roots) ≡ replicate 16 None
+      (map (option_map (id_at (empty_heap limit))) opened.roots) ≡ replicate REGISTERS None
   statics-opened =
       ap (rest_of (callers_of opened)) none_named
-      ∙ rest-first (callers_of opened) 16 (16 * callers + 16) None (ap (λ n. 16 * n + 16) (sym size))
+      ∙ rest-first (callers_of opened) REGISTERS (REGISTERS * callers + REGISTERS) None
+      (ap (λ n. REGISTERS * n + REGISTERS) (sym size))
 
   pub state-opened : state_of opened ≡ start_of (numbers_of opened)
   state-opened = λ i. record {
@@ -149,9 +154,9 @@ module _ (limit blocks callers : ℕ) where
     handles = rows-opened i;
     weak = weak-opened i;
     registers = registers-opened i;
-    handle_registers = ap (λ n. replicate n (replicate 16 None)) (sym size) i;
+    handle_registers = ap (λ n. replicate n (replicate REGISTERS None)) (sym size) i;
     statics = statics-opened i;
-    board = replicate 16 None;
+    board = replicate REGISTERS None;
     queue = [];
     places = empty;
     blocks = empty;

@@ -7,6 +7,7 @@ use Rattle.hd_world.proofs.IdentityReadings.{no_some, is_some-map, rows-get, nam
 use Rattle.hd_world.proofs.NamedAddresses.{known_object, some_or, generation-is}
 use Rattle.hd_world.proofs.EntryReadings.{handles-get, weak-get, unheld-put, unheld-end, weak-put, weak-end, tied-agrees}
 use Rattle.hd_model.specs.declared.data.Kind.TheVariants as kind
+use Rattle.hd_model.specs.declared.limits.TheConstants.{ROWS}
 
 -- the parts with another table
 abbrev pub with_table : Parts → Table → Parts
@@ -327,8 +328,8 @@ module _ (f : Parts) (m : Machine) (view : machine_of f ≡ m) where
   use-read block u is = ap (λ (n : Machine). use_of n.state block) view ∙ is
 
   pub kind-read : (slot : Slot) (kind : Kind) → use_of m.state (block_of slot) ≡ Some (handles_of kind)
-      → kind_at f.table (slot.0 / 64) ≡ kind
-  kind-read slot kind is = ap kind_in (use-read (slot.0 / 64) (Some (handles_of kind)) is)
+      → kind_at f.table (slot.0 / ROWS) ≡ kind
+  kind-read slot kind is = ap kind_in (use-read (slot.0 / ROWS) (Some (handles_of kind)) is)
 
 -- blocks come into use, or go out of it, and the rows stay
 grown_rows : (t : Table) (k : Kind) (g : Grown) → (grown_by t k g).rows ≡ t.rows

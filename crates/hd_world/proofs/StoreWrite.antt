@@ -178,7 +178,7 @@ module _ (f : Parts) (k : Heap) (at : Addr) (old new : Placed) (w : Writes f.hea
           statics =
               rest_of (callers_of f) (map (option_map (ids-replace h k at.0 old new w.replaces i)) f.roots);
           board = f.board;
-          queue = map (ids-replace h k at.0 old new w.replaces i) f.queue.waiting;
+          queue = map (ids-replace h k at.0 old new w.replaces i) f.queue.queued;
           places = (state_of f).places;
           blocks = f.table.uses;
           serials = f.serials;

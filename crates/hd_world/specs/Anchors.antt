@@ -10,4 +10,4 @@ place_of root = root.at
 
 -- what statics reference, what is queued, and what handles hold, one after the other
 abbrev pub anchor_list : List (Option Addr) → List Addr → List Root → List Addr
-anchor_list statics waiting held = (flat_map option_to_list statics ++ waiting) ++ map place_of held
+anchor_list statics queued held = (flat_map option_to_list statics ++ queued) ++ map place_of held

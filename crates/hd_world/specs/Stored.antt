@@ -39,7 +39,7 @@ scene_of_parts f = record {
   object = object_at f.heap;
   handle = row_at f.table;
   named = f.roots;
-  queue = f.queue.waiting;
+  queue = f.queue.queued;
 }
 
 -- the state of the machine, by identity, without pinned addresses: a store keeps none
@@ -52,7 +52,7 @@ state_of f = record {
   handle_registers = f.handle_registers;
   statics = rest_of (callers_of f) (map (option_map (id_at f.heap)) f.roots);
   board = f.board;
-  queue = map (id_at f.heap) f.queue.waiting;
+  queue = map (id_at f.heap) f.queue.queued;
   places = empty;
   blocks = f.table.uses;
   serials = f.serials;

@@ -27,7 +27,7 @@ pub(crate) fn anchors(
     held: &[Root],
 ) -> Result<Vec<Addr>, Memory>
     ensures { IfOk result (λ anchors.
-        anchors.items ≡ anchor_list statics.now queue.now.waiting held.now) }
+        anchors.items ≡ anchor_list statics.now queue.now.queued held.now) }
 {
     let mut anchors = Vec::new(alloc);
     add_statics(&mut anchors, statics)?;
@@ -49,7 +49,7 @@ fn add_statics(anchors: &mut Vec<Addr>, statics: &[Option<Addr>]) -> Result<(), 
 
 // Adds what is queued for finalization.
 fn add_queued(anchors: &mut Vec<Addr>, queue: &Final) -> Result<(), Memory>
-    ensures { OnOk result (anchors.new.items ≡ anchors.old.items ++ queue.now.waiting) }
+    ensures { OnOk result (anchors.new.items ≡ anchors.old.items ++ queue.now.queued) }
 {
     for i in 0..queue.len() {
         add(anchors, Some(queue.at(i)))?;

@@ -89,7 +89,7 @@ impl Store {
 
     /// Brings the least unused block into use for a kind, with the next one for its extra data
     /// where it has some. After a refusal nothing is changed.
-    pub(crate) fn grow(&mut self, kind: Kind) -> Result<Grown, Full>
+    pub(crate) fn give_blocks(&mut self, kind: Kind) -> Result<Grown, Full>
         ensures grown { IfOk result (GrowsBy self.old.numbers self.old.state kind) }
         ensures after { IfOk result (λ grown.
             self.new ≡ record self.old { state = with_growth self.old.state kind grown }) }

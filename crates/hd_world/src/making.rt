@@ -31,7 +31,7 @@ fn new_place(store: &mut Store, kind: Kind) -> Result<(Slot, Grown), Full>
         (store.old.numbers.blocks < given_of store.old.state + blocks_needed kind) }
     ensures kept { OnErr result (store.new ≡ store.old) }
 {
-    match store.grow(kind) {
+    match store.give_blocks(kind) {
         Ok(Grown::One(block)) => Ok((first_slot(block), Grown::One(block))),
         Ok(Grown::Two(block, extras)) => Ok((first_slot(block), Grown::Two(block, extras))),
         Ok(Grown::Zero | Grown::Back(_)) => unreachable!(),

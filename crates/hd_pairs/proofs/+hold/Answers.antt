@@ -1,7 +1,7 @@
 use Rattle.std.proofs.Common.{◌∙◌, ap}
 use Rattle.hd_custody.specs.declared.view.View.{View}
 use Rattle.hd_custody.specs.Counts.{without}
-use Rattle.hd_custody.proofs.Canon.{slot_goes}
+use Rattle.hd_custody.proofs.HeldOnBlock.{slot_goes}
 use Rattle.hd_pairs.specs.declared.pages.Pages.{Pages}
 use Rattle.hd_pairs.proofs.+hold.Goals as goal
 

@@ -2,6 +2,7 @@ use Rattle.std.proofs.Common.{arith, sym, ◌*◌, ◌+◌, ◌∙◌}
 use Rattle.std.proofs.lemmas.Bool.{false≢true}
 use Rattle.hd_audit.proofs.FreeSlots.{all_free_low, all_free_of}
 use Rattle.hd_audit.proofs.making.is_all_free.Goals as goal
+use Rattle.hd_model.specs.declared.limits.TheConstants.{ROWS}
 
 pub returns-then-block-limit : goal.returns-then-block-limit
 returns-then-block-limit c = (
@@ -28,5 +29,5 @@ pub returns-then-not-is_free : goal.returns-then-not-is_free
 returns-then-not-is_free c = (
   λ t. absurd (false≢true t),
   λ free. absurd (false≢true (sym c.if-not-is_free.true ∙ c.is_free.ensures.1
-      (free (record { 0 = c.args.block * 64 + c.loop-row.row }) (omega arith)))),
+      (free (record { 0 = c.args.block * ROWS + c.loop-row.row }) (omega arith)))),
 )

@@ -1,7 +1,7 @@
 use Rattle.std.proofs.Common.{List, subst, sym, ℕ, ◌∙◌}
 use Rattle.std.specs.List.{Contains}
 use Rattle.hd_model.specs.Anchors.{AnchorOf, EdgeOf}
-use Rattle.hd_audit.specs.Searching.{Found, Searching, with_starts}
+use Rattle.hd_audit.specs.Searching.{SearchView, Searching, with_starts}
 use Rattle.hd_audit.proofs.RootSearch.{root_found, search_started}
 use Rattle.hd_audit.proofs.rooting.root_of.Goals as goal
 
@@ -10,7 +10,7 @@ close-requires-clause-searching c =
     let s = c.args.machine.now.state in
     let ids = c.in_ok-anchors.anchors.items in
     let each = c.in_ok-anchors.ensures.each in
-    subst (λ (f : Found). Searching (EdgeOf s) (AnchorOf s) f)
+    subst (λ (f : SearchView). Searching (EdgeOf s) (AnchorOf s) f)
     (sym (c.in_ok-start.ensures.started
     ∙ (λ i. with_starts (c.open-search.ensures i) (c.deref.ensures.value i))))
     (search_started (EdgeOf s) (AnchorOf s) ids c.in_ok-anchors.ensures.rising

@@ -7,7 +7,7 @@ use Rattle.hd_audit.specs.declared.choice.Choice.{Choice}
 use Rattle.hd_audit.specs.declared.made.Made.{Made}
 use Rattle.hd_audit.specs.Judge.{Judge}
 use Rattle.hd_audit.specs.Commands.{GoesBy, WayComesTo, made_of}
-use Rattle.hd_audit.proofs.Ways.{collect_goes, root_goes}
+use Rattle.hd_audit.proofs.StepWays.{collect_goes, root_goes}
 use Rattle.hd_audit.proofs.step.make.Goals as goal
 
 -- a command comes to a result by its way

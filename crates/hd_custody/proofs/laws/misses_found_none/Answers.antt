@@ -1,4 +1,4 @@
-use Rattle.hd_custody.proofs.Misses.{found_none}
+use Rattle.hd_custody.proofs.WholeMiss.{found_none}
 use Rattle.hd_custody.proofs.laws.misses_found_none.Goals as goal
 
 pub returns : goal.returns

@@ -1,6 +1,6 @@
 use Rattle.hd_custody.proofs.Basics.{View, ap, kind_number, without, ◌+◌, ◌∙◌}
 use Rattle.hd_custody.specs.declared.tests.Blocks.{Blocks}
-use Rattle.hd_custody.proofs.Canon.{slot_goes}
+use Rattle.hd_custody.proofs.HeldOnBlock.{slot_goes}
 use Rattle.hd_custody.proofs.tests.+hold.Goals as goal
 
 pub returns-clause-held : goal.returns-clause-held

@@ -1,6 +1,6 @@
 use Rattle.hd_custody.proofs.Basics.{Has, List, View, ap, bit_at_ones, every_row, subst, sym, ℕ, ◌*◌, ◌+◌}
 use Rattle.hd_custody.specs.declared.tests.Blocks.{Blocks}
-use Rattle.hd_custody.proofs.Canon.{row_has}
+use Rattle.hd_custody.proofs.HeldOnBlock.{row_has}
 use Rattle.hd_custody.proofs.tests.a_gathered_block_gets_another_kind.Goals as goal
 
 pub shrink-requires-clause-all : goal.shrink-requires-clause-all

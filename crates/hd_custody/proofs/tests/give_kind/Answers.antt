@@ -1,7 +1,7 @@
 use Rattle.hd_custody.specs.contracts.tests.BlocksHeld.TheImpl.{ghosts}
 use Rattle.hd_custody.proofs.Basics.{Known, ap, kind_number, refl, ◌*◌, ◌+◌, ◌∙◌, ◌∷◌}
 use Rattle.hd_custody.specs.declared.tests.Blocks.{Blocks}
-use Rattle.hd_custody.proofs.Left.{none_ended}
+use Rattle.hd_custody.proofs.LeaveHeld.{none_ended}
 use Rattle.hd_custody.proofs.tests.give_kind.Goals as goal
 
 pub returns-then-kind_word-ne0-clause-seat : goal.returns-then-kind_word-ne0-clause-seat

@@ -1,7 +1,7 @@
 use Rattle.hd_custody.specs.contracts.tests.BlocksHeld.TheImpl.{ghosts}
 use Rattle.hd_custody.proofs.Basics.{Known, ap, refl, ◌∙◌}
 use Rattle.hd_custody.specs.declared.tests.Blocks.{Blocks}
-use Rattle.hd_custody.proofs.Left.{none_ended}
+use Rattle.hd_custody.proofs.LeaveHeld.{none_ended}
 use Rattle.hd_custody.proofs.tests.wake_each.Goals as goal
 
 pub loop-round-preserved : goal.loop-round-preserved

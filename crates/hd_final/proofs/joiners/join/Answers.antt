@@ -28,7 +28,7 @@ loop-joiner-preserved g c =
           (λ a. Contains xs a) (promoted start) (promoted c.promote.new.self))
           (sym (places_more js i no_joiner low)) more,
       c.push_back_reserved.ensures.items
-          ∙ beyond c.loop-joiner.waiting.items c.args.waiting.now.items js i no_joiner low
+          ∙ beyond c.loop-joiner.queued.items c.args.queued.now.items js i no_joiner low
           c.loop-joiner.invariant.4,
       c.push_back_reserved.ensures.capacity ∙ c.loop-joiner.invariant.5,
     )

@@ -10,5 +10,5 @@ invariant-loop-joiner g l =
     × (g.M.Marker.pinned l.marker ≡ g.M.Marker.pinned l.initial.marker)
     × (Grows (IsYoungField (objects_of (basis l.initial.marker)) (basis l.initial.marker).condemned)
     (λ a. Contains done a) (promoted l.initial.marker) (promoted l.marker))
-    × (l.waiting.items ≡ l.initial.waiting.items ++ done)
-    × (deque_capacity l.waiting ≡ deque_capacity l.initial.waiting)
+    × (l.queued.items ≡ l.initial.queued.items ++ done)
+    × (deque_capacity l.queued ≡ deque_capacity l.initial.queued)

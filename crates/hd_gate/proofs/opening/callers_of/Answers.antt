@@ -1,5 +1,5 @@
 use Rattle.hd_gate.proofs.Basics.{IsNew, caller_view_of, padded_value, refl, slice_index, ◌∙◌}
-use Rattle.hd_gate.proofs.Beginnings.{are_all, begin, limits_are, first_part}
+use Rattle.hd_gate.proofs.CallerOpen.{are_all, begin, limits_are, first_part}
 use Rattle.hd_gate.proofs.opening.callers_of.Goals as goal
 
 new_one : (c : goal.In-Ok) → IsNew c.args.custody.now 0 (slice_index c.args.rooms.now 0)

@@ -1,5 +1,5 @@
 use Rattle.hd_gate.proofs.Basics.{CallerView, HasEnded, Known, [], ap, arith, length, length-append, slice_index_or, subst, sym, ◌+◌, ◌∙◌, ◌∷◌, ◌≡◌}
-use Rattle.hd_gate.proofs.Endings.{one_more_ended, ends_in, shorter, rest_less, is_last}
+use Rattle.hd_gate.proofs.CallerClose.{one_more_ended, ends_in, shorter, rest_less, is_last}
 use Rattle.hd_gate.proofs.opening.join_all.Goals as goal
 
 pub loop-caller-preserved : goal.loop-caller-preserved

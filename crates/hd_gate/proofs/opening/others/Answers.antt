@@ -1,5 +1,5 @@
 use Rattle.hd_gate.proofs.Basics.{AreNew, CallerView, IsFirst, IsNew, Known, List, [], ap, arith, caller_view_of, drop, length, length-append, padded_value, refl, slice_index, subst, sum, sym, ◌++◌, ◌+◌, ◌∙◌, ◌∷◌, ◌≡◌}
-use Rattle.hd_gate.proofs.Beginnings.{sum_drop, first_next, one_more, limits_are}
+use Rattle.hd_gate.proofs.CallerOpen.{sum_drop, first_next, one_more, limits_are}
 use Rattle.hd_gate.proofs.opening.others.Goals as goal
 
 pub overflow_cast-number : goal.overflow_cast-number

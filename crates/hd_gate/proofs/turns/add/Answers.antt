@@ -2,7 +2,7 @@ use Rattle.hd_gate.proofs.Basics.{Dependent, GrowsByBlocks, Known, MayGrant, Wor
 use Rattle.hd_gate.proofs.GateLeave.{may_step, Leaves, may_leave, turned}
 use Rattle.hd_gate.proofs.GateSearch.{adds_offer, added}
 use Rattle.hd_gate.proofs.turns.add.Given.{Over}
-use Rattle.hd_gate.proofs.turns.add.Goals.{After-step_surely-entry, After-grow}
+use Rattle.hd_gate.proofs.turns.add.Goals.{After-step_surely-entry, After-grant_blocks}
 use Rattle.hd_gate.proofs.turns.add.Goals as goal
 
 pub step_surely-entry-requires-clause-step : goal.step_surely-entry-requires-clause-step
@@ -30,21 +30,21 @@ goes g c =
     c.look-offer.ensures.looked c.step_surely-entry.new.world c.step_surely-entry.result
     c.step_surely-entry.ensures
 
-pub grow-requires-clause-grows : goal.grow-requires-clause-grows
-grow-requires-clause-grows g c apart =
-    ((goes g (goal.at.grow-requires-clause-grows g c).After-step_surely-entry).1 apart).0
+pub grant_blocks-requires-clause-grows : goal.grant_blocks-requires-clause-grows
+grant_blocks-requires-clause-grows g c apart =
+    ((goes g (goal.at.grant_blocks-requires-clause-grows g c).After-step_surely-entry).1 apart).0
 
-pub grow-requires-clause-blocks : goal.grow-requires-clause-blocks
-grow-requires-clause-blocks g c apart =
-    ((goes g (goal.at.grow-requires-clause-blocks g c).After-step_surely-entry).1 apart).1
+pub grant_blocks-requires-clause-blocks : goal.grant_blocks-requires-clause-blocks
+grant_blocks-requires-clause-blocks g c apart =
+    ((goes g (goal.at.grant_blocks-requires-clause-blocks g c).After-step_surely-entry).1 apart).1
 
 -- the seat under the gate, and what it may leave with
-busy : (g : Over) (c : After-grow g) → c.grow.new.seat ≡ record {
+busy : (g : Over) (c : After-grant_blocks g) → c.grant_blocks.new.seat ≡ record {
   table = c.args.seat.now.table;
   view = with_grown (kind_number Dependent) c.step_surely-entry.result.grown c.look-offer.new.seat.view;
 }
 busy g c =
-    c.grow.ensures
+    c.grant_blocks.ensures
     ∙ ap (λ t. record {
       table = t;
       view = with_grown (kind_number Dependent) c.step_surely-entry.result.grown c.look-offer.new.seat.view;
@@ -53,13 +53,13 @@ busy g c =
 pub leave-requires-clause-follows : goal.leave-requires-clause-follows
 leave-requires-clause-follows g c =
     let at = goal.at.leave-requires-clause-follows g c in
-    may_leave c.args.seat.now c.grow.new.seat c.args.number c.args.cmd c.enter-world.result
-    c.step_surely-entry.new.world c.step_surely-entry.result _ (busy g at.After-grow)
+    may_leave c.args.seat.now c.grant_blocks.new.seat c.args.number c.args.cmd c.enter-world.result
+    c.step_surely-entry.new.world c.step_surely-entry.result _ (busy g at.After-grant_blocks)
     (goes g at.After-step_surely-entry).0
 
 pub returns : goal.returns
 returns g c =
     let at = goal.at.returns g c in
-    turned c.args.seat.now c.grow.new.seat c.args.number c.args.cmd c.enter-world.result
-    c.step_surely-entry.new.world c.step_surely-entry.result _ (busy g at.After-grow)
+    turned c.args.seat.now c.grant_blocks.new.seat c.args.number c.args.cmd c.enter-world.result
+    c.step_surely-entry.new.world c.step_surely-entry.result _ (busy g at.After-grant_blocks)
     (goes g at.After-step_surely-entry).0 c.leave.new.seat c.leave.ensures.view

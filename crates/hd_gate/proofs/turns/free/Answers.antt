@@ -1,4 +1,4 @@
-use Rattle.hd_gate.proofs.Basics.{HasAs, IfSome, Kind, Known, None, Option, ReleasesFreed, Slot, TableId, Turned, WorldView, ap, freed_in, gave_back, ghosts, kind_number, refl, subst, sym, took, ◌+◌, ◌∙◌, ◌≡◌, ◌≤◌}
+use Rattle.hd_gate.proofs.Basics.{BLOCKS, HasAs, IfSome, Kind, Known, None, Option, ReleasesFreed, Slot, TableId, Turned, WorldView, ap, freed_in, gave_back, ghosts, kind_number, refl, subst, sym, took, ◌+◌, ◌∙◌, ◌≡◌, ◌≤◌}
 use Rattle.hd_gate.proofs.{HandleFree.Freed, HandleFree.frees_slot, GateLeave.may_step, GateLeave.may_leave_with}
 use Rattle.hd_gate.proofs.turns.free.Given.{Over}
 use Rattle.hd_gate.proofs.turns.free.Goals.{After-step_surely-entry, After-leave}
@@ -7,13 +7,13 @@ use Rattle.hd_gate.proofs.turns.free.Goals as goal
 -- what its caller may leave the gate with, and what it is once it released what was freed
 all : (g : Over) (c : After-step_surely-entry g) → Freed c.args.number c.args.cmd c.requires.frees
     c.enter-world.result c.step_surely-entry.new.world c.args.seat.now.view c.requires.turn.idle
-    c.requires.turn.room (subst (λ b. b ≤ 256) c.requires.turn.blocks c.requires.turn.few)
+    c.requires.turn.room (subst (λ b. b ≤ BLOCKS) c.requires.turn.blocks c.requires.turn.few)
     c.enter-world.ensures.entered c.step_surely-entry.result c.step_surely-entry.ensures
     (freed_in c.step_surely-entry.new.world.state c.step_surely-entry.result.slot)
 all g c =
     frees_slot c.args.number c.args.cmd c.requires.frees c.enter-world.result c.step_surely-entry.new.world
     c.args.seat.now.view c.requires.turn.idle c.requires.turn.room
-    (subst (λ b. b ≤ 256) c.requires.turn.blocks c.requires.turn.few) c.enter-world.ensures.entered
+    (subst (λ b. b ≤ BLOCKS) c.requires.turn.blocks c.requires.turn.few) c.enter-world.ensures.entered
     c.step_surely-entry.result c.step_surely-entry.ensures
 
 left : (g : Over) (c : After-leave g) → c.leave.new.seat ≡ record {

@@ -2,7 +2,7 @@ use Rattle.hd_gate.proofs.Basics.{GrowsByBlocks, Known, MayGrant, TableId, Takes
 use Rattle.hd_gate.proofs.{StepLiveSlots.in_state, StepLiveSlots.asks_for, HandleMake.may_offer, HandleMake.made}
 use Rattle.hd_gate.proofs.GateLeave.{may_step, Leaves, may_leave, turned}
 use Rattle.hd_gate.proofs.turns.make.Given.{Over}
-use Rattle.hd_gate.proofs.turns.make.Goals.{After-step_surely-entry, After-grow}
+use Rattle.hd_gate.proofs.turns.make.Goals.{After-step_surely-entry, After-grant_blocks}
 use Rattle.hd_gate.proofs.turns.make.Goals as goal
 
 pub step_surely-entry-requires-clause-step : goal.step_surely-entry-requires-clause-step
@@ -39,19 +39,19 @@ goes g c =
     c.allocate-offer.ensures.done c.allocate-offer.ensures.none c.enter-world.ensures.entered
     c.step_surely-entry.result c.step_surely-entry.ensures
 
-pub grow-requires-clause-grows : goal.grow-requires-clause-grows
-grow-requires-clause-grows g c apart =
-    ((goes g (goal.at.grow-requires-clause-grows g c).After-step_surely-entry).1 apart).0
+pub grant_blocks-requires-clause-grows : goal.grant_blocks-requires-clause-grows
+grant_blocks-requires-clause-grows g c apart =
+    ((goes g (goal.at.grant_blocks-requires-clause-grows g c).After-step_surely-entry).1 apart).0
 
-pub grow-requires-clause-blocks : goal.grow-requires-clause-blocks
-grow-requires-clause-blocks g c apart =
+pub grant_blocks-requires-clause-blocks : goal.grant_blocks-requires-clause-blocks
+grant_blocks-requires-clause-blocks g c apart =
     let e = c.step_surely-entry.result in
     subst (λ (x : View WorldView). MayGrant ghosts c.args.custody.now.blocks (handle_block e.grown)
     (extra_block e.grown) x) (sym (ap (λ (s : Known WorldView). s.view) c.enter-world.ensures.view))
-    ((goes g (goal.at.grow-requires-clause-blocks g c).After-step_surely-entry).1 apart).1
+    ((goes g (goal.at.grant_blocks-requires-clause-blocks g c).After-step_surely-entry).1 apart).1
 
 -- the seat under the gate, and what it may leave with
-busy : (g : Over) (c : After-grow g) → c.grow.new.seat ≡ record {
+busy : (g : Over) (c : After-grant_blocks g) → c.grant_blocks.new.seat ≡ record {
   table = c.args.seat.now.table;
   view = with_grown (kind_number c.args.kind) c.step_surely-entry.result.grown
       (took c.enter-world.result c.allocate-offer.new.seat.view);
@@ -59,7 +59,7 @@ busy : (g : Over) (c : After-grow g) → c.grow.new.seat ≡ record {
 busy g c =
     let k = kind_number c.args.kind in
     let grown = c.step_surely-entry.result.grown in
-    c.grow.ensures
+    c.grant_blocks.ensures
     ∙ ap (λ (s : Known WorldView). record s { view = with_grown k grown s.view }) c.enter-world.ensures.view
     ∙ ap (λ (t : TableId). record {
       table = t;
@@ -69,13 +69,13 @@ busy g c =
 pub leave-requires-clause-follows : goal.leave-requires-clause-follows
 leave-requires-clause-follows g c =
     let at = goal.at.leave-requires-clause-follows g c in
-    may_leave c.args.seat.now c.grow.new.seat c.args.number c.args.cmd c.enter-world.result
-    c.step_surely-entry.new.world c.step_surely-entry.result _ (busy g at.After-grow)
+    may_leave c.args.seat.now c.grant_blocks.new.seat c.args.number c.args.cmd c.enter-world.result
+    c.step_surely-entry.new.world c.step_surely-entry.result _ (busy g at.After-grant_blocks)
     (goes g at.After-step_surely-entry).0
 
 pub returns : goal.returns
 returns g c =
     let at = goal.at.returns g c in
-    turned c.args.seat.now c.grow.new.seat c.args.number c.args.cmd c.enter-world.result
-    c.step_surely-entry.new.world c.step_surely-entry.result _ (busy g at.After-grow)
+    turned c.args.seat.now c.grant_blocks.new.seat c.args.number c.args.cmd c.enter-world.result
+    c.step_surely-entry.new.world c.step_surely-entry.result _ (busy g at.After-grant_blocks)
     (goes g at.After-step_surely-entry).0 c.leave.new.seat c.leave.ensures.view

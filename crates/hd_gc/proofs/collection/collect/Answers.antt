@@ -16,8 +16,8 @@ relocate_all-requires-clause-rows g c =
     rows_kept (ready_spared c.take.ensures.same c.requires.ready) c.in_ok-found.ensures.found
     c.report-report.ensures
 
-pub relocate_all-requires-clause-waiting : goal.relocate_all-requires-clause-waiting
-relocate_all-requires-clause-waiting g c =
+pub relocate_all-requires-clause-queued : goal.relocate_all-requires-clause-queued
+relocate_all-requires-clause-queued g c =
     queued_kept (ready_spared c.take.ensures.same c.requires.ready) c.in_ok-found.ensures.found
     c.report-report.ensures
 

@@ -1,6 +1,6 @@
 use Rattle.hd_gc.proofs.Basics.{AreSurveyed, Basis, IsClosed, IsField, due_again, objects_of, promoted_in, refl, subst, sym}
 use Rattle.hd_gc.proofs.ClearedRows.{ready_due}
-use Rattle.hd_gc.proofs.MarkAndClearPhases.{due2, room2, fields2, waiting2, due4, closed4, marked_and_cleared}
+use Rattle.hd_gc.proofs.MarkAndClearPhases.{due2, room2, fields2, queued2, due4, closed4, marked_and_cleared}
 use Rattle.hd_gc.proofs.mark_and_clear.mark_and_clear.Goals as goal
 
 pub over-requires-clause-survey : goal.over-requires-clause-survey
@@ -30,9 +30,9 @@ pub revive-revived-requires-clause-fields : goal.revive-revived-requires-clause-
 revive-revived-requires-clause-fields g c =
     fields2 c.requires.ready c.trace.ensures.traced c.clear_short-short.ensures.clears
 
-pub revive-revived-requires-clause-waiting : goal.revive-revived-requires-clause-waiting
-revive-revived-requires-clause-waiting g c =
-    waiting2 c.requires.ready c.trace.ensures.traced c.clear_short-short.ensures.clears
+pub revive-revived-requires-clause-queued : goal.revive-revived-requires-clause-queued
+revive-revived-requires-clause-queued g c =
+    queued2 c.requires.ready c.trace.ensures.traced c.clear_short-short.ensures.clears
 
 pub clear_long-long-requires-clause-due : goal.clear_long-long-requires-clause-due
 clear_long-long-requires-clause-due g c =
@@ -57,5 +57,5 @@ returns-clause-found g c =
     c.revive-revived.ensures.resurrected c.clear_long-long.ensures.clears c.clear-dep.ensures.whole
     c.clear-dep.ensures.table c.clear-dep.ensures.whole_count c.revive-revived.ensures.count
     c.lay.ensures.laid c.requires.basis c.lay.ensures.basis c.lay.ensures.kept c.lay.ensures.pinned
-    c.lay.ensures.stays (λ i. c.revive-revived.new.fin.waiting) c.revive-revived.ensures.room
+    c.lay.ensures.stays (λ i. c.revive-revived.new.fin.queued) c.revive-revived.ensures.room
     c.clear_short-short.ensures.steps c.clear_long-long.ensures.steps c.clear-dep.ensures.steps

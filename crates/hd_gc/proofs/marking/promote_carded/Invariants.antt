@@ -1,4 +1,5 @@
-use Rattle.hd_gc.proofs.Basics.{IsOldFieldUpTo, Promotes, left_to}
+use Rattle.hd_gc.proofs.Basics.{Promotes}
+use Rattle.hd_gc.proofs.CardWalk.{IsOldFieldUpTo, left_to}
 use Rattle.hd_gc.proofs.marking.promote_carded.Given as goal
 
 abbrev pub invariant-loop-at : goal.invariant-loop-at

@@ -1,4 +1,4 @@
-use Rattle.hd_gc.proofs.Basics.{ap, arith, grown_at, length, raised, sym, ◌*◌, ◌+◌, ◌∙◌}
+use Rattle.hd_gc.proofs.Basics.{CLUMPS, ap, arith, grown_at, length, raised, sym, ◌*◌, ◌+◌, ◌∙◌}
 use Rattle.hd_gc.proofs.MappedPrefixes.{mapped_none, mapped_all, length-mapped_to, grown_next}
 use Rattle.hd_gc.proofs.moving.grow.Goals as goal
 
@@ -7,7 +7,7 @@ loop-block-init c = sym (mapped_none (raised c.args.n) c.args.ages.now)
 
 pub grow-requires-clause-high : goal.grow-requires-clause-high
 grow-requires-clause-high c =
-    let known = length-mapped_to (raised c.args.n) c.args.ages.now (4 * c.loop-block.block) in
+    let known = length-mapped_to (raised c.args.n) c.args.ages.now (CLUMPS * c.loop-block.block) in
     omega (arith, c.blocks-block-end.ensures.value, ap length c.loop-block.invariant, known)
 
 pub loop-block-preserved : goal.loop-block-preserved
@@ -17,5 +17,5 @@ loop-block-preserved c =
 
 pub returns : goal.returns
 returns c =
-    c.loop-block.invariant ∙ mapped_all (raised c.args.n) c.args.ages.now (4 * c.loop-block.block)
+    c.loop-block.invariant ∙ mapped_all (raised c.args.n) c.args.ages.now (CLUMPS * c.loop-block.block)
     (omega (arith, c.blocks-block-end.ensures.value))

@@ -1,4 +1,4 @@
-use Rattle.hd_plan.proofs.Basics.{Addr, HasMove, HasPlaces, IsAdded, IsJoined, List, Move, ap, arith, false, first_at, is_last, length, length-set, move_at, refl, region_of, set, spot_of, subst, sym, vec_capacity, ℕ, ◌*◌, ◌+◌, ◌<◌, ◌^◌, ◌∙◌, ◌≡◌, ◌≤◌, ◌⊎◌}
+use Rattle.hd_plan.proofs.Basics.{Addr, HasMove, HasPlaces, IsAdded, IsJoined, List, Move, REGION, ap, arith, false, first_at, is_last, length, length-set, move_at, refl, region_of, set, spot_of, subst, sym, vec_capacity, ℕ, ◌*◌, ◌+◌, ◌<◌, ◌^◌, ◌∙◌, ◌≡◌, ◌≤◌, ◌⊎◌}
 use Rattle.hd_plan.proofs.ForwardTable.{IsNoted, room_along, room_next, noted, move_read, places_put}
 use Rattle.hd_plan.proofs.list.list_moves.Goals.{After-index-object, After-list_region}
 use Rattle.hd_plan.proofs.list.list_moves.Goals as goal
@@ -44,11 +44,11 @@ put-requires-clause-room c =
     let within : c.loop-k.k < length ms =
     omega (arith, c.loop-k-test.true, c.len-k-end.ensures, c.args.moves.now.ok.0) in
     subst
-    (λ (m : Move). 256 * first_at c.list_region.new.places.firsts.items (region_of m.from)
+    (λ (m : Move). REGION * first_at c.list_region.new.places.firsts.items (region_of m.from)
     ≤ length c.list_region.new.places.cells.items)
     (sym (move_read ms c.loop-k.k (length ms) c.index-object.result.now c.index-object.ensures within refl))
     (subst
-    (λ (cells : List Addr). 256 * first_at c.list_region.new.places.firsts.items
+    (λ (cells : List Addr). REGION * first_at c.list_region.new.places.firsts.items
     (region_of (move_at c.args.moves.now.items c.loop-k.k).from) ≤ length cells)
     (sym c.list_region.ensures.cells) (next (goal.at.put-requires-clause-room c).After-list_region).room)
 

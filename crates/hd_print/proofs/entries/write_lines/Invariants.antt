@@ -1,4 +1,4 @@
-use Rattle.hd_print.proofs.Basics.{Entry, Took, count_by, get_or, take, ℕ, ◌<◌, ◌==◌, ◌≡◌}
+use Rattle.hd_print.proofs.Basics.{CALLERS, Entry, Took, count_by, get_or, take, ℕ, ◌<◌, ◌==◌, ◌≡◌}
 use Rattle.hd_print.specs.EntryLines.{lines_by}
 use Rattle.hd_print.proofs.entries.write_lines.Given as goal
 
@@ -9,5 +9,5 @@ invariant-loop-i g l =
     let done = take l.i l.journal.entries in
     record {
       lines : Took (seen l.fn.sink) (seen l.sink) (lines_by l.full done);
-      counts : (c : ℕ) → c < 16 → get_or l.counts c 0 ≡ count_by (λ (e : Entry). e.caller == c) done;
+      counts : (c : ℕ) → c < CALLERS → get_or l.counts c 0 ≡ count_by (λ (e : Entry). e.caller == c) done;
     }

@@ -2,8 +2,7 @@ use Rattle.std.proofs.Common.{◌<◌, sym, ap, subst}
 use Rattle.std.specs.Option.{option_map_or}
 use Rattle.hd_model.specs.declared.data.Kind.TheVariants as kind
 use Rattle.hd_model.specs.Table.{chain_of, has_handles}
-use Rattle.hd_root.specs.Links.{left_from}
-use Rattle.hd_root.proofs.LinkRows.{on_at, block_use, block_bounds, chain_next, chain_falls, chain_end}
+use Rattle.hd_root.proofs.LinkRows.{left_from, on_at, block_use, block_bounds, chain_next, chain_falls, chain_end}
 use Rattle.hd_root.proofs.dependents.dependents_of.Goals as goal
 
 pub put_block-requires-clause-low : goal.put_block-requires-clause-low

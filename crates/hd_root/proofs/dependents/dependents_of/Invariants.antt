@@ -1,8 +1,7 @@
 use Rattle.std.specs.Option.{option_map_or}
 use Rattle.hd_model.specs.declared.data.Kind.TheVariants.{Dependent}
 use Rattle.hd_model.specs.Table.{chain_of}
-use Rattle.hd_root.specs.Links.{left_from}
-use Rattle.hd_root.proofs.LinkRows.{IsOnChain}
+use Rattle.hd_root.proofs.LinkRows.{left_from, IsOnChain}
 use Rattle.hd_root.proofs.dependents.dependents_of.Given as goal
 
 abbrev pub invariant-loop-block : goal.invariant-loop-block

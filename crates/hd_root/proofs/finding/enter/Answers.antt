@@ -1,8 +1,7 @@
 use Rattle.std.proofs.Common.{◌+◌, get_or, sym, subst}
 use Rattle.std.proofs.lemmas.Option.{slice_get-get_or}
 use Rattle.hd_root.specs.declared.anchors.Anchor.{Anchor}
-use Rattle.hd_root.specs.Anchors.{IsEntering}
-use Rattle.hd_root.proofs.AnchorOrder.{listed_same, listed_is, entering_none, entering_objects, entering_on, entering_end}
+use Rattle.hd_root.proofs.AnchorOrder.{IsEntering, listed_same, listed_is, entering_none, entering_objects, entering_on, entering_end}
 use Rattle.hd_root.proofs.finding.enter.Goals as goal
 
 abbrev no_anchor : Anchor

@@ -1,4 +1,4 @@
-use Rattle.hd_root.specs.Anchors.{IsEntering}
+use Rattle.hd_root.proofs.AnchorOrder.{IsEntering}
 use Rattle.hd_root.proofs.finding.enter.Given as goal
 
 abbrev pub invariant-loop-anchor : goal.invariant-loop-anchor

@@ -1,7 +1,7 @@
 use Rattle.std.proofs.Common.{◌≡◌, ◌<◌, ◌≤◌, true, Some}
 use Rattle.hd_model.specs.declared.data.Addr.{Addr}
 use Rattle.hd_model.specs.Heap.{has_object, id_at}
-use Rattle.hd_gc.specs.Growing.{left_to}
+use Rattle.hd_gc.proofs.CardWalk.{left_to}
 use Rattle.hd_rows.proofs.checks.is_alone.Given as goal
 
 abbrev pub invariant-loop-other : goal.invariant-loop-other

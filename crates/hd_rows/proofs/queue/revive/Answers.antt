@@ -14,4 +14,4 @@ pub returns : goal.returns
 returns g c =
     queued_objects c.args.heap.now c.args.n _ _ _ _ _ c.revive.ensures.resurrects
     (λ a k. absurd (not_in_none a (subst (λ xs. Contains xs a) c.requires
-    (subst (λ (q : Queue). Contains q.waiting a) c.in_ok-reserve.ensures k))))
+    (subst (λ (q : Queue). Contains q.queued a) c.in_ok-reserve.ensures k))))

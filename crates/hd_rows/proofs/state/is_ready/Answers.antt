@@ -9,7 +9,7 @@ use Rattle.hd_rows.proofs.state.is_ready.Goals as goal
 pub returns : goal.returns
 returns c = λ none.
     let s = c.args.s.now in
-    let empty : length s.fin.waiting ≡ 0 = sym c.len.ensures.value ∙ eqb-true c.len.result 0 none in
+    let empty : length s.fin.queued ≡ 0 = sym c.len.ensures.value ∙ eqb-true c.len.result 0 none in
     is_ready s.heap s.seg s.ages s.fin s.roots.items c.requires.full c.requires.clumps c.requires.room
     (c.is_bare.ensures c.if-not-is_bare.false) (c.are_alone.ensures c.if-not-are_alone.false)
     (c.are_plain.ensures c.if-not-are_plain.false)

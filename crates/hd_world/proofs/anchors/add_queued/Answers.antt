@@ -4,8 +4,8 @@ use Rattle.hd_world.proofs.anchors.add_queued.Goals as goal
 
 pub loop-i-preserved : goal.loop-i-preserved
 loop-i-preserved c =
-    let waiting = c.args.queue.now.waiting in
-    let low : c.loop-i.i < length waiting = omega (arith, c.loop-i-test.true, c.len-i-end.ensures.value) in
+    let queued = c.args.queue.now.queued in
+    let low : c.loop-i.i < length queued = omega (arith, c.loop-i-test.true, c.len-i-end.ensures.value) in
     c.in_ok-add.ensures ∙ (λ k. c.loop-i.invariant k ++ c.at.ensures c.at.result k ∷ [])
-    ∙ append_assoc c.args.anchors.now.items (take c.loop-i.i waiting) _
-    ∙ ap (λ xs. c.args.anchors.now.items ++ xs) (sym (take_more waiting c.loop-i.i c.at.result low))
+    ∙ append_assoc c.args.anchors.now.items (take c.loop-i.i queued) _
+    ∙ ap (λ xs. c.args.anchors.now.items ++ xs) (sym (take_more queued c.loop-i.i c.at.result low))

@@ -1,4 +1,4 @@
-use Rattle.hd_ages.proofs.Basics.{Advances, IsOver, MatchOption, Option, ap, arith, cases_lt, map, set_bits, subst, sym, ℕ, ⊎_elim, ◌+◌, ◌<◌, ◌∙◌}
+use Rattle.hd_ages.proofs.Basics.{Advances, CLUMPS, IsOver, MatchOption, Option, ap, arith, cases_lt, map, set_bits, subst, sym, ℕ, ⊎_elim, ◌+◌, ◌<◌, ◌∙◌}
 use Rattle.hd_ages.proofs.WalkSteps.{over, new_clump, new_block}
 use Rattle.hd_ages.proofs.ClumpBits.{first_and_rest, none_first}
 use Rattle.hd_ages.proofs.due_rows.DueRows.advance.Goals as goal
@@ -18,10 +18,10 @@ pub enter-requires-clause-high : goal.enter-requires-clause-high
 enter-requires-clause-high g c = (c.requires.on.block c.in_ok-block.block c.in_ok-block.was).high
 
 pub returns-in-Some-clause-on : goal.returns-in-Some-clause-on
-returns-in-Some-clause-on g c = let few : c.in-Some.clump < 4 =
+returns-in-Some-clause-on g c = let few : c.in-Some.clump < CLUMPS =
     ⊎_elim (λ l. l) (λ le. absurd
     (omega (arith, c.in-Some.ensures.set, c.requires.on.clumps c.in-Some.clump le)))
-    (cases_lt c.in-Some.clump 4) in record {
+    (cases_lt c.in-Some.clump CLUMPS) in record {
       block = λ b e. c.requires.on.block b (sym c.enter.ensures.block ∙ e);
       clumps = λ i le. omega (arith, c.enter.ensures.fewer i, c.requires.on.clumps i le);
       first = let lt = c.requires.on.block c.in_ok-block.block c.in_ok-block.was in

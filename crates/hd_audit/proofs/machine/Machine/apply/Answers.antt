@@ -1,6 +1,6 @@
 use Rattle.std.proofs.Common.{AllPairs, ◌++◌, ◌∙◌, ◌≢◌, map, option_map, subst, sym}
 use Rattle.hd_audit.specs.Found.{findings_of}
-use Rattle.hd_audit.specs.Collecting.{ChangesAt, emptied, gone, grown_up, id_of, idled, taken_off}
+use Rattle.hd_audit.specs.Collecting.{ChangesAt, emptied, gone, raised_object, id_of, idled, unregistered_object}
 use Rattle.hd_audit.proofs.AppliedSteps.{all_applied}
 use Rattle.hd_audit.proofs.machine.Machine.apply.Goals as goal
 
@@ -47,10 +47,10 @@ returns c =
     (subst (λ ks. ChangesAt (gone) ks c.empty-3.new.self.state.places c.forget.new.self.state.places)
     c.deref-6.ensures.value c.forget.ensures.each)
     c.forget.ensures.rest
-    (subst (λ ks. ChangesAt (option_map taken_off) ks c.forget.new.self.state.objects
+    (subst (λ ks. ChangesAt (option_map unregistered_object) ks c.forget.new.self.state.objects
     c.change_objects.new.self.state.objects) c.deref-7.ensures.value c.change_objects.ensures.each)
     c.change_objects.ensures.rest
-    (subst (λ ks. ChangesAt (option_map (grown_up c.args.n)) ks c.change_objects.new.self.state.objects
+    (subst (λ ks. ChangesAt (option_map (raised_object c.args.n)) ks c.change_objects.new.self.state.objects
     c.change_objects-2.new.self.state.objects) c.deref-8.ensures.value c.change_objects-2.ensures.each)
     c.change_objects-2.ensures.rest
     (subst (λ ks. ChangesAt (gone) ks c.change_objects-2.new.self.state.objects

@@ -2,7 +2,7 @@ use Rattle.std.proofs.Common.{[], ◌∷◌, subst, sym}
 use Rattle.hd_audit.specs.Collecting.{ChangesAt}
 use Rattle.hd_audit.specs.Found.{changed_by}
 use Rattle.hd_audit.proofs.AppliedSteps.{removed_at_key}
-use Rattle.hd_audit.proofs.Changes.{objects}
+use Rattle.hd_audit.proofs.MapChanges.{objects}
 use Rattle.hd_audit.proofs.machine.Machine.change_object.Goals as goal
 
 pub returns-in-Removes-clause-each : goal.returns-in-Removes-clause-each

@@ -1,6 +1,6 @@
 use Rattle.std.proofs.Common.{arith}
 use Rattle.hd_audit.specs.Found.{changed_by}
-use Rattle.hd_audit.proofs.Changes.{changed_apart, changed_none, changes_all, objects}
+use Rattle.hd_audit.proofs.MapChanges.{changed_apart, changed_none, changes_all, objects}
 use Rattle.hd_audit.proofs.machine.Machine.change_objects.Goals as goal
 
 pub loop-id-init : goal.loop-id-init

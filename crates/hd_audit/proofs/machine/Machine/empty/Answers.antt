@@ -1,7 +1,7 @@
 use Rattle.std.proofs.Common.{arith, option_map}
 use Rattle.hd_audit.specs.Collecting.{emptied}
 use Rattle.hd_audit.proofs.AppliedSteps.{emptied_again}
-use Rattle.hd_audit.proofs.Changes.{changed_next, changed_none, changes_all, handles}
+use Rattle.hd_audit.proofs.MapChanges.{changed_next, changed_none, changes_all, handles}
 use Rattle.hd_audit.proofs.machine.Machine.empty.Goals as goal
 
 pub loop-slot-init : goal.loop-slot-init

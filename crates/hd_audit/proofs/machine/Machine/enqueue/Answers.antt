@@ -1,5 +1,5 @@
 use Rattle.std.proofs.Common.{arith}
-use Rattle.hd_audit.proofs.Changes.{queue_all, queue_next}
+use Rattle.hd_audit.proofs.MapChanges.{queue_all, queue_next}
 use Rattle.hd_audit.proofs.machine.Machine.enqueue.Goals as goal
 
 pub loop-id-preserved : goal.loop-id-preserved

@@ -1,7 +1,7 @@
 use Rattle.std.proofs.Common.{arith, get_or, refl}
 use Rattle.hd_audit.specs.Collecting.{gone}
 use Rattle.hd_audit.proofs.AppliedSteps.{removed_at_key}
-use Rattle.hd_audit.proofs.Changes.{changed_next, changed_none, changes_all, places}
+use Rattle.hd_audit.proofs.MapChanges.{changed_next, changed_none, changes_all, places}
 use Rattle.hd_audit.proofs.machine.Machine.forget.Goals as goal
 
 pub loop-id-init : goal.loop-id-init

@@ -1,6 +1,6 @@
 use Rattle.std.proofs.Common.{take}
 use Rattle.hd_audit.specs.Collecting.{gone}
-use Rattle.hd_audit.proofs.Changes.{Changed, places}
+use Rattle.hd_audit.proofs.MapChanges.{Changed, places}
 use Rattle.hd_audit.proofs.machine.Machine.forget.Given as goal
 
 abbrev pub invariant-loop-id : goal.invariant-loop-id

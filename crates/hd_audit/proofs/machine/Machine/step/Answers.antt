@@ -5,7 +5,7 @@ use Rattle.hd_model.specs.declared.data.Refusal.{Refusal}
 use Rattle.hd_model.specs.Step.{way_of}
 use Rattle.hd_audit.specs.declared.made.Made.{Made}
 use Rattle.hd_audit.specs.Commands.{IsTheStep, WayComesTo}
-use Rattle.hd_audit.proofs.Ways.{way_steps, way_stops}
+use Rattle.hd_audit.proofs.StepWays.{way_steps, way_stops}
 use Rattle.hd_audit.proofs.machine.Machine.step.Goals as goal
 
 pub returns-in-Some : goal.returns-in-Some

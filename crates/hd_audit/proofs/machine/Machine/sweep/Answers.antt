@@ -1,7 +1,7 @@
 use Rattle.std.proofs.Common.{arith}
 use Rattle.hd_audit.specs.Collecting.{idled}
 use Rattle.hd_audit.proofs.AppliedSteps.{idled_again, once_kept}
-use Rattle.hd_audit.proofs.Changes.{changed_next, changed_none, changes_all, weak}
+use Rattle.hd_audit.proofs.MapChanges.{changed_next, changed_none, changes_all, weak}
 use Rattle.hd_audit.proofs.machine.Machine.sweep.Goals as goal
 
 pub loop-slot-init : goal.loop-slot-init

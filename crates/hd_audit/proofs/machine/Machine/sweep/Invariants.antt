@@ -1,6 +1,6 @@
 use Rattle.std.proofs.Common.{take}
 use Rattle.hd_audit.specs.Collecting.{idled}
-use Rattle.hd_audit.proofs.Changes.{Changed, weak}
+use Rattle.hd_audit.proofs.MapChanges.{Changed, weak}
 use Rattle.hd_audit.proofs.machine.Machine.sweep.Given as goal
 
 abbrev pub invariant-loop-slot : goal.invariant-loop-slot

@@ -1,4 +1,4 @@
-use Rattle.hd_cells.proofs.Basics.{Contents, ap, arith, new_object, with_put, ◌+◌}
+use Rattle.hd_cells.proofs.Basics.{Contents, HEADER, ap, arith, new_object, with_put, ◌+◌}
 use Rattle.hd_cells.proofs.Contents.{opened, IsRead, new_laid_out}
 use Rattle.hd_cells.proofs.CellWrites.{cells_new, object_put, get-fill}
 use Rattle.hd_cells.proofs.ObjectStarts.{whole_put}
@@ -8,7 +8,7 @@ use Rattle.hd_cells.proofs.region.Region.put_object.Goals as goal
 pub returns-clause-was_free : goal.returns-clause-was_free
 returns-clause-was_free c = get-fill (opened c.self.told c.self.invariant c.self.view_is)
 
-after : (c : After-clear) → IsRead c.clear.new.cells (c.self.inside.fill + c.args.fields + 3)
+after : (c : After-clear) → IsRead c.clear.new.cells (c.self.inside.fill + c.args.fields + HEADER)
     (with_put c.args.self.now (new_object c.args.id c.args.fields c.args.registered))
 after c =
     let read = opened c.self.told c.self.invariant c.self.view_is in

@@ -1,6 +1,6 @@
 use Rattle.hd_custody.proofs.Basics.{Allocates, Known, Named, View, ap, arith, slot_number, subst, sym, ◌∙◌, ◌≡◌}
-use Rattle.hd_custody.proofs.Ends.{answer, found_none, found_some, allocates}
-use Rattle.hd_custody.proofs.Misses.{none_is_whole}
+use Rattle.hd_custody.proofs.CallEnds.{answer, found_none, found_some, allocates}
+use Rattle.hd_custody.proofs.WholeMiss.{none_is_whole}
 use Rattle.hd_custody.proofs.types.Custody.allocate.Goals.{then-slot-eq0, else-slot-eq0}
 use Rattle.hd_custody.proofs.types.Custody.allocate.Goals as goal
 

@@ -1,5 +1,5 @@
 use Rattle.hd_custody.proofs.Basics.{Acting, Some, arith, changed, subst, sym, true, ◌≡◌}
-use Rattle.hd_custody.proofs.{Gives.assign_steps, Keeps.same_table}
+use Rattle.hd_custody.proofs.{LeaveSteps.assign_steps, WordSteps.same_table}
 use Rattle.hd_custody.proofs.types.Custody.assign.Goals as goal
 
 pub store-requires : goal.store-requires

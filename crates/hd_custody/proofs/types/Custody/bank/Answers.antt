@@ -1,5 +1,5 @@
 use Rattle.hd_custody.proofs.Basics.{HasAs, List, arith, cell_kind, ℕ, ◌+◌, ◌≢◌}
-use Rattle.hd_custody.proofs.Keeps.{bank_steps, as_seen, same_table}
+use Rattle.hd_custody.proofs.WordSteps.{bank_steps, as_seen, same_table}
 use Rattle.hd_custody.proofs.types.Custody.bank.Goals as goal
 
 pub compare_exchange-requires : goal.compare_exchange-requires

@@ -1,6 +1,6 @@
 use Rattle.hd_custody.proofs.Basics.{Kinded, Named, ap, arith, every_row, look_whole, missed, refl, rows, subst, sym, ◌++◌, ◌+◌, ◌∙◌, ◌≡◌, ◌≢◌}
-use Rattle.hd_custody.proofs.Canon.{with_block_some}
-use Rattle.hd_custody.proofs.Phases.{less_is, less_not, found_or_some, seen_as, from_phase, held_is, table_is, then_as}
+use Rattle.hd_custody.proofs.HeldOnBlock.{with_block_some}
+use Rattle.hd_custody.proofs.CallPhases.{less_is, less_not, found_or_some, seen_as, from_phase, held_is, table_is, then_as}
 use Rattle.hd_custody.proofs.types.Custody.collect.Goals as goal
 
 pub take_whole-requires : goal.take_whole-requires

@@ -1,5 +1,5 @@
 use Rattle.hd_custody.proofs.Basics.{arith}
-use Rattle.hd_custody.proofs.Keeps.{drain_steps, same_table}
+use Rattle.hd_custody.proofs.WordSteps.{drain_steps, same_table}
 use Rattle.hd_custody.proofs.types.Custody.drain.Goals as goal
 
 pub swap-requires : goal.swap-requires

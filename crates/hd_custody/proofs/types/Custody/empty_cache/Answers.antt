@@ -1,6 +1,6 @@
 use Rattle.hd_custody.proofs.Basics.{Has, arith, calling, put_out, refl, subst, sym, with_slot, ◌+◌, ◌∙◌, ◌≢◌}
-use Rattle.hd_custody.proofs.{Canon.put_goes, Canon.with_slot_has, HeldSlots.has_member, ReleaseSteps.sweep_step}
-use Rattle.hd_custody.proofs.Phases.{seen_as, held_is, table_is, then_as}
+use Rattle.hd_custody.proofs.{HeldOnBlock.put_goes, HeldOnBlock.with_slot_has, HeldSlots.has_member, ReleaseSteps.sweep_step}
+use Rattle.hd_custody.proofs.CallPhases.{seen_as, held_is, table_is, then_as}
 use Rattle.hd_custody.proofs.types.Custody.empty_cache.Goals as goal
 
 pub settle-requires : goal.settle-requires

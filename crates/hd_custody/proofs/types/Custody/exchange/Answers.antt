@@ -1,5 +1,5 @@
 use Rattle.hd_custody.proofs.Basics.{HasAs, List, arith, cell_kind, ℕ, ◌+◌, ◌≢◌}
-use Rattle.hd_custody.proofs.Keeps.{exchange_steps, as_seen, same_table}
+use Rattle.hd_custody.proofs.WordSteps.{exchange_steps, as_seen, same_table}
 use Rattle.hd_custody.proofs.types.Custody.exchange.Goals as goal
 
 pub swap-requires : goal.swap-requires

@@ -1,5 +1,5 @@
 use Rattle.hd_custody.proofs.Basics.{HasRows, arith}
-use Rattle.hd_custody.proofs.Keeps.{put_in_steps, as_seen, same_table}
+use Rattle.hd_custody.proofs.WordSteps.{put_in_steps, as_seen, same_table}
 use Rattle.hd_custody.proofs.types.Custody.fill.Goals as goal
 
 pub fetch_or-requires : goal.fetch_or-requires

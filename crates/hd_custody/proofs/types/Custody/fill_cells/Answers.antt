@@ -1,5 +1,5 @@
 use Rattle.hd_custody.proofs.Basics.{◌∙◌}
-use Rattle.hd_custody.proofs.{Phases.table_is, AllocateSteps.banked_none, AllocateSteps.banked_more}
+use Rattle.hd_custody.proofs.{CallPhases.table_is, AllocateSteps.banked_none, AllocateSteps.banked_more}
 use Rattle.hd_custody.proofs.types.Custody.fill_cells.Goals as goal
 
 pub loop-i-init : goal.loop-i-init

@@ -1,5 +1,5 @@
 use Rattle.hd_custody.proofs.Basics.{Kinded, missed, subst, sym, to_look, with_slot, ◌+◌, ◌∙◌}
-use Rattle.hd_custody.proofs.Phases.{held_is, table_is, then_as}
+use Rattle.hd_custody.proofs.CallPhases.{held_is, table_is, then_as}
 use Rattle.hd_custody.proofs.AllocateSteps.{came_none, came_some, offers_since}
 use Rattle.hd_custody.proofs.types.Custody.find.Goals as goal
 

@@ -1,6 +1,6 @@
 use Rattle.hd_custody.proofs.Basics.{Acting, Gathers, IsSeated, Known, Named, View, ap, arith, subst, sym, ◌∙◌, ◌≡◌}
-use Rattle.hd_custody.proofs.Seated.{block_kinded}
-use Rattle.hd_custody.proofs.Ends.{answer, found_none, found_some, gathers_all}
+use Rattle.hd_custody.proofs.SeatCalls.{block_kinded}
+use Rattle.hd_custody.proofs.CallEnds.{answer, found_none, found_some, gathers_all}
 use Rattle.hd_custody.proofs.types.Custody.gather.Goals.{then-block-eq0, else-block-eq0}
 use Rattle.hd_custody.proofs.types.Custody.gather.Goals as goal
 

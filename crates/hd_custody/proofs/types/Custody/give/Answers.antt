@@ -1,4 +1,4 @@
-use Rattle.hd_custody.proofs.Canon.{granted_has, granted_view}
+use Rattle.hd_custody.proofs.HeldOnBlock.{granted_has, granted_view}
 use Rattle.hd_custody.proofs.types.Custody.give.Goals as goal
 
 pub fill-requires-clause-slots : goal.fill-requires-clause-slots

@@ -1,5 +1,5 @@
 use Rattle.hd_custody.proofs.Basics.{Acting, IsSeated, Named, ap, arith, handle_block, subst, sym}
-use Rattle.hd_custody.proofs.Seated.{granted_seated}
+use Rattle.hd_custody.proofs.SeatCalls.{granted_seated}
 use Rattle.hd_custody.proofs.types.Custody.grant.Goals as goal
 
 pub invariant_of-seat : goal.invariant_of-seat

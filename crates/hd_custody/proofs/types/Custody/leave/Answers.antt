@@ -1,6 +1,6 @@
 use Rattle.hd_custody.proofs.Basics.{Acting, Follows, IsSeated, Kinded, Known, List, Me, Named, Option, Some, View, [], ap, arith, carried_by, subst, sym, true, ℕ, ◌∙◌, ◌∷◌, ◌≡◌}
 use Rattle.atomic_table.specs.{Table.rest, Seated.TableId}
-use Rattle.hd_custody.proofs.{Gives.leave_steps, Seated.left_seated}
+use Rattle.hd_custody.proofs.{LeaveSteps.leave_steps, SeatCalls.left_seated}
 use Rattle.hd_custody.proofs.types.Custody.leave.Goals as goal
 
 -- the seat once the world is in its slot, before the gate is free

@@ -1,5 +1,5 @@
 use Rattle.hd_custody.proofs.Basics.{arith}
-use Rattle.hd_custody.proofs.Keeps.{look_steps, same_table}
+use Rattle.hd_custody.proofs.WordSteps.{look_steps, same_table}
 use Rattle.hd_custody.proofs.types.Custody.look.Goals as goal
 
 pub load-requires : goal.load-requires

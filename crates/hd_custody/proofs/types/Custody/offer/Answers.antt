@@ -1,5 +1,5 @@
 use Rattle.hd_custody.proofs.Basics.{Banked, HasAs, ROWS, bit_xor, refl, rules, subst, sym, ◌*◌, ◌+◌}
-use Rattle.hd_custody.proofs.Phases.{if_true, if_false}
+use Rattle.hd_custody.proofs.CallPhases.{if_true, if_false}
 use Rattle.hd_custody.proofs.AllocateSteps.{banked_all, offer_full, offer_put}
 use Rattle.hd_custody.proofs.types.Custody.offer.Goals as goal
 

@@ -1,5 +1,5 @@
 use Rattle.hd_custody.proofs.Basics.{arith, calling, refl, to_look, to_probe, with_slot, ◌+◌, ◌∙◌}
-use Rattle.hd_custody.proofs.Phases.{table_is, then_as}
+use Rattle.hd_custody.proofs.CallPhases.{table_is, then_as}
 use Rattle.hd_custody.proofs.AllocateSteps.{probe_step, came_none, came_some}
 use Rattle.hd_custody.proofs.types.Custody.probe.Goals as goal
 

@@ -1,6 +1,6 @@
 use Rattle.hd_custody.proofs.Basics.{HasAs, List, ap, arith, calling, held_times, refl, subst, sym, with_slot, without, ℕ, ◌+◌, ◌∙◌, ◌∷◌, ◌≡◌, ◌≢◌}
-use Rattle.hd_custody.proofs.Canon.{put_goes, put_some, with_slot_some, with_slot_has}
-use Rattle.hd_custody.proofs.Phases.{zero_not, seen_as, held_is, table_is, then_as}
+use Rattle.hd_custody.proofs.HeldOnBlock.{put_goes, put_some, with_slot_some, with_slot_has}
+use Rattle.hd_custody.proofs.CallPhases.{zero_not, seen_as, held_is, table_is, then_as}
 use Rattle.hd_custody.proofs.ReleaseSteps.{push_step, still_none, below_none}
 use Rattle.hd_custody.proofs.types.Custody.push.Goals as goal
 

@@ -1,5 +1,5 @@
 use Rattle.hd_custody.proofs.Basics.{HasRows, arith}
-use Rattle.hd_custody.proofs.Keeps.{return_steps, as_seen, same_table}
+use Rattle.hd_custody.proofs.WordSteps.{return_steps, as_seen, same_table}
 use Rattle.hd_custody.proofs.types.Custody.put_back.Goals as goal
 
 pub fetch_or-requires : goal.fetch_or-requires

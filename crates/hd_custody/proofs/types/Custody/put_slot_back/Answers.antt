@@ -1,5 +1,5 @@
 use Rattle.hd_custody.proofs.Basics.{HasRows, ROWS, ap, arith, subst, sym, ◌%◌, ◌/◌, ◌^◌, ◌∙◌, ◌≡◌}
-use Rattle.hd_custody.proofs.{Canon.slot_held, ReleaseSteps.slot_back}
+use Rattle.hd_custody.proofs.{HeldOnBlock.slot_held, ReleaseSteps.slot_back}
 use Rattle.hd_custody.proofs.types.Custody.put_slot_back.Goals as goal
 
 pub put_back-requires : goal.put_back-requires

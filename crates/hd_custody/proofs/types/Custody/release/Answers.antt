@@ -1,5 +1,5 @@
 use Rattle.hd_custody.proofs.Basics.{Acting, IsSeated, IsSlot, Known, Named, Releases, View, ap, arith, not, subst, sym, ◌==◌, ◌≡◌, ◌≢◌}
-use Rattle.hd_custody.proofs.{HeldSlots.every_filter, Ends.releases}
+use Rattle.hd_custody.proofs.{HeldSlots.every_filter, CallEnds.releases}
 use Rattle.hd_custody.proofs.types.Custody.release.Goals as goal
 
 pub invariant_of-seat : goal.invariant_of-seat

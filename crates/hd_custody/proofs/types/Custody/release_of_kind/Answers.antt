@@ -1,7 +1,7 @@
 use Rattle.hd_custody.proofs.Basics.{BLOCKS, Has, IsSlot, ROWS, ap, arith, bit_or, refl, subst, sym, without, ◌%◌, ◌+◌, ◌/◌, ◌^◌, ◌∙◌, ◌≡◌}
 use Rattle.hd_custody.proofs.HeldSlots.{has_member}
-use Rattle.hd_custody.proofs.Canon.{put_goes, put_some, with_slot_has, with_slot_none}
-use Rattle.hd_custody.proofs.Phases.{due, zero_is, zero_not, one_step, seen_as, held_is, table_is, then_as}
+use Rattle.hd_custody.proofs.HeldOnBlock.{put_goes, put_some, with_slot_has, with_slot_none}
+use Rattle.hd_custody.proofs.CallPhases.{due, zero_is, zero_not, one_step, seen_as, held_is, table_is, then_as}
 use Rattle.hd_custody.proofs.types.Custody.release_of_kind.Goals as goal
 
 pub put_slot_back-requires : goal.put_slot_back-requires

@@ -1,5 +1,5 @@
 use Rattle.hd_custody.proofs.Basics.{Kinded, Named, ap, arith, look, missed, refl, subst, sym, to_look, with_slot, ◌+◌, ◌∙◌, ◌≡◌}
-use Rattle.hd_custody.proofs.Phases.{less_is, less_not, made_none, seen_as, from_phase, held_is, table_is, then_as}
+use Rattle.hd_custody.proofs.CallPhases.{less_is, less_not, made_none, seen_as, from_phase, held_is, table_is, then_as}
 use Rattle.hd_custody.proofs.AllocateSteps.{came_none, came_some, offers_since}
 use Rattle.hd_custody.proofs.types.Custody.search.Goals as goal
 

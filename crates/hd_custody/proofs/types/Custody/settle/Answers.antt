@@ -1,6 +1,6 @@
 use Rattle.hd_custody.proofs.Basics.{BLOCKS, ROWS, bit_or, refl, sym, ◌%◌, ◌+◌, ◌/◌, ◌^◌}
-use Rattle.hd_custody.proofs.Canon.{put_some}
-use Rattle.hd_custody.proofs.Phases.{due, zero_is, zero_not, made_none, one_step, seen_as, from_phase}
+use Rattle.hd_custody.proofs.HeldOnBlock.{put_some}
+use Rattle.hd_custody.proofs.CallPhases.{due, zero_is, zero_not, made_none, one_step, seen_as, from_phase}
 use Rattle.hd_custody.proofs.types.Custody.settle.Goals as goal
 
 pub returns-then-slot-ne0 : goal.returns-then-slot-ne0

@@ -1,6 +1,6 @@
 use Rattle.hd_custody.proofs.Basics.{BLOCKS, bit_or, refl, sym, without_rows, ◌+◌, ◌∙◌}
-use Rattle.hd_custody.proofs.{Canon.rows_held, Canon.none_leaves, AllocateSteps.back_step}
-use Rattle.hd_custody.proofs.Phases.{due, zero_is, zero_not, seen_as, table_is, and_then}
+use Rattle.hd_custody.proofs.{HeldOnBlock.rows_held, HeldOnBlock.none_leaves, AllocateSteps.back_step}
+use Rattle.hd_custody.proofs.CallPhases.{due, zero_is, zero_not, seen_as, table_is, and_then}
 use Rattle.hd_custody.proofs.types.Custody.share_out.Goals as goal
 
 pub put_back-requires : goal.put_back-requires

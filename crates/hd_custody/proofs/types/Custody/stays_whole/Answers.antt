@@ -1,5 +1,5 @@
 use Rattle.hd_custody.proofs.Basics.{ap, back_part, eqb-false, eqb-true, every_row, refl, rows, sym, ◌++◌, ◌+◌, ◌∙◌, ◌≡◌}
-use Rattle.hd_custody.proofs.Phases.{due, same_is, same_not, made_none, seen_as, from_phase}
+use Rattle.hd_custody.proofs.CallPhases.{due, same_is, same_not, made_none, seen_as, from_phase}
 use Rattle.hd_custody.proofs.AllocateSteps.{second_look}
 use Rattle.hd_custody.proofs.types.Custody.stays_whole.Goals as goal
 

@@ -1,6 +1,6 @@
 use Rattle.hd_custody.proofs.Basics.{Acting, BLOCKS, Has, HasRows, HasRowsAs, Made, ROWS, ap, arith, bit_at, bit_or, bit_xor, refl, rows, subst, sym, to_bank, to_look, without_rows, ℕ, ◌*◌, ◌++◌, ◌+◌, ◌^◌, ◌∙◌, ◌∷◌, ◌≡◌, ◌≢◌}
-use Rattle.hd_custody.proofs.Canon.{row_has, rows_none, rows_have, lowest_is, flip_within, one_stays, with_slot_some}
-use Rattle.hd_custody.proofs.Phases.{due, zero_is, same_is, same_not, found_or_some, seen_as, held_is, table_is, then_as}
+use Rattle.hd_custody.proofs.HeldOnBlock.{row_has, rows_none, rows_have, lowest_is, flip_within, one_stays, with_slot_some}
+use Rattle.hd_custody.proofs.CallPhases.{due, zero_is, same_is, same_not, found_or_some, seen_as, held_is, table_is, then_as}
 use Rattle.hd_custody.proofs.AllocateSteps.{set_real, mask_apart, look_again, rows_back, row_offers}
 use Rattle.hd_custody.proofs.types.Custody.take_from.Goals as goal
 

@@ -1,6 +1,6 @@
 use Rattle.hd_custody.proofs.Basics.{Acting, BLOCKS, Fresh, Made, ROWS, ap, arith, bit_at, bit_at-zero, drain, drain_whole, look, look_whole, refl, subst, sym, ℕ, ◌*◌, ◌++◌, ◌+◌, ◌<◌, ◌∙◌, ◌≡◌, ◌≢◌}
-use Rattle.hd_custody.proofs.{Canon.rows_none, AllocateSteps.first_look, AllocateSteps.drain_step}
-use Rattle.hd_custody.proofs.Phases.{due, same_is, same_not, seen_as, held_is, table_is, and_then}
+use Rattle.hd_custody.proofs.{HeldOnBlock.rows_none, AllocateSteps.first_look, AllocateSteps.drain_step}
+use Rattle.hd_custody.proofs.CallPhases.{due, same_is, same_not, seen_as, held_is, table_is, and_then}
 use Rattle.hd_custody.proofs.types.Custody.take_rows.Goals as goal
 
 pub returns-then-look-kind-clause-fresh : goal.returns-then-look-kind-clause-fresh

@@ -1,6 +1,6 @@
 use Rattle.hd_custody.proofs.Basics.{BLOCKS, HasRows, ap, bit_or, refl, subst, sym, ◌++◌, ◌+◌, ◌∙◌, ◌≢◌}
-use Rattle.hd_custody.proofs.{Canon.row_has, Canon.rows_none, AllocateSteps.mask_apart, AllocateSteps.rows_back}
-use Rattle.hd_custody.proofs.Phases.{due, zero_is, zero_not, seen_as, held_is, table_is, and_then}
+use Rattle.hd_custody.proofs.{HeldOnBlock.row_has, HeldOnBlock.rows_none, AllocateSteps.mask_apart, AllocateSteps.rows_back}
+use Rattle.hd_custody.proofs.CallPhases.{due, zero_is, zero_not, seen_as, held_is, table_is, and_then}
 use Rattle.hd_custody.proofs.types.Custody.take_whole.Goals as goal
 
 pub returns-then-mask-eq0-clause-part : goal.returns-then-mask-eq0-clause-part

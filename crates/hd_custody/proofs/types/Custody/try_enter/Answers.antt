@@ -1,6 +1,6 @@
 use Rattle.hd_custody.proofs.Basics.{Acting, Known, List, Named, Option, Some, ap, rules, sym, ℕ, ◌∙◌, ◌∷◌}
 use Rattle.atomic_table.specs.Table.{rest}
-use Rattle.hd_custody.proofs.Phases.{if_true}
+use Rattle.hd_custody.proofs.CallPhases.{if_true}
 use Rattle.hd_custody.proofs.types.Custody.try_enter.Goals as goal
 
 pub exchange-requires : goal.exchange-requires

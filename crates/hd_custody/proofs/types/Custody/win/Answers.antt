@@ -1,5 +1,5 @@
 use Rattle.hd_custody.proofs.Basics.{arith}
-use Rattle.hd_custody.proofs.{Gives.enter_steps, Keeps.same_table}
+use Rattle.hd_custody.proofs.{LeaveSteps.enter_steps, WordSteps.same_table}
 use Rattle.hd_custody.proofs.types.Custody.win.Goals as goal
 
 pub swap-requires : goal.swap-requires

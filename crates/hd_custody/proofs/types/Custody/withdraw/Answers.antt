@@ -1,5 +1,5 @@
 use Rattle.hd_custody.proofs.Basics.{Acting, Has, IsSeated, Kinded, Known, Named, ROWS, View, ap, arith, closed, subst, sym, ℕ, ◌*◌, ◌+◌, ◌<◌, ◌∙◌, ◌≡◌}
-use Rattle.hd_custody.proofs.{Gives.clear_steps, Seated.closed_kinded, Seated.block_real}
+use Rattle.hd_custody.proofs.{LeaveSteps.clear_steps, SeatCalls.closed_kinded, SeatCalls.block_real}
 use Rattle.hd_custody.proofs.types.Custody.withdraw.Goals as goal
 
 pub store-requires : goal.store-requires

@@ -1,10 +1,10 @@
-use Rattle.hd_cwt.proofs.Basics.{IsListed, WeakTable, arith, subst, sym, vec_capacity, ◌*◌, ◌/◌, ◌≤◌}
+use Rattle.hd_cwt.proofs.Basics.{IsListed, ROWS, WeakTable, arith, subst, sym, vec_capacity, ◌*◌, ◌/◌, ◌≤◌}
 use Rattle.hd_cwt.proofs.KeyChanges.{none_listed}
 use Rattle.hd_cwt.proofs.cwt.Cwt.open.Goals as goal
 
 pub invariant_of-result : goal.invariant_of-result
 invariant_of-result c =
-    let room : 64 * (c.args.blocks / 2) ≤ vec_capacity c.in-Ok.slots =
+    let room : ROWS * (c.args.blocks / 2) ≤ vec_capacity c.in-Ok.slots =
     omega (arith, c.in-Ok.ensures.capacity) in
     subst (λ (t : WeakTable). IsListed t c.in-Ok.slots.items (vec_capacity c.in-Ok.slots))
     (sym c.in_ok-entries.ensures)

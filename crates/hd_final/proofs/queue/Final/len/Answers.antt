@@ -4,7 +4,7 @@ use Rattle.hd_final.proofs.queue.Final.len.Goals as goal
 
 pub overflow_cast-result : goal.overflow_cast-result
 overflow_cast-result c =
-    omega (arith, c.self.invariant.low, c.len.ensures, c.self.inside.waiting.ok.0, c.self.invariant.fits)
+    omega (arith, c.self.invariant.low, c.len.ensures, c.self.inside.queued.ok.0, c.self.invariant.fits)
 
 pub returns-clause-queue : goal.returns-clause-queue
 returns-clause-queue c =

@@ -4,8 +4,8 @@ use Rattle.hd_final.proofs.queue.Final.relocate.Given as goal
 
 abbrev pub invariant-loop-i : goal.invariant-loop-i
 invariant-loop-i g l =
-    (IsPartMoved (g.F.Forward.place l.forward) l.initial.self-inside.waiting.items l.i
-    l.self-inside.waiting.items)
-    × (deque_capacity l.self-inside.waiting ≡ deque_capacity l.initial.self-inside.waiting)
+    (IsPartMoved (g.F.Forward.place l.forward) l.initial.self-inside.queued.items l.i
+    l.self-inside.queued.items)
+    × (deque_capacity l.self-inside.queued ≡ deque_capacity l.initial.self-inside.queued)
     × (l.self-inside.room ≡ l.initial.self-inside.room)
     × (vec_capacity l.self-inside.joiners ≡ vec_capacity l.initial.self-inside.joiners)

@@ -12,7 +12,7 @@ join-requires-clause-room g c =
     let known =
     joiners_fit c.find.ensures.found c.sort.ensures.permutation c.deref.ensures.value c.self.view_is
     c.self.invariant.once c.requires.objects c.requires.promoted c.requires.room in
-    omega (arith, known, c.self.invariant.held, c.self.inside.waiting.ok.0)
+    omega (arith, known, c.self.invariant.held, c.self.inside.queued.ok.0)
 
 pub overflow_cast-result : goal.overflow_cast-result
 overflow_cast-result g c =
@@ -24,13 +24,13 @@ overflow_cast-result g c =
 
 pub invariant_of-self : goal.invariant_of-self
 invariant_of-self g c = record {
-  once = subst (λ xs. AllPairs (λ x y. x ≢ y) xs) (sym c.join.ensures.waiting)
+  once = subst (λ xs. AllPairs (λ x y. x ≢ y) xs) (sym c.join.ensures.queued)
       (queue_once c.find.ensures.found c.sort.ensures.permutation c.deref.ensures.value c.self.view_is
       c.self.invariant.once c.requires.objects c.requires.promoted c.requires.room);
   fits = (let known =
       queue_fits c.find.ensures.found c.sort.ensures.permutation c.deref.ensures.value c.self.view_is
       c.self.invariant.once c.requires.objects c.requires.promoted c.requires.room in
-      omega (arith, known, ap length c.join.ensures.waiting));
+      omega (arith, known, ap length c.join.ensures.queued));
   low = c.self.invariant.low;
   held = omega (arith, c.self.invariant.held, c.join.ensures.capacity);
   joiners = omega (arith, c.self.invariant.joiners, c.sort.ensures.capacity, c.find.ensures.capacity);
@@ -43,8 +43,8 @@ returns-clause-resurrects g c =
     resurrected c.find.ensures.found c.sort.ensures.permutation c.deref.ensures.value c.requires.identities
     (subst (λ xs. IsNonDecreasingBy (λ (j : Joiner). j.id.0) xs) (sym c.deref.ensures.value)
     c.sort.ensures.rising)
-    (g.M.Marker.promoted c.join.new.marker) c.args.self.now.waiting c.join.new.waiting.items
-    (c.join.ensures.waiting ∙ ap (λ (q : Queue). q.waiting ++ places ks) c.self.view_is)
+    (g.M.Marker.promoted c.join.new.marker) c.args.self.now.queued c.join.new.queued.items
+    (c.join.ensures.queued ∙ ap (λ (q : Queue). q.queued ++ places ks) c.self.view_is)
     (subst (λ (b : Basis). Grows (IsYoungField (objects_of b) b.condemned) (λ a. Contains (places ks) a) p
     (g.M.Marker.promoted c.join.new.marker)) c.requires.basis c.join.ensures.grows)
 

@@ -1,5 +1,5 @@
 use Rattle.hd_gate.proofs.Basics.{CallerView, HasParts, List, Named, WorldView, ap, arith, subst, sym, ◌∙◌, ◌≡◌}
-use Rattle.hd_gate.proofs.Endings.{has_parts}
+use Rattle.hd_gate.proofs.CallerClose.{has_parts}
 use Rattle.hd_gate.proofs.shared.Shared.close.Goals as goal
 
 pub returns-clause-parts : goal.returns-clause-parts

@@ -1,4 +1,4 @@
-use Rattle.hd_heap.proofs.Basics.{Contents, IsPutInto, None, ap, arith, contents, get, length-replicate, refl, subst, sym, with_put, ℕ, ◌+◌, ◌∙◌, ◌≡◌}
+use Rattle.hd_heap.proofs.Basics.{Contents, HEADER, IsPutInto, None, ap, arith, contents, get, length-replicate, refl, subst, sym, with_put, ℕ, ◌+◌, ◌∙◌, ◌≡◌}
 use Rattle.hd_cells.specs.Object.{new_object}
 use Rattle.hd_heap.proofs.Areas.{area_put, count_small}
 use Rattle.hd_heap.proofs.area.Area.put.Goals as goal
@@ -18,7 +18,7 @@ returns c =
       contents_are = c.put_object.ensures.put ∙ ap (λ (r : Contents). with_put r o) was;
       held = refl;
       generation = refl;
-      live = ap (λ n. c.args.self.now.live + (n + 3)) (sym nulls);
+      live = ap (λ n. c.args.self.now.live + (n + HEADER)) (sym nulls);
       count = refl;
       cards = refl;
     } in

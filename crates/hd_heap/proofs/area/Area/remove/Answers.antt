@@ -1,4 +1,4 @@
-use Rattle.hd_heap.proofs.Basics.{Contents, ap, arith, both_ways, contents, false, get_or, get_or-set_other, get_or-set_same, length, length-set, object_at, refl, set, size_of, subst, sym, true, without_object, ℕ, ◌+◌, ◌-◌, ◌/◌, ◌∙◌, ◌≡◌, ◌≢◌, ◌≤◌}
+use Rattle.hd_heap.proofs.Basics.{CARD, Contents, HEADER, ap, arith, both_ways, contents, false, get_or, get_or-set_other, get_or-set_same, length, length-set, object_at, refl, set, size_of, subst, sym, true, without_object, ℕ, ◌+◌, ◌-◌, ◌/◌, ◌∙◌, ◌≡◌, ◌≢◌, ◌≤◌}
 use Rattle.hd_heap.proofs.Areas.{live_at, count_at, area_taken}
 use Rattle.hd_heap.proofs.area.Area.remove.Goals as goal
 
@@ -7,8 +7,8 @@ fewer n some = omega (arith, some)
 
 pub overflow_sub-self : goal.overflow_sub-self
 overflow_sub-self c =
-    let size : c.fields-cells.result + 3 ≡ size_of (object_at (contents c.args.self.now) c.args.at) =
-    ap (λ (n : ℕ). n + 3) (c.fields-cells.ensures.count
+    let size : c.fields-cells.result + HEADER ≡ size_of (object_at (contents c.args.self.now) c.args.at) =
+    ap (λ (n : ℕ). n + HEADER) (c.fields-cells.ensures.count
     ∙ ap (λ (r : Contents). length (object_at r c.args.at).fields) c.deref.ensures) in
     omega (arith, live_at c.args.self.now c.requires.area c.args.at c.requires.object)
 
@@ -18,17 +18,17 @@ overflow_sub-self-2 c = count_at c.args.self.now c.requires.area c.args.at c.req
 pub returns-then-self-card : goal.returns-then-self-card
 returns-then-self-card c =
     let a = c.args.self.now in
-    let card = c.args.at / 32 in
+    let card = c.args.at / CARD in
     let now : get_or (set a.cards card c.starts_in.result) card false ≡ c.starts_in.result =
     get_or-set_same a.cards card c.starts_in.result false
     (let known = c.requires.area.laid_out.below_fill c.args.at c.requires.object in
     omega (arith, c.requires.area.card_count, c.requires.area.laid_out.within_region, known)) in
-    let both = area_taken a _ c.args.at (c.fields-cells.result + 3) c.requires.area (record {
+    let both = area_taken a _ c.args.at (c.fields-cells.result + HEADER) c.requires.area (record {
       there = c.requires.object;
       removed = c.remove.ensures.removed
           ∙ ap (λ (r : Contents). without_object r c.args.at) c.deref_mut.ensures.value;
       laid_out = c.remove.ensures.laid_out;
-      size = ap (λ (n : ℕ). n + 3) (c.fields-cells.ensures.count
+      size = ap (λ (n : ℕ). n + HEADER) (c.fields-cells.ensures.count
           ∙ ap (λ (r : Contents). length (object_at r c.args.at).fields) c.deref.ensures);
       live = refl;
       count = fewer c.args.self.now.count (count_at a c.requires.area c.args.at c.requires.object);
@@ -50,12 +50,12 @@ returns-then-self-card c =
 pub returns-else-self-card : goal.returns-else-self-card
 returns-else-self-card c =
     let a = c.args.self.now in
-    let both = area_taken a _ c.args.at (c.fields-cells.result + 3) c.requires.area (record {
+    let both = area_taken a _ c.args.at (c.fields-cells.result + HEADER) c.requires.area (record {
       there = c.requires.object;
       removed = c.remove.ensures.removed
           ∙ ap (λ (r : Contents). without_object r c.args.at) c.deref_mut.ensures.value;
       laid_out = c.remove.ensures.laid_out;
-      size = ap (λ (n : ℕ). n + 3) (c.fields-cells.ensures.count
+      size = ap (λ (n : ℕ). n + HEADER) (c.fields-cells.ensures.count
           ∙ ap (λ (r : Contents). length (object_at r c.args.at).fields) c.deref.ensures);
       live = refl;
       count = fewer c.args.self.now.count (count_at a c.requires.area c.args.at c.requires.object);

@@ -1,4 +1,4 @@
-use Rattle.hd_heap.proofs.Basics.{IsCopiedInto, Region, ap, arith, contents, deque_capacity, drop, get_or, length, refl, region_at, region_forwarded, sym, take, with_moved, ◌%◌, ◌*◌, ◌++◌, ◌+◌, ◌∙◌, ◌≡◌}
+use Rattle.hd_heap.proofs.Basics.{IsCopiedInto, REGION, Region, ap, arith, contents, deque_capacity, drop, get_or, length, refl, region_at, region_forwarded, sym, take, with_moved, ◌%◌, ◌*◌, ◌++◌, ◌+◌, ◌∙◌, ◌≡◌}
 use Rattle.std.proofs.Math.Seq.{take-append_seam}
 use Rattle.hd_model.specs.Heap.{region_of}
 use Rattle.hd_cells.specs.Region.{object_at as object_in_region}
@@ -106,7 +106,8 @@ pub returns : goal.returns
 returns g c =
     let heap = opened c.self.inside c.self.view_is c.self.invariant in
     let s = moved g ((goal.at.returns g c).After-copy_between-offset) in
-    let place : c.address_in.result.0 ≡ c.args.region * 256 + (region_at c.args.self.now c.args.region).fill =
+    let place : c.address_in.result.0 ≡ c.args.region * REGION +
+    (region_at c.args.self.now c.args.region).fill =
     omega (arith, c.address_in.ensures, s.start_is) in
     record {
       place = place;

@@ -1,4 +1,4 @@
-use Rattle.hd_heap.proofs.Basics.{arith, cases_lt, inl, inr, refl, ◌*◌, ◌+◌}
+use Rattle.hd_heap.proofs.Basics.{REGION, arith, cases_lt, inl, inr, refl, ◌*◌, ◌+◌}
 use Rattle.hd_heap.proofs.{RegionReads.opened, RegionReads.place_read, HeapSoundness.sound, RegionWalk.wanted_place, RegionWalk.wants_low, RegionWalk.given_some, RegionWalk.given_none}
 use Rattle.hd_heap.proofs.heap.Heap.first_from.Goals as goal
 
@@ -22,7 +22,7 @@ returns-in-Some c =
     let p = place_read c.self.inside.areas.items (c.loop-place.place + 1) c.loop-place.place
     c.index.result.now
     refl (omega (arith, c.loop-place-test.true, c.len-place-end.ensures)) c.index.ensures in
-    let g = given_some heap c.args.wanted 0 c.in-Some.offset ((c.loop-place.place + 1) * 256) 0
+    let g = given_some heap c.args.wanted 0 c.in-Some.offset ((c.loop-place.place + 1) * REGION) 0
     c.address_in.result p c.in-Some.ensures c.address_in.ensures (omega arith) in
     record {
       first = (
@@ -39,14 +39,15 @@ loop-place-preserved c = λ b want after.
     let p = place_read c.self.inside.areas.items (c.loop-place.place + 1) c.loop-place.place
     c.index.result.now
     refl (omega (arith, c.loop-place-test.true, c.len-place-end.ensures)) c.index.ensures in
-    given_none heap c.args.wanted 0 ((c.loop-place.place + 1) * 256) ((c.loop-place.place + 1 + 1) * 256) p
+    given_none heap c.args.wanted 0 ((c.loop-place.place + 1) * REGION)
+    ((c.loop-place.place + 1 + 1) * REGION) p
     c.in_default.ensures (omega arith) refl b want (c.loop-place.invariant b want after)
 
 pub returns : goal.returns
 returns c =
     let heap = opened c.self.inside c.self.view_is c.self.invariant in
     record {
-      first = λ b want. elim (cases_lt b.0 ((c.args.first + 1) * 256)) [
+      first = λ b want. elim (cases_lt b.0 ((c.args.first + 1) * REGION)) [
         | inl below ↦ below
         | inr past ↦
             let p = wanted_place heap c.args.wanted b want in

@@ -1,4 +1,4 @@
-use Rattle.hd_heap.proofs.Basics.{Addr, Heap, None, Option, ap, arith, length-replicate, new_object, ◌+◌}
+use Rattle.hd_heap.proofs.Basics.{Addr, HEADER, Heap, None, Option, ap, arith, length-replicate, new_object, ◌+◌}
 use Rattle.hd_heap.proofs.HeapValues.{made}
 use Rattle.hd_heap.proofs.heap.Heap.new_object.Goals as goal
 
@@ -8,7 +8,8 @@ returns-in-Ok-clause-made c =
     let limit = ap (λ (h : Heap). h.limit) c.self.view_is in
     let null : Option Addr = None in
     let nulls = length-replicate c.args.fields null in
-    made c.args.self.now c.room_for.new.self c.put.new.self c.in-Ok.region (c.args.fields + 3) c.put.result
+    made c.args.self.now c.room_for.new.self c.put.new.self c.in-Ok.region (c.args.fields + HEADER)
+    c.put.result
     (new_object c.args.id c.args.fields c.args.registered)
     (omega arith) c.in-Ok.ensures.ok c.put.ensures.place c.put.ensures.region c.put.ensures.was_free
     c.put.ensures.put

@@ -1,4 +1,4 @@
-use Rattle.hd_heap.proofs.Basics.{arith, refl, ◌+◌, ◌/◌}
+use Rattle.hd_heap.proofs.Basics.{REGION, arith, refl, ◌+◌, ◌/◌}
 use Rattle.hd_heap.proofs.{RegionReads.opened, RegionReads.place_read, HeapSoundness.sound, RegionWalk.wanted_place, RegionWalk.wants_low, RegionWalk.given_some, RegionWalk.given_none}
 use Rattle.hd_heap.proofs.heap.Heap.next_in_region.Goals as goal
 
@@ -23,14 +23,14 @@ returns-then-place-regions c =
     }
 
 pub wanted_after-requires-clause-area : goal.wanted_after-requires-clause-area
-wanted_after-requires-clause-area c = c.self.invariant.0.each (c.args.at.0 / 256) c.index.result.now
-    (place_read c.self.inside.areas.items (c.args.at.0 / 256) c.place_of-place.result c.index.result.now
+wanted_after-requires-clause-area c = c.self.invariant.0.each (c.args.at.0 / REGION) c.index.result.now
+    (place_read c.self.inside.areas.items (c.args.at.0 / REGION) c.place_of-place.result c.index.result.now
     (omega (arith, c.place_of-place.ensures, c.if-at-lt-REGION.false))
     (omega (arith, c.if-place-regions.false, c.len-regions.ensures)) c.index.ensures).here
 
 pub address_in-requires-clause-offset : goal.address_in-requires-clause-offset
 address_in-requires-clause-offset c =
-    let p = place_read c.self.inside.areas.items (c.args.at.0 / 256) c.place_of-place.result
+    let p = place_read c.self.inside.areas.items (c.args.at.0 / REGION) c.place_of-place.result
     c.index.result.now (omega (arith, c.place_of-place.ensures, c.if-at-lt-REGION.false))
     (omega (arith, c.if-place-regions.false, c.len-regions.ensures)) c.index.ensures in
     wants_low c.args.wanted c.index.result.now c.in-Some.offset (c.self.invariant.0.each _ _ p.here)
@@ -39,7 +39,7 @@ address_in-requires-clause-offset c =
 pub returns-in-Some : goal.returns-in-Some
 returns-in-Some c =
     let heap = opened c.self.inside c.self.view_is c.self.invariant in
-    let p = place_read c.self.inside.areas.items (c.args.at.0 / 256) c.place_of-place.result
+    let p = place_read c.self.inside.areas.items (c.args.at.0 / REGION) c.place_of-place.result
     c.index.result.now (omega (arith, c.place_of-place.ensures, c.if-at-lt-REGION.false))
     (omega (arith, c.if-place-regions.false, c.len-regions.ensures)) c.index.ensures in
     record {
@@ -51,7 +51,7 @@ returns-in-Some c =
 pub returns-in-None : goal.returns-in-None
 returns-in-None c =
     let heap = opened c.self.inside c.self.view_is c.self.invariant in
-    let p = place_read c.self.inside.areas.items (c.args.at.0 / 256) c.place_of-place.result
+    let p = place_read c.self.inside.areas.items (c.args.at.0 / REGION) c.place_of-place.result
     c.index.result.now (omega (arith, c.place_of-place.ensures, c.if-at-lt-REGION.false))
     (omega (arith, c.if-place-regions.false, c.len-regions.ensures)) c.index.ensures in
     record {

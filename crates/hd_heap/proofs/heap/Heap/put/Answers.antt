@@ -1,4 +1,4 @@
-use Rattle.hd_heap.proofs.Basics.{Region, ap, arith, deque_capacity, length-replicate, new_object, region_at, region_generation, set, size_of, sym, ℕ, ◌*◌, ◌+◌, ◌≡◌}
+use Rattle.hd_heap.proofs.Basics.{HEADER, REGION, Region, ap, arith, deque_capacity, length-replicate, new_object, region_at, region_generation, set, size_of, sym, ℕ, ◌*◌, ◌+◌, ◌≡◌}
 use Rattle.hd_cells.specs.Object.{new_object as new_region_object}
 use Rattle.hd_model.specs.Heap.{region_of}
 use Rattle.hd_heap.specs.Calls.{with_put}
@@ -47,7 +47,7 @@ address_in-requires c =
 
 put : (c : After-put-offset) → IsHeap (set c.self.inside.areas.items c.place_of.result c.put-offset.new.self)
     c.self.inside.spare.items c.self.inside.limit (deque_capacity c.self.inside.spare)
-    (c.self.inside.used + (c.args.fields + 3), c.self.inside.count + 1, c.self.inside.held)
+    (c.self.inside.used + (c.args.fields + HEADER), c.self.inside.count + 1, c.self.inside.held)
     c.self.inside.current
     (with_put c.args.self.now c.args.region (region_generation c.args.self.now c.args.region)
     (new_object c.args.id c.args.fields c.args.registered))
@@ -55,10 +55,10 @@ put c =
     let heap = opened c.self.inside c.self.view_is c.self.invariant in
     let at = held_read heap c.requires.held c.place_of.ensures c.index_mut.ensures.value in
     let o = new_region_object c.args.id.0 c.args.fields c.args.registered in
-    let size : c.args.fields + 3 ≡ size_of o =
-    ap (λ n. n + 3) (sym (length-replicate c.args.fields (let z : ℕ = 0 in z))) in
+    let size : c.args.fields + HEADER ≡ size_of o =
+    ap (λ n. n + HEADER) (sym (length-replicate c.args.fields (let z : ℕ = 0 in z))) in
     object_put heap c.put-offset.new.self o (new_object c.args.id c.args.fields c.args.registered)
-    (new_placed c.args.id.0 c.args.fields c.args.registered) (c.args.fields + 3) size at
+    (new_placed c.args.id.0 c.args.fields c.args.registered) (c.args.fields + HEADER) size at
     c.put-offset.ensures.area
     (omega (arith, c.requires.room, ap (λ (x : Region). x.fill) at.region)) c.put-offset.ensures.put
 
@@ -72,7 +72,8 @@ returns c =
     let at = held_read heap c.requires.held c.place_of.ensures c.index_mut.ensures.value in
     let fill = ap (λ (x : Region). x.fill) at.region in
     let offset = c.put-offset.ensures.offset in
-    let place : c.address_in.result.0 ≡ c.args.region * 256 + (region_at c.args.self.now c.args.region).fill =
+    let place : c.address_in.result.0 ≡ c.args.region * REGION +
+    (region_at c.args.self.now c.args.region).fill =
     omega (arith, c.address_in.ensures, offset, fill) in
     record {
       place = place;

@@ -1,4 +1,4 @@
-use Rattle.hd_heap.proofs.Basics.{ap, arith, contents, deque_capacity, forwarded, object_at, placed_at, region_forwarded, set, sym, true, ◌%◌, ◌∙◌, ◌≡◌, ◌≢◌}
+use Rattle.hd_heap.proofs.Basics.{REGION, ap, arith, contents, deque_capacity, forwarded, object_at, placed_at, region_forwarded, set, sym, true, ◌%◌, ◌∙◌, ◌≡◌, ◌≢◌}
 use Rattle.hd_heap.specs.Calls.{with_object}
 use Rattle.hd_heap.proofs.{RegionReads.opened, RegionReads.index_of, RegionReads.found_read, RegionReads.object_of, RegionReads.IsHeap, RegionWrites.object_written, FieldForward.field_of, FieldForward.forwarded_placed}
 use Rattle.hd_heap.proofs.heap.Heap.rewrite_fields.Given.{Over}
@@ -20,7 +20,7 @@ forward_fields-requires g c =
       object = f.object;
       laid = c.requires.laid;
       kept = field_of (λ y. g.F.Forward.kept c.args.forward.now y ≡ true) c.args.self.now c.args.at
-          (object_at (contents c.index_mut.result.now) (c.args.at.0 % 256)).fields
+          (object_at (contents c.index_mut.result.now) (c.args.at.0 % REGION)).fields
           (object_of c.args.at f).fields c.requires.kept;
     })
 
@@ -34,7 +34,7 @@ written g c =
     let heap = opened c.self.inside c.self.view_is c.self.invariant in
     let place = g.F.Forward.place c.args.forward.now in
     let f = found_read heap c.args.at c.requires.object c.place_of.ensures c.index_mut.ensures.value in
-    let old = object_at (contents c.index_mut.result.now) (c.args.at.0 % 256) in
+    let old = object_at (contents c.index_mut.result.now) (c.args.at.0 % REGION) in
     let some =
     field_of (λ y. (place y).0 ≢ 0) c.args.self.now c.args.at old.fields (object_of c.args.at f).fields
     c.requires.places in

@@ -1,4 +1,4 @@
-use Rattle.hd_heap.proofs.Basics.{Condemned, IsSurveying, Region, Survey, ap, arith, refl, subst, sym, ◌*◌, ◌+◌}
+use Rattle.hd_heap.proofs.Basics.{Condemned, IsSurveying, REGION, Region, Survey, ap, arith, refl, subst, sym, ◌*◌, ◌+◌}
 use Rattle.hd_heap.proofs.{RegionReads.opened, RegionReads.place_read, RegionReads.located_by, RegionReads.IsPlace, RegionWalk.wanted_place, HeapSoundness.sound, ObjectSurvey.survey_starts, ObjectSurvey.survey_skips, ObjectSurvey.survey_ends, ObjectSurvey.header_none}
 use Rattle.hd_heap.proofs.heap.Heap.survey.Goals.{After-index, then-is_condemned+in_ok-survey_region, else-is_condemned}
 use Rattle.hd_heap.proofs.heap.Heap.survey.Goals as goal
@@ -37,7 +37,7 @@ loop-place-preserved c =
     let heap = opened c.self.inside c.self.view_is c.self.invariant in
     let p = place ((goal.at.loop-place-preserved c).After-index) in
     let P : Survey → Type 0 =
-    λ s. IsSurveying c.args.self.now c.args.n ((c.loop-place.place + 1 + 1) * 256) s in
+    λ s. IsSurveying c.args.self.now c.args.n ((c.loop-place.place + 1 + 1) * REGION) s in
     elim c.if-is_condemned.branch [
       | then-is_condemned+in_ok-survey_region w ↦
           subst P (sym w.survey-is) (rw w.in_ok-survey_region.was at w.survey_region.ensures)

@@ -1,4 +1,4 @@
-use Rattle.hd_heap.proofs.Basics.{Condemned, Contents, Err, IsFirstFrom, IsHeader, None, Ok, OnOk, Region, Result, Some, ap, arith, contents, false, inl, inr, is_err, refl, subst, sym, wants, ℕ, ◌+◌, ◌∙◌, ◌≡◌, ◌≤◌}
+use Rattle.hd_heap.proofs.Basics.{Condemned, Contents, Err, HEADER, IsFirstFrom, IsHeader, None, Ok, OnOk, REGION, Region, Result, Some, ap, arith, contents, false, inl, inr, is_err, refl, subst, sym, wants, ℕ, ◌+◌, ◌∙◌, ◌≡◌, ◌≤◌}
 use Rattle.hd_heap.proofs.{RegionReads.opened, RegionReads.held_index, RegionReads.held_read, RegionReads.IsHeldAt, HeapSoundness.sound, WantedObjects.unwanted, WantedObjects.object_below, ObjectSurvey.header_next, ObjectSurvey.header_none, ObjectSurvey.walking_starts, ObjectSurvey.walking_next, ObjectSurvey.walking_ends}
 use Rattle.hd_heap.proofs.heap.Heap.survey_region.Goals.{After-index, In-Some, In_default}
 use Rattle.hd_heap.proofs.heap.Heap.survey_region.Goals as goal
@@ -62,7 +62,8 @@ loop-header-preserved c =
     let next = header_next heap t.place c.args.n young c.loop-header.end c.in-Some.header c.address_in.result
     c.address_in.ensures f.0 f.1 in
     walking_next (sound heap) t.area.laid_out c.loop-header.invariant c.in-Some.header c.address_in.result
-    (c.from-cells.result + 3) c.address_in.ensures next f.0.1 f.1 (ap (λ n. n + 3) c.from-cells.ensures)
+    (c.from-cells.result + HEADER) c.address_in.ensures next f.0.1 f.1
+    (ap (λ n. n + HEADER) c.from-cells.ensures)
     c.push_reserved.ensures.items c.push_reserved.ensures.capacity refl refl
 
 pub loop-header-smaller : goal.loop-header-smaller
@@ -73,7 +74,7 @@ loop-header-smaller c =
 
 -- an object ends in its region
 fits : (c : In-Some) → IsHeldAt c.self.inside.areas.items c.args.self.now c.args.region c.place_of.result
-    c.index.result.now → c.in-Some.header.at + (c.in-Some.header.fields + 3) ≤ 256
+    c.index.result.now → c.in-Some.header.at + (c.in-Some.header.fields + HEADER) ≤ REGION
 fits c t =
     let f = first c in
     let known = t.area.laid_out.below_fill c.in-Some.header.at f.0.1 in

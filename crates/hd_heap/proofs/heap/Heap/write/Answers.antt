@@ -1,4 +1,4 @@
-use Rattle.hd_heap.proofs.Basics.{HasPart, Placed, ap, arith, contents, deque_capacity, object_at, placed_at, region_with_part, set, subst, sym, with_part, ◌%◌, ◌∙◌}
+use Rattle.hd_heap.proofs.Basics.{HasPart, Placed, REGION, ap, arith, contents, deque_capacity, object_at, placed_at, region_with_part, set, subst, sym, with_part, ◌%◌, ◌∙◌}
 use Rattle.hd_heap.specs.Calls.{with_object}
 use Rattle.hd_heap.proofs.{RegionReads.opened, RegionReads.index_of, RegionReads.found_read, RegionReads.IsHeap, RegionWrites.object_written, RegionWrites.part_placed, RegionWrites.part_within}
 use Rattle.hd_heap.proofs.heap.Heap.write.Goals.{After-write}
@@ -17,7 +17,7 @@ write-requires c =
     rw c.offset_of.ensures (record {
       area = f.located.area;
       object = f.object;
-      within = part_within (object_at (contents c.index_mut.result.now) (c.args.at.0 % 256)) c.args.part
+      within = part_within (object_at (contents c.index_mut.result.now) (c.args.at.0 % REGION)) c.args.part
           (subst (λ (p : Placed). HasPart p.fields c.args.part) f.placed c.requires.within);
     })
 
@@ -28,7 +28,7 @@ written : (c : After-write) → IsHeap (set c.self.inside.areas.items c.place_of
 written c =
     let heap = opened c.self.inside c.self.view_is c.self.invariant in
     let f = found_read heap c.args.at c.requires.object c.place_of.ensures c.index_mut.ensures.value in
-    let old = object_at (contents c.index_mut.result.now) (c.args.at.0 % 256) in
+    let old = object_at (contents c.index_mut.result.now) (c.args.at.0 % REGION) in
     object_written heap c.args.at c.write.new.self (region_with_part old c.args.part) _
     (part_placed old c.args.part ∙ ap (λ p. with_part p c.args.part) (sym f.placed)) f c.write.ensures.area
     (rw c.offset_of.ensures at c.write.ensures.written)

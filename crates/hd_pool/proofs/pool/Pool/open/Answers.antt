@@ -1,4 +1,4 @@
-use Rattle.hd_pool.proofs.Basics.{Held, None, ap, arith, by_place-empty, empty, get_or, get_or-replicate_None, kind_at, length, replicate, rules, sym, ℕ, ◌*◌, ◌+◌, ◌-◌, ◌∙◌, ◌≡◌}
+use Rattle.hd_pool.proofs.Basics.{Held, None, ROWS, ap, arith, by_place-empty, empty, get_or, get_or-replicate_None, kind_at, length, replicate, rules, sym, ℕ, ◌*◌, ◌+◌, ◌-◌, ◌∙◌, ◌≡◌}
 use Rattle.hd_pool.proofs.PoolCalls.{opened_empty}
 use Rattle.hd_pool.proofs.pool.Pool.open.Goals.{After-vec}
 use Rattle.hd_pool.proofs.pool.Pool.open.Goals as goal
@@ -12,9 +12,9 @@ none c b = ap (λ xs. get_or xs b None) (all c) ∙ get_or-replicate_None (c.arg
 long : (c : goal.In-Ok) → length c.in-Ok.kinds.items ≡ c.args.blocks + 1
 long c = omega (arith, c.in-Ok.ensures.len, c.in-Ok.kinds.ok.0)
 
-room : (c : goal.In-Ok) → ◌≡◌ {A = Held} (record { room = 64 * (c.args.blocks + 1); members = empty })
-    (record { room = 64 * length c.in-Ok.kinds.items; members = empty })
-room c = ap (λ n. record { room = 64 * n; members = empty }) (sym (long c))
+room : (c : goal.In-Ok) → ◌≡◌ {A = Held} (record { room = ROWS * (c.args.blocks + 1); members = empty })
+    (record { room = ROWS * length c.in-Ok.kinds.items; members = empty })
+room c = ap (λ n. record { room = ROWS * n; members = empty }) (sym (long c))
 
 pub invariant_of-result : goal.invariant_of-result
 invariant_of-result c =

@@ -1,4 +1,4 @@
-use Rattle.hd_seg.proofs.Basics.{IsSeg, IsTable, Uses, ap, empty, empty_table, replicate, subst, sym, table_in, ◌*◌, ◌+◌, ◌∙◌}
+use Rattle.hd_seg.proofs.Basics.{IsSeg, IsTable, ROWS, Uses, ap, empty, empty_table, replicate, subst, sym, table_in, ◌*◌, ◌+◌, ◌∙◌}
 use Rattle.hd_seg.proofs.ReadCalls.{seg-none, view-none}
 use Rattle.hd_seg.specs.declared.cells.Cell.TheVariants as cell
 use Rattle.hd_seg.proofs.seg.Seg.open.Goals as goal
@@ -12,7 +12,7 @@ invariant_of-result c =
     (subst (λ xs. IsSeg (record { table = empty_table c.args.blocks; extras = empty }) xs
     c.in_ok-masks.masks.items 0) (sym c.in_ok-cells.ensures)
     (subst (λ ms. IsSeg (record { table = empty_table c.args.blocks; extras = empty })
-    (replicate (64 * (c.args.blocks + 1)) cell.Empty) ms 0) (sym c.in_ok-masks.ensures)
+    (replicate (ROWS * (c.args.blocks + 1)) cell.Empty) ms 0) (sym c.in_ok-masks.ensures)
     (seg-none c.args.blocks table)))
 
 pub returns : goal.returns

@@ -1,4 +1,4 @@
-use Rattle.hd_seg.proofs.Basics.{ap, arith, get_or_read, table_in, ◌/◌, ◌∙◌}
+use Rattle.hd_seg.proofs.Basics.{ROWS, ap, arith, get_or_read, table_in, ◌/◌, ◌∙◌}
 use Rattle.hd_seg.proofs.RowCells.{row_back, seg_at}
 use Rattle.hd_seg.proofs.RowCalls.{put-seg, put-view, put_slot, put_mask, put_live}
 use Rattle.hd_seg.specs.declared.cells.Cell.TheVariants as cell
@@ -29,7 +29,7 @@ invariant_of-self c =
     c.extra_place-place.ensures c.self.inside.cells.ok.0)
     (put-seg c.self.invariant c.args.slot.0 c.self.view_is c.args.row c.requires.vacant c.requires.fitting
     c.index_mut.result.now c.bit.result
-    (get_or_read c.self.inside.masks.items (c.args.slot.0 / 64) c.index_mut.result.now
+    (get_or_read c.self.inside.masks.items (c.args.slot.0 / ROWS) c.index_mut.result.now
     (put_mask c.self.invariant c.args.slot.0 c.self.view_is c.args.row c.requires.vacant c.requires.fitting)
     c.index_mut.ensures.value 0)
     c.bit.ensures.value)

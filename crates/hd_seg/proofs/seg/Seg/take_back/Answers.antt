@@ -1,4 +1,4 @@
-use Rattle.hd_seg.proofs.Basics.{IsSeg, IsTable, None, Some, Table, Uses, ap, get, handles_of, is_single, kind_at, row_in, subst, sym, table_in, without_block, ℕ, ◌/◌, ◌∙◌, ◌≡◌}
+use Rattle.hd_seg.proofs.Basics.{IsSeg, IsTable, None, ROWS, Some, Table, Uses, ap, get, handles_of, is_single, kind_at, row_in, subst, sym, table_in, without_block, ℕ, ◌/◌, ◌∙◌, ◌≡◌}
 use Rattle.hd_seg.proofs.RowCells.{row_is}
 use Rattle.hd_seg.proofs.BlockChange.{back-seg, back-view, single_in}
 use Rattle.hd_seg.proofs.seg.Seg.take_back.Goals.{After-remove}
@@ -10,7 +10,7 @@ in_use : (c : After-remove) → get c.self.inside.blocks.table.uses c.args.block
 in_use c = (single_in (get c.self.inside.blocks.table.uses c.args.block)
     (ap (λ (t : Table). is_single (get t.uses c.args.block)) c.self.view_is ∙ c.requires.single)).0
 
-vacant : (c : After-remove) (q : ℕ) → q / 64 ≡ c.args.block
+vacant : (c : After-remove) (q : ℕ) → q / ROWS ≡ c.args.block
     → row_in c.self.inside.blocks c.self.inside.cells.items q ≡ None
 vacant c q is = sym (row_is c.self.invariant q) ∙ ap (λ (t : Table). get t.rows q) c.self.view_is
     ∙ c.requires.vacant q is

@@ -1,4 +1,4 @@
-use Rattle.hd_seg.proofs.Basics.{ap, arith, get_or_read, table_in, ◌/◌, ◌∙◌}
+use Rattle.hd_seg.proofs.Basics.{ROWS, ap, arith, get_or_read, table_in, ◌/◌, ◌∙◌}
 use Rattle.hd_seg.proofs.RowCells.{row_back, seg_at}
 use Rattle.hd_seg.proofs.RowCalls.{take-seg, take-view, live_slot, live_mask, take_live}
 use Rattle.hd_seg.specs.declared.cells.Cell.TheVariants as cell
@@ -22,7 +22,7 @@ invariant_of-self c =
     seg_at (row_back _ c.args.slot.0 cell.Empty cell.Empty c.write_row.ensures c.deref_mut.ensures.value
     c.extra_place-place.ensures c.self.inside.cells.ok.0)
     (take-seg c.self.invariant c.args.slot.0 c.self.view_is c.requires c.index_mut.result.now c.bit.result
-    (get_or_read c.self.inside.masks.items (c.args.slot.0 / 64) c.index_mut.result.now
+    (get_or_read c.self.inside.masks.items (c.args.slot.0 / ROWS) c.index_mut.result.now
     (live_mask c.self.invariant c.args.slot.0 c.self.view_is c.requires) c.index_mut.ensures.value 0)
     c.bit.ensures.value)
 

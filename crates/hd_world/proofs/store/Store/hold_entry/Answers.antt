@@ -4,6 +4,7 @@ use Rattle.hd_world.proofs.{EntrySearch.not-there, EntrySweep.attaching, HeldRoo
 use Rattle.hd_world.proofs.EntryWrites.{HasPut, row-vacant, put-entry}
 use Rattle.hd_world.proofs.store.Store.hold_entry.Goals.{After-given-given, After-add}
 use Rattle.hd_world.proofs.store.Store.hold_entry.Goals as goal
+use Rattle.hd_model.specs.declared.limits.TheConstants.{ROWS}
 
 pub put_row-requires-clause-vacant : goal.put_row-requires-clause-vacant
 put_row-requires-clause-vacant c =
@@ -12,9 +13,9 @@ put_row-requires-clause-vacant c =
 
 -- the block of the slot has dependent handles
 block : (c : After-given-given)
-    → get c.self.inside.table.uses (c.args.slot.0 / 64) ≡ Some (handles_of Dependent)
+    → get c.self.inside.table.uses (c.args.slot.0 / ROWS) ≡ Some (handles_of Dependent)
 block c =
-    use-read (parts c.self.inside) c.args.self.now c.self.view_is (c.args.slot.0 / 64)
+    use-read (parts c.self.inside) c.args.self.now c.self.view_is (c.args.slot.0 / ROWS)
     (Some (handles_of Dependent)) c.requires.free.of_kind
 
 pub put_row-requires-clause-fitting : goal.put_row-requires-clause-fitting
@@ -25,7 +26,7 @@ put_row-requires-clause-fitting c =
 pub add-requires-clause-within : goal.add-requires-clause-within
 add-requires-clause-within c =
     let here = block (goal.at.add-requires-clause-within c).After-given-given in
-    let inside = c.self.invariant.uses.within (c.args.slot.0 / 64) (ap is_some here) in
+    let inside = c.self.invariant.uses.within (c.args.slot.0 / ROWS) (ap is_some here) in
     omega (arith, inside.1, c.self.invariant.same_blocks)
 
 pub add-requires-clause-slot : goal.add-requires-clause-slot

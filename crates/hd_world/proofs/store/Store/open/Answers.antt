@@ -1,6 +1,7 @@
 use Rattle.hd_world.proofs.StoreWords.{IsStored, None, ap, names_of, numbers_of, refl, replicate, start_of, state_of, subst, ◌∙◌, ◌≡◌}
 use Rattle.hd_world.proofs.StoreOpen.{opened, are_opened, stored-opened, names-opened, state-opened}
 use Rattle.hd_world.proofs.store.Store.open.Goals as goal
+use Rattle.hd_model.specs.declared.limits.TheConstants.{REGISTERS}
 
 -- the parts are as they were made
 made : (c : goal.In_ok-filled-3) → opened c.args.heap c.args.blocks c.args.callers ≡ (record {
@@ -11,7 +12,7 @@ made : (c : goal.In_ok-filled-3) → opened c.args.heap c.args.blocks c.args.cal
   queue = c.in_ok-open-5.field-0;
   roots = c.in_ok-filled.field-0.items;
   handle_registers = c.in_ok-filled-2.field-0.items;
-  board = replicate 16 None;
+  board = replicate REGISTERS None;
   serials = c.in_ok-filled-3.field-0.items;
 })
 made c =

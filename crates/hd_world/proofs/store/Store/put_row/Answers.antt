@@ -2,6 +2,7 @@ use Rattle.hd_world.proofs.StoreWords.{Some, ap, extra_of, fits_in, handle_of, h
 use Rattle.hd_world.proofs.StoreRows.{vacant-row, not-held, use-read, kind-read, row-put}
 use Rattle.hd_world.proofs.store.Store.put_row.Goals.{After-put_row}
 use Rattle.hd_world.proofs.store.Store.put_row.Goals as goal
+use Rattle.hd_model.specs.declared.limits.TheConstants.{ROWS}
 
 pub put_row-requires-clause-vacant : goal.put_row-requires-clause-vacant
 put_row-requires-clause-vacant c =
@@ -11,7 +12,7 @@ put_row-requires-clause-vacant c =
 pub put_row-requires-clause-fitting : goal.put_row-requires-clause-fitting
 put_row-requires-clause-fitting c =
     subst (λ u. fits_in u (extra_of c.args.row.extra) ≡ true)
-    (sym (use-read (parts c.self.inside) c.args.self.now c.self.view_is (c.args.slot.0 / 64)
+    (sym (use-read (parts c.self.inside) c.args.self.now c.self.view_is (c.args.slot.0 / ROWS)
     (Some (handles_of c.args.kind)) c.requires.free.of_kind)) c.requires.may.fits
 
 after : (c : After-put_row) → c.put_row.new.self ≡ with_row c.self.inside.table c.args.slot.0

@@ -1,6 +1,7 @@
 use Rattle.hd_world.proofs.StoreWords.{parts, ◌*◌, ◌+◌}
 use Rattle.hd_world.proofs.RootAccess.{register-is, register-within, root-named}
 use Rattle.hd_world.proofs.store.Store.register.Goals as goal
+use Rattle.hd_model.specs.declared.limits.TheConstants.{REGISTERS}
 
 pub returns-clause-value : goal.returns-clause-value
 returns-clause-value c = register-is (parts c.self.inside) c.args.self.now c.self.view_is c.self.invariant
@@ -10,6 +11,6 @@ pub returns-clause-named : goal.returns-clause-named
 returns-clause-named c =
     let f = parts c.self.inside in
     root-named f c.args.self.now c.self.view_is c.self.invariant
-    (16 * c.args.caller + c.args.d) c.index.result.now
+    (REGISTERS * c.args.caller + c.args.d) c.index.result.now
     (register-within f c.args.self.now c.self.view_is c.self.invariant c.args.caller c.args.d
     c.requires.caller c.requires.register) c.index.ensures

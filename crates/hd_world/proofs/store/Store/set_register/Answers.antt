@@ -1,10 +1,11 @@
 use Rattle.hd_world.proofs.StoreWords.{parts, ◌*◌, ◌+◌}
 use Rattle.hd_world.proofs.RootAccess.{stored-root, machine-register}
 use Rattle.hd_world.proofs.store.Store.set_register.Goals as goal
+use Rattle.hd_model.specs.declared.limits.TheConstants.{REGISTERS}
 
 pub invariant_of-self : goal.invariant_of-self
 invariant_of-self c = stored-root (parts c.self.inside) c.args.self.now c.self.view_is c.self.invariant
-    (16 * c.args.caller + c.args.d) c.args.v c.requires.named
+    (REGISTERS * c.args.caller + c.args.d) c.args.v c.requires.named
 
 pub returns : goal.returns
 returns c = machine-register (parts c.self.inside) c.args.self.now c.self.view_is c.self.invariant

@@ -1,13 +1,14 @@
 use Rattle.hd_world.proofs.StoreWords.{Machine, Some, ap, arith, handles_of, kind_at, machine_of, parts, subst, use_of, without_use, ◌*◌, ◌∙◌, ◌≡◌}
 use Rattle.hd_world.proofs.StoreRows.{with_table, stored-back, block-single, vacant-row}
 use Rattle.hd_world.proofs.store.Store.take_back.Goals as goal
+use Rattle.hd_model.specs.declared.limits.TheConstants.{ROWS}
 
 pub take_back-requires-clause-single : goal.take_back-requires-clause-single
 take_back-requires-clause-single c =
     block-single (parts c.self.inside) c.args.self.now c.self.view_is c.args.kind c.args.block
     c.requires.single
     (subst (λ b. use_of c.args.self.now.state b ≡ Some (handles_of c.args.kind)) (omega arith)
-    (c.requires.free (record { 0 = c.args.block * 64 }) (omega arith)).of_kind)
+    (c.requires.free (record { 0 = c.args.block * ROWS }) (omega arith)).of_kind)
 
 pub take_back-requires-clause-vacant : goal.take_back-requires-clause-vacant
 take_back-requires-clause-vacant c = λ slot is. vacant-row (parts c.self.inside) c.args.self.now

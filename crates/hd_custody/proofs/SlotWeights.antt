@@ -1,7 +1,7 @@
 -- How often a slot is in a word, and what a kind word names.
 use Rattle.hd_custody.proofs.Basics.{BLOCKS, Bool, EXTRA_DATA, FIRST_MASK, FIRST_QUICK, KINDS, List, ROWS, WORDS, [], ap, arith, bit_at, bit_at-lt, bit_at-zero, cases_eq, cases_lt, cell_kind, cond, eq-eqb, false, get_or, get_or-set_other, inl, inr, le-ltb, length, lt-ltb, named, nat_lt, ne_eqb, one_if, refl, same_from_bits_below, set, suc, sym, total_at, true, zero, ℕ, ◌%◌, ◌&&◌, ◌*◌, ◌+◌, ◌/◌, ◌<◌, ◌==◌, ◌^◌, ◌∙◌, ◌∷◌, ◌≡◌, ◌≢◌, ◌≤◌}
 use Rattle.hd_custody.specs.Counts.{weight, kind_word}
-use Rattle.hd_custody.proofs.Totals.{total_at_member}
+use Rattle.hd_custody.proofs.WordTotals.{total_at_member}
 
 -- ---- the weight of a slot in a word
 

@@ -1,7 +1,7 @@
 -- What a whole call has done.
 use Rattle.hd_custody.proofs.Basics.{Acting, Allocates, BLOCKS, Gathers, List, Made, None, Option, Phase, Releases, Some, ap, called, calling, ending, follow, found, found_or, gathered, missed, offered, probe, push, refl, subst, suc, sweep, sym, with_block, with_slot, without, wrong, zero, ℕ, ◌+◌, ◌∙◌, ◌≡◌, ◌≢◌, ◌≤◌}
 use Rattle.hd_custody.proofs.CallRanks.{allocate_bound, gather_bound, release_bound, found_real, missed_real}
-use Rattle.hd_custody.proofs.Shown.{shows_none}
+use Rattle.hd_custody.proofs.GatherMasks.{shows_none}
 
 -- what a returned number means: 0 is none
 abbrev pub answer : ℕ → Option ℕ

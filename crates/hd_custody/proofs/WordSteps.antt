@@ -4,10 +4,10 @@ use Rattle.std.proofs.lemmas.Nat.{or_lt}
 use mathlib.Core.Option.{some, some-injective, some-ne-none}
 use lib.ListN.{get_elem?}
 use prog.Atomic.{either}
-use Rattle.hd_custody.proofs.{Totals.hit, Totals.miss, Alike.reshaped, Alike.kept}
+use Rattle.hd_custody.proofs.{WordTotals.hit, WordTotals.miss, ViewChange.reshaped, ViewChange.kept}
 use Rattle.hd_custody.proofs.HeldSlots.{held_times_append, held_times_naming, held_times_kept, held_times_dropped, held_times_out, held_times_picks, has_member, every_append, every_filter, every_picks, every_naming}
-use Rattle.hd_custody.proofs.Weights.{weight_mask, weight_other, weight_cell, weight_zero, kind_word_is, named_kind, named_block, kind_small}
-use Rattle.hd_custody.proofs.Slots.{held_times_with_slot, held_times_put_other, held_times_put_same, every_put_out, every_with_slot, belongs, has_once, seen_once, slots_step}
+use Rattle.hd_custody.proofs.SlotWeights.{weight_mask, weight_other, weight_cell, weight_zero, kind_word_is, named_kind, named_block, kind_small}
+use Rattle.hd_custody.proofs.SlotSteps.{held_times_with_slot, held_times_put_other, held_times_put_same, every_put_out, every_with_slot, belongs, has_once, seen_once, slots_step}
 
 -- a seat at a table, as its fields and as its value
 pub same_table : {W : Type 0} {a b : Acting W} {m n : Named} → a ≡ b → b.table ≡ n.table → m ≡ n

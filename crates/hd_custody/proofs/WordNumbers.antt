@@ -1,7 +1,7 @@
 -- The numbers of the words, in each order.
 use Rattle.hd_custody.proofs.Basics.{BANK, CACHE, FIRST_QUICK, ROWS, arith, refl, ℕ, ◌*◌, ◌+◌, ◌-◌, ◌<◌, ◌∙◌, ◌≡◌, ◌≢◌, ◌≤◌}
 use Rattle.hd_custody.specs.Traces.{probe_word, sweep_word, push_word}
-use Rattle.hd_custody.proofs.Phases.{zero_is, zero_not, less_is, less_not}
+use Rattle.hd_custody.proofs.CallPhases.{zero_is, zero_not, less_is, less_not}
 
 pub probe-quick : (k n : ℕ) → n ≡ 0 → probe_word k n ≡ FIRST_QUICK + CACHE * k
 unfolding probe_word

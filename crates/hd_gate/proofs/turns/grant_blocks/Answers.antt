@@ -1,5 +1,5 @@
 use Rattle.hd_gate.proofs.Basics.{Back, Grown, One, Two, Zero, inl, inr, ℕ, ◌≡◌, ◌≢◌, ◌⊎◌}
-use Rattle.hd_gate.proofs.turns.grow.Goals as goal
+use Rattle.hd_gate.proofs.turns.grant_blocks.Goals as goal
 
 has_grown : (g : Grown) → ((b : ℕ) × (g ≡ One b)) ⊎ (((b : ℕ) × (d : ℕ) × (g ≡ Two b d)) ⊎ ((b : ℕ) × (g
     ≡ Back b)))

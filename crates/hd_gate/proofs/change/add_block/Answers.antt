@@ -1,5 +1,5 @@
 use Rattle.hd_gate.proofs.PoolStep.{grows}
-use Rattle.hd_gate.proofs.change.grow.Goals as goal
+use Rattle.hd_gate.proofs.change.add_block.Goals as goal
 
 pub returns : goal.returns
 returns c =

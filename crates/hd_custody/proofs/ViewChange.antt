@@ -2,7 +2,7 @@
 use Rattle.hd_custody.proofs.Basics.{Bool, Custodied, Entry, FIRST_MASK, Fits, Gate, Ghosts, HasNumber, Holds, List, Numbers, Out, Seats, Slots, State, View, [], ap, arith, at_set, cases_eq, false, get_or, get_or-set_other, inl, inr, length-set, refl, room_of, set, set_else, subst, suc, sym, tally, zero, ℕ, ◌∙◌, ◌∷◌, ◌≡◌, ◌≢◌, ◌≤◌, ◌⊎◌}
 use mathlib.Core.Option.{some, none, some-injective}
 use lib.ListN.{get_elem?}
-use Rattle.hd_custody.proofs.Totals.{total_set}
+use Rattle.hd_custody.proofs.WordTotals.{total_set}
 use mathlib.Core.Option as maybe
 
 -- the view with these slots held, this trace, number of the trace, and whether it began with nothing

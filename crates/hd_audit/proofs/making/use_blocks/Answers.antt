@@ -5,7 +5,7 @@ use Rattle.hd_model.specs.declared.data.Grown.TheVariants.{Two}
 use Rattle.hd_model.proofs.ReadAfterWrite.{get_beside}
 use Rattle.hd_audit.specs.Judge.{Judge}
 use Rattle.hd_audit.specs.Commands.{Grows}
-use Rattle.hd_audit.proofs.making.grow.Goals as goal
+use Rattle.hd_audit.proofs.making.use_blocks.Goals as goal
 
 pub give_block-requires-in-Two-2-clause-unused : goal.give_block-requires-in-Two-2-clause-unused
 give_block-requires-in-Two-2-clause-unused c =

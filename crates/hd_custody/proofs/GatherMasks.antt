@@ -3,7 +3,7 @@ use Rattle.hd_custody.proofs.Basics.{BANK, BLOCKS, Bool, CACHE, Did, FIRST_MASK,
 use mathlib.Core.Option.{some, some-injective, some-ne-none}
 use lib.ListN.{get_elem?}
 use Rattle.hd_custody.specs.Traces.{sweep_word}
-use Rattle.hd_custody.proofs.Phases.{due, same_is}
+use Rattle.hd_custody.proofs.CallPhases.{due, same_is}
 
 -- Two sets of phases that no step leaves: those of a `gather` and of each end (where g is true), and those
 -- from which no steps lead to a Miss (where it is false).

@@ -2,9 +2,9 @@
 use Rattle.hd_custody.proofs.Basics.{BLOCKS, Belongs, Bool, Every, FIRST_MASK, FIRST_QUICK, Has, HasAs, List, ROWS, Slots, View, ap, arith, at_set, cases_eq, cell_kind, cond, eq-eqb, false, get_or, get_or-set_other, get_or-set_same, held_by, held_times, inl, inr, kind_word, length, named, ne_eqb, not, one_if, put_out, refl, set, subst, suc, sym, total, total_at, weight, with_slot, zero, ℕ, ◌*◌, ◌+◌, ◌/◌, ◌<◌, ◌==◌, ◌^◌, ◌∙◌, ◌≡◌, ◌≢◌, ◌≤◌, ◌⊎◌}
 use mathlib.Core.Option.{some}
 use lib.ListN.{get_elem?}
-use Rattle.hd_custody.proofs.Totals.{miss, total_set, total_member, total_at_set, total_at_member}
+use Rattle.hd_custody.proofs.WordTotals.{miss, total_set, total_member, total_at_set, total_at_member}
 use Rattle.hd_custody.proofs.HeldSlots.{held_times_kept, held_times_dropped, member_at, every_cons, every_filter}
-use Rattle.hd_custody.proofs.Weights.{kind_word_high, named_most, named_block, off_of, mask_empty}
+use Rattle.hd_custody.proofs.SlotWeights.{kind_word_high, named_most, named_block, off_of, mask_empty}
 
 pub held_alive : {W : Type 0} (x : ℕ) (v : View W) → v.is_spent ≡ false → held_by x v ≡ held_times x v.held
 held_alive x v lives = ap (λ b. cond b 0 (held_times x v.held)) lives

@@ -3,11 +3,11 @@ use Rattle.hd_custody.proofs.Basics.{Allows, BLOCKS, Belongs, Bool, Continues, C
 use mathlib.Core.Option.{some, none, some-injective, some-ne-none}
 use lib.ListN.{get_elem?}
 use Rattle.hd_custody.specs.Counts.{slot_count}
-use Rattle.hd_custody.proofs.Totals.{hit, total_set, total_member, total_two}
+use Rattle.hd_custody.proofs.WordTotals.{hit, total_set, total_member, total_two}
 use Rattle.hd_custody.proofs.HeldSlots.{true_false, held_times_append, held_times_kept, held_times_dropped, held_times_out, held_times_picks, has_member, every_append, every_filter, every_picks, every_cons}
-use Rattle.hd_custody.proofs.Weights.{weight_low, weight_cell, kind_word_is, kind_word_out, kind_word_set, named_kind, named_none, named_most, named_block, off_of}
-use Rattle.hd_custody.proofs.Slots.{held_alive, has_named, has_once, placed}
-use Rattle.hd_custody.proofs.Alike.{fits_as, kept_set}
+use Rattle.hd_custody.proofs.SlotWeights.{weight_low, weight_cell, kind_word_is, kind_word_out, kind_word_set, named_kind, named_none, named_most, named_block, off_of}
+use Rattle.hd_custody.proofs.SlotSteps.{held_alive, has_named, has_once, placed}
+use Rattle.hd_custody.proofs.ViewChange.{fits_as, kept_set}
 use Rattle.hd_custody.proofs.GateSteps.{slots_low, gate_kinds, cell_real, others_real, belongs_gate, kind_same, won, learned, mine, away, alone_holds, storing, word_here, word_other, old_belongs, held_none, opens}
 
 -- what holds of each that passes a test
@@ -132,7 +132,7 @@ module _ {W : Type 0} {m : Ghosts W} {numbers : Numbers} {s : State (Option W) (
           let most = total_member room_of s.views id v there in
           let d = c.seats.roomy in
           let rest : ℕ = total room_of s.views - v.room in
-          let go = room_goes_on v.number v.room (m.journal before) (m.spare before) (m.journal w)
+          let goes = room_goes_on v.number v.room (m.journal before) (m.spare before) (m.journal w)
           (m.spare w) f.goes_on rest (omega arith) in
           omega arith);
     }
@@ -309,7 +309,7 @@ module _ {W : Type 0} {m : Ghosts W} {numbers : Numbers} {s : State (Option W) (
               let none = (once_here (get_or s.words j 0) j under here).1 in
               let one = weight_cell (get_or s.words j 0) j (get_or s.words j 0) le ∙ hit _ _ refl in
               omega arith)
-          | inr over ↦ ne (Rattle.hd_custody.proofs.Weights.past s.words j (omega (arith, c.wide)))
+          | inr over ↦ ne (Rattle.hd_custody.proofs.SlotWeights.past s.words j (omega (arith, c.wide)))
         ])
 
     close_others : (j : ℕ) (u : View W) → j ≢ id → get_elem? s.views j ≡ some u → u.is_spent ≡ false

@@ -1,9 +1,9 @@
 -- Each slot is in exactly one place.
 use Rattle.hd_custody.proofs.Basics.{BLOCKS, Bool, Custodied, FIRST_MASK, FIRST_QUICK, Ghosts, IsSlot, Numbers, Option, ROWS, State, View, WORDS, ap, arith, bit_at, bit_at-lt, cases_eq, cases_lt, cond, false, get_or, held_by, held_times, inl, inr, kind_word, length, named, one_if, refl, total, total_at, true, weight, ℕ, ◌%◌, ◌+◌, ◌/◌, ◌<◌, ◌∙◌, ◌≡◌, ◌≢◌, ◌≤◌}
 use Rattle.hd_custody.specs.Laws.{Spot, mask, cell, seat, live, IsAt, HoldsIt, IsInOnePlace, EachSlotIsInOnePlace}
-use Rattle.hd_custody.proofs.Totals.{hit, miss, total_member, total_two, total_some, total_at_member, total_at_two, total_at_some}
-use Rattle.hd_custody.proofs.Slots.{held_alive}
-use Rattle.hd_custody.proofs.Weights.{weight_low, weight_mask, weight_other, weight_cell, on_of}
+use Rattle.hd_custody.proofs.WordTotals.{hit, miss, total_member, total_two, total_some, total_at_member, total_at_two, total_at_some}
+use Rattle.hd_custody.proofs.SlotSteps.{held_alive}
+use Rattle.hd_custody.proofs.SlotWeights.{weight_low, weight_mask, weight_other, weight_cell, on_of}
 
 module _ {W : Type 0} {m : Ghosts W} {numbers : Numbers} {s : State (Option W) (View W)}
     (rule : Custodied m numbers s) (x : ℕ) (real : IsSlot x) where

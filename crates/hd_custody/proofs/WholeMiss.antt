@@ -5,9 +5,9 @@ use mathlib.Core.Option.{some, some-injective, some-ne-none}
 use lib.ListN.{get_elem?}
 use Rattle.hd_custody.specs.Misses.{Gave, another, nothing, regiven, on_block, on_blocks, on_cache, IsGiven, WholeMiss, HasStep, FoundNone}
 use Rattle.hd_model.specs.declared.data.Slot.{Slot}
-use Rattle.hd_custody.proofs.Numbered.{probe-quick, probe-reserve, probe-free}
-use Rattle.hd_custody.proofs.Shown.{stays_in, bank_in, next_in}
-use Rattle.hd_custody.proofs.Phases.{due, follow_append, zero_is, zero_not, same_is, same_not, less_is, less_not}
+use Rattle.hd_custody.proofs.WordNumbers.{probe-quick, probe-reserve, probe-free}
+use Rattle.hd_custody.proofs.GatherMasks.{stays_in, bank_in, next_in}
+use Rattle.hd_custody.proofs.CallPhases.{due, follow_append, zero_is, zero_not, same_is, same_not, less_is, less_not}
 
 as_step : (t : Did) (i y z : ℕ) → t.0 ≡ i → t.1 ≡ y → t.2 ≡ z → t ≡ (i, y, z)
 as_step t i y z first second third =

@@ -4,7 +4,7 @@ use mathlib.Core.Option.{some, some-injective, some-ne-none}
 use lib.ListN.{get_elem?}
 use Rattle.hd_mask.proofs.Bits.{flip_same, flip_other}
 use Rattle.hd_custody.specs.Counts.{picks}
-use Rattle.hd_custody.proofs.{Totals.hit, Keeps.outside}
+use Rattle.hd_custody.proofs.{WordTotals.hit, WordSteps.outside}
 use Rattle.hd_custody.proofs.HeldSlots.{held_times_append, held_times_picks, has_member}
 
 -- ---- picks

@@ -1,6 +1,6 @@
 use Rattle.hd_world.proofs.StoreWords.{parts}
 use Rattle.hd_world.proofs.StoreRows.{stored-grown}
-use Rattle.hd_world.proofs.store.Store.grow.Goals as goal
+use Rattle.hd_world.proofs.store.Store.give_blocks.Goals as goal
 
 pub invariant_of-self : goal.invariant_of-self
 invariant_of-self c = stored-grown (parts c.self.inside) c.give_block.new.self c.args.kind c.self.invariant

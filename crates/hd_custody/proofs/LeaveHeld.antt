@@ -1,6 +1,6 @@
 -- The slots that a seat holds once it gave the gate back.
 use Rattle.hd_custody.proofs.Basics.{Bool, Entered, Every, Follows, Ghosts, List, ROWS, View, [], ap, append-nil, arith, false, filter, gave_back, not, refl, slot_count, sym, took, true, ℕ, ◌&&◌, ◌++◌, ◌+◌, ◌/◌, ◌<◌, ◌∙◌, ◌∷◌, ◌≡◌, ◌≢◌, ◌≤◌, ◌⊎◌}
-use Rattle.hd_custody.proofs.Canon.{filter_stays, picks_none, both_off}
+use Rattle.hd_custody.proofs.HeldOnBlock.{filter_stays, picks_none, both_off}
 
 module _ {W : Type 0} (m : Ghosts W) (u w : W) (v : View W) where
   -- where the same slots are live as were, what is held stays
