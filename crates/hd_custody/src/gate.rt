@@ -160,7 +160,7 @@ impl<W: Held> Custody<W> {
     // An exchange of the gate word with 1: whether the gate was free, and is this seat's now.
     fn win(&self, caller: &mut Caller<W>) -> bool
         requires seat { caller.old.table ≡ self.now.table }
-        ensures won { OnTrue result ((w : W) × (caller.new ≡ carrying w caller.old)
+        ensures won { OnTrue result ((w : W) × (caller.new ≡ carrying W.Held w caller.old)
             × Entered W.Held caller.old.view w) }
         ensures lost { OnFalse result (caller.new ≡ caller.old) }
     {
@@ -174,7 +174,7 @@ impl<W: Held> Custody<W> {
         ensures lost { IfNone result (seat.new ≡ seat.old) }
         ensures won { IfSome result (λ w. seat.new ≡ record seat.old {
           view =
-              took w seat.old.view;
+              took W.Held w seat.old.view;
         }) }
         ensures entered { IfSome result (Entered W.Held seat.old.view) }
     {
@@ -218,7 +218,7 @@ impl<W: Held> Custody<W> {
     pub fn enter<R: Wait>(&self, rt: &R, seat: &mut Seat<W>) -> W
         requires seat { seat.old.table ≡ self.now.table }
         requires gate { seat.old.view.has_gate ≡ false }
-        ensures view { seat.new ≡ record seat.old { view = took result seat.old.view } }
+        ensures view { seat.new ≡ record seat.old { view = took W.Held result seat.old.view } }
         ensures entered { Entered W.Held seat.old.view result }
     {
         for _try in rt.forever() {

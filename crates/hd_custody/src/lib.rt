@@ -31,6 +31,8 @@ mod types;
 mod view;
 mod words;
 
-pub use laws::{each_slot_is_in_one_place, misses_found_none, numbers_are_these};
+pub use laws::{
+    a_free_gate_has_the_world, each_slot_is_in_one_place, misses_found_none, numbers_are_these,
+};
 pub use types::{Custody, Seat};
 pub use view::{Limits, View};

@@ -32,6 +32,8 @@ impl Held for Blocks {
     ghost live = { λ _ _. false };
 
     ghost kind = { λ t b. cond (b == 1) t.first (cond (b == 2) t.second 0) };
+
+    ghost sound = { λ _. Unit {0} };
 }
 
 impl Blocks {
