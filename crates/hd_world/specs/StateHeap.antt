@@ -3,7 +3,7 @@
 use Rattle.std.specs.Prelude.{◌≡◌, ◌↔◌, ℕ, ◌+◌, ◌/◌, ◌≤◌, true, false, Some, option_map}
 use Rattle.std.specs.FinMap.{FinMap, get, len}
 use Rattle.std.specs.Ordering.{nat_cmp}
-use Rattle.hd_model.specs.{declared.data.Id.Id, declared.data.Entry.Entry, declared.data.Report.Report, declared.limits.TheConstants.LEFT, declared.limits.TheConstants.OPEN, State.Handle, State.State, Step.pinned_target, Reach.IsPinned, Ages.HasSoundCards, Text.is_collect, Counting.Counts}
+use Rattle.hd_model.specs.{declared.data.Id.Id, declared.data.Entry.Entry, declared.data.Report.Report, declared.limits.TheConstants.LEFT, declared.limits.TheConstants.OPEN, State.Handle, State.State, Step.pinned_target, Reach.IsPinned, Ages.HasSoundCards, Text.is_collect, Counting.Counts, Aging.AgedRun}
 use Rattle.hd_model.specs.declared.data.Reply.TheVariants as reply
 use Rattle.hd_model.specs.declared.command.Cmd.TheVariants as cmd
 use Rattle.hd_model.specs.Heap.{Placed, Heap, object_at, is_carded, is_set, used_of, HasIdentities}
@@ -22,6 +22,12 @@ pub record IsOfHeap (s : State) (h : Heap) : Type 0 where
   pub identities : HasIdentities h
   pub places : (x place : ℕ) → get s.places x ≡ Some place → IsStoredAt h (record { 0 = x }) place
   pub cards : HasSoundCards (object_at h) (is_carded h)
+
+-- what is so of every world: its journal is a run that leads to its state and leaves its ages, and the heap is
+-- that of the state to which the journal leads
+pub record IsOfJournal (w : WorldView) : Type 0 where
+  pub aged : AgedRun w.numbers w.journal w.state w.ages
+  pub heap : IsOfHeap w.state w.heap
 
 -- `addr` returns the address of what the handle pins (GCHandle.AddrOfPinnedObject); over an entry an object
 -- keeps its address where a handle pins it, and each object does where the entry is of no collection
