@@ -3,16 +3,21 @@ use Rattle.std.specs.Prelude.{◌≡◌, ◌↔◌, ℕ, ◌+◌, ◌≤◌, Boo
 use Rattle.hd_model.specs.{declared.data.Entry.Entry, declared.data.Grown.Grown, declared.data.Kind.Kind, declared.data.Kind.TheVariants.Dependent, declared.held.Held.Ghosts, declared.data.Reply.Reply, declared.data.Slot.Slot, declared.limits.TheConstants.BLOCKS, declared.command.Cmd.Cmd, Kinds.kind_number, Run.Run, Valid.IsValid, Valid.takes_memory}
 use Rattle.hd_model.specs.declared.data.Grown.TheVariants.{Zero, One, Two, Back}
 use Rattle.hd_model.specs.State.{State, use_of, block_of}
-use Rattle.hd_world.specs.{Applied.Applied, World.WorldView, World.RanOut, Growth.kind_in_use}
+use Rattle.hd_world.specs.{Applied.Applied, StateHeap.IsOfJournal, World.WorldView, World.RanOut, Growth.kind_in_use}
 use Rattle.hd_custody.specs.{declared.view.View.View, Misses.WholeMiss}
 use Rattle.hd_custody.specs.Views.{Named, Known, numbers_of, granted, closed, Fresh, KindIs}
 use Rattle.hd_custody.specs.Calls.{slot_number, Allocates, Releases}
-use Rattle.hd_gate.specs.Shared.{SearchView, CallerView, HadRoom, HasDone}
+use Rattle.hd_gate.specs.Shared.{SearchView, CallerView, HadRoom, HasDone, having_seen}
 use Rattle.hd_gate.specs.Idle.{IsIdle}
 
 -- the last search of a seat
 abbrev pub search_of : {W : Type 0} → View W → SearchView
-search_of v = record { trace = v.trace; trace_number = v.trace_number; began_empty = v.began_empty }
+search_of v = record {
+  trace = v.trace;
+  trace_number = v.trace_number;
+  began_empty = v.began_empty;
+  began_with_gate = v.began_with_gate;
+}
 
 -- a seat, as what its caller is to others
 abbrev pub caller_view_of : {W : Type 0} → Known W → ℕ → ℕ → CallerView
@@ -22,6 +27,8 @@ caller_view_of seat number room = record {
   number = number;
   part = seat.view.part;
   room = room;
+  seen = seat.view.seen;
+  gate_steps = seat.view.gate_steps;
   search = search_of seat.view;
 }
 
@@ -42,18 +49,21 @@ pub record Turned (old new : Known WorldView) (caller : ℕ) (command : Cmd) (an
   pub done : HasDone (caller_view_of old caller old.view.room) (caller_view_of new caller new.view.room)
       command answer
 
--- it found no memory: it is idle again, and its caller is as it was
+-- it found no memory: it is idle again, and its caller is as it was, but for what it has seen
 pub record Stayed (old new : Known WorldView) (caller : ℕ) (command : Cmd) : Type 0 where
   pub idle : IsIdle new.view caller
-  pub party : caller_view_of new caller new.view.room ≡ caller_view_of old caller old.view.room
+  pub party : caller_view_of new caller new.view.room
+      ≡ having_seen new.view.seen (caller_view_of old caller old.view.room)
   pub memory : IsTrue (takes_memory command)
-  pub fits : HadRoom (caller_view_of old caller old.view.room) command
+  pub fits : HadRoom (caller_view_of old caller old.view.room) (caller_view_of new caller new.view.room) command
 
--- a command of a caller took one step, from the world u, whose journal is a run to its state, to the world w
+-- a command of a caller took one step, from the world u, whose journal is a run to its state, to the world w,
+-- which is that of its journal
 pub record Stepped (u w : WorldView) (caller : ℕ) (command : Cmd) (offer : Option Slot) (e : Entry) : Type 0
   where
     pub applied : Applied u caller command offer w e
     pub run : Run u.numbers u.journal u.state
+    pub sound : IsOfJournal w
 
 -- it ran out of memory, and the world is as it was
 pub record WantsMemory (u w : WorldView) (command : Cmd) : Type 0 where

@@ -1,5 +1,5 @@
-use Rattle.hd_gate.proofs.Basics.{GrowsByBlocks, Known, MayGrant, TableId, Takes, View, WorldView, Zero, ap, extra_block, ghosts, handle_block, is_paired, kind_number, offered, slot_number, subst, sym, took, with_grown, ◌<◌, ◌∙◌, ◌≡◌, ◌≢◌, ◌≤◌}
-use Rattle.hd_gate.proofs.{StepLiveSlots.in_state, StepLiveSlots.asks_for, HandleMake.may_offer, HandleMake.made}
+use Rattle.hd_gate.proofs.Basics.{GrowsByBlocks, Known, MayGrant, TableId, Takes, View, WorldView, Zero, ap, extra_block, false, ghosts, handle_block, is_paired, kind_number, looks_with_gate, offered, slot_number, subst, sym, took, with_grown, ◌<◌, ◌∙◌, ◌≡◌, ◌≢◌, ◌≤◌}
+use Rattle.hd_gate.proofs.{StepLiveSlots.in_state, StepLiveSlots.asks_for, HandleMake.may_offer, HandleMake.looked_without, HandleMake.made}
 use Rattle.hd_gate.proofs.GateLeave.{may_step, Leaves, may_leave, turned}
 use Rattle.hd_gate.proofs.turns.make.Given.{Over}
 use Rattle.hd_gate.proofs.turns.make.Goals.{After-step_surely-entry, After-grant_blocks}
@@ -25,18 +25,21 @@ step_surely-entry-requires-clause-step g c =
 goes : (g : Over) (c : After-step_surely-entry g) → Leaves c.args.number c.args.cmd c.enter-world.result
     c.step_surely-entry.new.world c.step_surely-entry.result c.args.seat.now.view
     (with_grown (kind_number c.args.kind) c.step_surely-entry.result.grown
-    (took c.enter-world.result c.allocate-offer.new.seat.view))
+    (took ghosts c.enter-world.result c.allocate-offer.new.seat.view))
     × (c.step_surely-entry.result.grown ≢ Zero
     → GrowsByBlocks (is_paired c.args.kind) c.step_surely-entry.result.grown
     × MayGrant ghosts c.args.custody.now.blocks (handle_block c.step_surely-entry.result.grown)
-    (extra_block c.step_surely-entry.result.grown) (took c.enter-world.result c.allocate-offer.new.seat.view))
+    (extra_block c.step_surely-entry.result.grown) (took ghosts c.enter-world.result c.allocate-offer.new.seat.view))
 goes g c =
     made c.args.number c.args.cmd c.args.kind c.enter-world.result c.step_surely-entry.new.world
     (in_state c.enter-world.result.state c.args.number c.args.cmd (Takes c.args.kind) (λ e. cc)
     c.requires.takes)
     c.args.seat.now.view c.allocate-offer.new.seat.view c.requires.turn.idle
     c.requires.turn.room c.allocate-offer.result c.args.custody.now.blocks c.requires.turn.blocks
-    c.allocate-offer.ensures.done c.allocate-offer.ensures.none c.enter-world.ensures.entered
+    false (sym (ap looks_with_gate c.requires.takes))
+    (looked_without _ _ c.args.seat.now.view c.allocate-offer.new.seat.view c.args.number c.requires.turn.idle
+    c.allocate-offer.ensures.done.view)
+    c.allocate-offer.ensures.none c.enter-world.ensures.entered
     c.step_surely-entry.result c.step_surely-entry.ensures
 
 pub grant_blocks-requires-clause-grows : goal.grant_blocks-requires-clause-grows
@@ -54,7 +57,7 @@ grant_blocks-requires-clause-blocks g c apart =
 busy : (g : Over) (c : After-grant_blocks g) → c.grant_blocks.new.seat ≡ record {
   table = c.args.seat.now.table;
   view = with_grown (kind_number c.args.kind) c.step_surely-entry.result.grown
-      (took c.enter-world.result c.allocate-offer.new.seat.view);
+      (took ghosts c.enter-world.result c.allocate-offer.new.seat.view);
 }
 busy g c =
     let k = kind_number c.args.kind in
@@ -63,7 +66,7 @@ busy g c =
     ∙ ap (λ (s : Known WorldView). record s { view = with_grown k grown s.view }) c.enter-world.ensures.view
     ∙ ap (λ (t : TableId). record {
       table = t;
-      view = with_grown k grown (took c.enter-world.result c.allocate-offer.new.seat.view);
+      view = with_grown k grown (took ghosts c.enter-world.result c.allocate-offer.new.seat.view);
     }) c.allocate-offer.ensures.table
 
 pub leave-requires-clause-follows : goal.leave-requires-clause-follows
