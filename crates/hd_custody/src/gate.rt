@@ -122,7 +122,7 @@ impl<W: Held> Custody<W> {
     }
 
     /// The world, once all other seats were joined to seat 0. Its journal has of each caller
-    /// exactly that caller's part.
+    /// exactly that caller's part, and begins with what each has seen.
     pub fn close(self, first: Seat<W>) -> W
         requires seat { first.table ≡ self.table }
         requires first { first.view.number ≡ 0 }
@@ -170,7 +170,8 @@ impl<W: Held> Custody<W> {
     /// Takes the gate, and with it the world. It may wait for whoever has it, and counts one step
     /// on the gate: a try that fails changes nothing. No slot held is live in that world, each that
     /// has a kind is there in a block of that kind, its journal has of this caller exactly the
-    /// seat's part, and it has room for the entries that the seat may still add.
+    /// seat's part and begins with all that the seat has seen, and it has room for the entries that
+    /// the seat may still add. It is sound.
     pub fn enter<R: Wait>(&self, rt: &R, seat: &mut Seat<W>) -> W
         requires seat { seat.old.table ≡ self.now.table }
         requires gate { seat.old.view.has_gate ≡ false }
@@ -191,7 +192,7 @@ impl<W: Held> Custody<W> {
 
     /// Gives the gate back with the world, and wakes a caller if any may sleep at it. Slots that
     /// became live are held no more, and slots that are live no more are held, each with its
-    /// block's kind.
+    /// block's kind. The world has to be sound again.
     pub fn leave(&self, seat: &mut Seat<W>, world: W)
         requires seat { seat.old.table ≡ self.now.table }
         requires gate { seat.old.view.has_gate ≡ true }

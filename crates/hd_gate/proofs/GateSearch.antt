@@ -8,7 +8,7 @@ abbrev K : ℕ
 K = kind_number Dependent
 
 module _ (u : WorldView) (v n : View WorldView) (blocks : ℕ) (o : Option Slot) (number : ℕ)
-    (idle : IsIdle v number) (looked : Looked ghosts blocks o (took ghosts u v) n) where
+    (idle : IsIdle v number) (looked : Looked ghosts Dependent blocks o (took ghosts u v) n) where
   -- the seat as if it had been looked for before the gate, but that the call is known to have had it
   abbrev pub before : View WorldView
   before = record (called (offered K (slot_number o) v.held) n.trace v) { began_with_gate = true }

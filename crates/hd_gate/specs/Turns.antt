@@ -70,17 +70,18 @@ pub record WantsMemory (u w : WorldView) (command : Cmd) : Type 0 where
   pub out : RanOut u.numbers u.state command u w
   pub run : Run u.numbers u.journal u.state
 
--- a slot of kind dependent was looked for: the one found is free in the world under the gate, and none was
--- found only after a whole miss
-pub record Looked {W : Type 0} (m : Ghosts W) (blocks : ℕ) (o : Option Slot) (v w : View W) : Type 0 where
-  pub done : Allocates (kind_number Dependent) blocks (slot_number o) v w
-  pub none : IsNone o ↔ WholeMiss (kind_number Dependent) blocks w.trace
+-- a slot of the kind was looked for: the one found is free in the world under the gate, where the seat has that,
+-- and none was found only after a whole miss
+pub record Looked {W : Type 0} (m : Ghosts W) (kind : Kind) (blocks : ℕ) (o : Option Slot) (v w : View W) :
+    Type 0 where
+  pub done : Allocates (kind_number kind) blocks (slot_number o) v w
+  pub none : IsNone o ↔ WholeMiss (kind_number kind) blocks w.trace
   pub fresh : IfSome o (λ slot. Fresh m v slot.0)
-  pub of_kind : IfSome o (λ slot. KindIs m v (block_of slot) (kind_number Dependent + 1))
+  pub of_kind : IfSome o (λ slot. KindIs m v (block_of slot) (kind_number kind + 1))
 
--- it was looked for where it is needed
+-- one of kind dependent was looked for where it is needed
 abbrev pub LooksWhere : {W : Type 0} → Ghosts W → Bool → ℕ → Option Slot → View W → View W → Type 0
-LooksWhere m true blocks o v w = Looked m blocks o v w
+LooksWhere m true blocks o v w = Looked m Dependent blocks o v w
 LooksWhere m false blocks o v w = (o ≡ None) × (w ≡ v)
 
 -- the seat once the words know by which blocks the table grew for the kind with number k
