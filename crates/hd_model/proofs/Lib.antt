@@ -71,6 +71,8 @@ pub mod ObjectReadBack
 pub mod HeapLimit
 pub mod StepExistence
 pub mod AnchorLaws
+pub mod RootChains
+pub mod AnchorSamples
 pub mod FreePlaces
 pub mod RunExamples
 pub mod CollectionExamples

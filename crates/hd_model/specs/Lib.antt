@@ -41,5 +41,6 @@ pub mod Laws
 pub mod UserLaws
 pub mod WeakLaws
 pub mod AnchorLaws
+pub mod AnchorSamples
 pub mod Constants
 pub mod Generated
