@@ -60,6 +60,7 @@ pub mod StateReadBack
 pub mod HandleParts
 pub mod AttachedValues
 pub mod WeakSlotUse
+pub mod EntryRoom
 pub mod LeastGrowth
 pub mod Serials
 pub mod SoloRuns
