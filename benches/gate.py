@@ -1,5 +1,5 @@
 #!/usr/bin/env python3
-"""gate.py OLD NEW [--coreclr PROGRAM]: what callers at the gate cost, by two builds of hdt in turn, and what is asked of the new one.
+"""gate.py OLD NEW [--coreclr PROGRAM]: what callers at the gate cost, by two builds of hdt in turn, beside what is asked.
 
 It prints the load with four, two and one processors; the futex calls of loads; `run` of one caller beside `solo`, with its
 instructions; how many collections a caller waits through that drops beside one that collects; and 1,000 replays by each build.
@@ -23,8 +23,8 @@ DROPS = 100_000
 REPLAYS = 1_000
 PROCESSORS = {4: "0-3", 2: "0,1", 1: "0"}
 LOAD = "load callers 4 commands 96748 made 12000 live 0 collections 748 sum 18006000\n"
-# What is asked: the load to the old one's, the ratio to CoreCLR to the old one's, futex calls, `run` to `solo`, instructions of `run`
-# to the old one's, collections between two lines of one caller.
+# What is asked: the load to the old one's, the ratio to CoreCLR to the old one's, futex calls, `run` to `solo`, instructions of
+# `run` to the old one's, collections between two lines of one caller.
 LOADS_ASKED = {4: 0.62, 2: 0.8}
 RATIO_ASKED = 0.6
 FUTEX_ASKED = 1_000
@@ -100,7 +100,8 @@ def loads(asked, old, new, coreclr):
             for name, words in programs.items():
                 times[name].append(load(words, processors))
         medians = {name: statistics.median(taken) for name, taken in times.items()}
-        cells = [processors_of(processors)] + [f"{medians[name]:.1f}" if name in medians else "-" for name in ("old", "new", "coreclr")]
+        shown = [f"{medians[name]:.1f}" if name in medians else "-" for name in ("old", "new", "coreclr")]
+        cells = [processors_of(processors), *shown]
         ratio = medians["new"] / medians["old"]
         if processors in LOADS_ASKED:
             asked.row(*cells, found=ratio, asked=LOADS_ASKED[processors])
@@ -136,7 +137,7 @@ def one_caller(asked, old, new):
         ratios = [medians[program, "run"] / medians[program, "solo"] for program in (old, new)]
         asked.row("`run` to `solo`", f"{ratios[0]:.2f}", f"{ratios[1]:.2f}", found=ratios[1], asked=RUN_ASKED)
         counts = [instructions([program, "run"], script.name) for program in (old, new)]
-        asked.row("`run`, instructions", f"{counts[0]:,}", f"{counts[1]:,}", found=counts[1] / counts[0], asked=INSTRUCTIONS_ASKED)
+        asked.row("`run`, instructions", *(f"{count:,}" for count in counts), found=counts[1] / counts[0], asked=INSTRUCTIONS_ASKED)
 
 
 def starving(asked, old, new):
@@ -158,7 +159,8 @@ def starving(asked, old, new):
 def replays(asked, old, new):
     print()
     for name, program in (("old", old), ("new", new)):
-        done = subprocess.run([os.path.join(TOP, ".ci", "replay"), "--runs", str(REPLAYS), program], capture_output=True, text=True)
+        words = [os.path.join(TOP, ".ci", "replay"), "--runs", str(REPLAYS), program]
+        done = subprocess.run(words, capture_output=True, text=True)
         asked.failed |= done.returncode != 0
         print(f"{REPLAYS:,} replays by {name}: {'right' if done.returncode == 0 else done.stdout + done.stderr}")
 
