@@ -4,6 +4,7 @@ use Rattle.hd_model.proofs.AnchorSearch.{anchor_object}
 use Rattle.hd_model.proofs.MapEntries.{counts_keys, some_value}
 use Rattle.hd_model.proofs.PropertyCounts.{counts_le}
 use Rattle.hd_model.proofs.SceneCollection.{edge_object}
+use Rattle.hd_model.proofs.Sums.{sum-many}
 use Rattle.hd_model.proofs.WholeScenes.{if_some_from, whole_scene}
 use Rattle.hd_model.specs.Anchors.{AnchorOf, EdgeOf, LeadsIn}
 use Rattle.hd_model.specs.Scene.{is_object}

@@ -155,7 +155,8 @@ module _ {S K : Type 0} (seen : S → SourceView) (shown : K → SinkView) where
   printed_text r script text p =
       let m = runs_in_full r.mode r.slots p.full in
       let promise : Promise seen shown (Some r) p.source p.sink p.outcome =
-      runs_promise (traits_of r.mode).judges _ _ m.judges p.promise in
+      runs_promise (traits_of r.mode).judges (AuditPromise seen shown (Some r) p.source p.sink p.outcome)
+      (Promise seen shown (Some r) p.source p.sink p.outcome) m.judges p.promise in
       let (lists, read, run, kept, whole, took) = promise.whole p.done in (
         lists,
         run_text r (seen p.source.0) (seen p.source.1) (shown p.sink.0) (shown p.sink.1) script p.before text
@@ -167,7 +168,8 @@ module _ {S K : Type 0} (seen : S → SourceView) (shown : K → SinkView) where
   printed_runs_judged r q script text status p j same =
       let (lists, right, run) = printed_text r script text p in
       let promise : AuditPromise seen shown (Some q) j.source j.sink j.outcome =
-      judges_promise (traits_of q.mode).judges _ _ j.judges j.promise in
+      judges_promise (traits_of q.mode).judges (AuditPromise seen shown (Some q) j.source j.sink j.outcome)
+      (Promise seen shown (Some q) j.source j.sink j.outcome) j.judges j.promise in
       judged_run q.limits j.bytes script text lists j.few j.divided right
       (subst (λ (b : Bounds). IsRunText (numbers_for b lists) lists text) (sym same) run) status
       (subst (λ (k : ℕ). JudgesTo q.limits j.bytes k) j.returned
