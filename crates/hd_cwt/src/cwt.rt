@@ -3,7 +3,7 @@ ghost use Rattle.std.specs.Prelude.{IfOk, IfSome, IsSome, IsNone};
 ghost use Rattle.std.specs.FinMap as map;
 ghost use Rattle.std.specs.FinMap.{get, len, contains_key};
 ghost use Rattle.hd_model.specs.Table.{live_at};
-ghost use Rattle.hd_cwt.specs.WeakTable.{CanTake, HasKey, IsIdle, IsIn, IsLeastIdle, IsWeakTable};
+ghost use Rattle.hd_cwt.specs.WeakTable.{CanTake, HasKey, IsIdle, IsIn, IsLeastIdle, IsWeakTable, LooksAt};
 ghost use Rattle.hd_cwt.specs.WeakTable.{bucket_of, entries_in, kept_key, slots_of};
 ghost use Rattle.hd_cwt.specs.Inside.{swept_at};
 
@@ -84,8 +84,8 @@ impl Cwt {
     pub fn find<L: Ledger>(&self, key: Id, steps: &mut Steps<L>) -> Option<Slot>
         ensures found { IfSome result (λ slot. HasKey self.now key slot.0) }
         ensures none { IsNone result ↔ ((slot : ℕ) → ¬ (HasKey self.now key slot)) }
-        ensures counted { steps.old ≤ steps.new }
-        ensures steps { steps.new ≤ steps.old + (entries_in self.now.held (bucket_of key) + 1) }
+        ensures steps { let many = entries_in self.now.held (bucket_of key) in
+            LooksAt result many steps.old steps.new }
         ensures table { IsWeakTable self.now }
     {
         let slot = self.entries.find(key, steps)?;
@@ -125,6 +125,15 @@ impl Cwt {
         let mut steps = Steps::<L>::open(blank);
         let slot = self.entries.find(key, &mut steps).unwrap();
         self.entries.clear(slot);
+    }
+
+    /// Takes the key out of a held slot, if it has one, without a search. The slot stays held, and
+    /// is idle.
+    pub fn clear(&mut self, slot: Slot)
+        requires { IsSome (get self.old.held slot.0) }
+        ensures { self.new ≡ record self.old { held = map.insert self.old.held slot.0 None } }
+    {
+        self.entries.clear(slot.0);
     }
 
     /// Takes out the keys in slots whose row has a null target. Their slots stay held. It looks at

@@ -4,7 +4,7 @@ ghost use Rattle.std.specs.Prelude.{slice_index_or, Some, None, IfOk, IfSome, If
 ghost use Rattle.std.specs.FinMap as map;
 ghost use Rattle.std.specs.FinMap.{get};
 ghost use Rattle.hd_model.specs.Indexed.{by_place};
-ghost use Rattle.hd_cwt.specs.WeakTable.{IsIdle, HasKey, bucket_of, entries_in, slots_of};
+ghost use Rattle.hd_cwt.specs.WeakTable.{IsIdle, HasKey, LooksAt, bucket_of, entries_in, slots_of};
 ghost use Rattle.hd_cwt.specs.Inside.{HasBucket, entry_at};
 
 use crate::rings::Rings;
@@ -87,8 +87,8 @@ impl Entries {
     pub(crate) fn find<L: Ledger>(&self, key: Id, steps: &mut Steps<L>) -> Option<u32>
         ensures found { IfSome result (HasKey self.now key) }
         ensures none { IfNone result ((slot : ℕ) → HasKey self.now key slot → ⊥) }
-        ensures counted { steps.old ≤ steps.new }
-        ensures steps { steps.new ≤ steps.old + entries_in self.now.held (bucket_of key) }
+        ensures steps { let many = entries_in self.now.held (bucket_of key) in
+            LooksAt result many steps.old steps.new }
     {
         let end = self.bucket(key);
         search(&self.held, &self.rings.next, end, key, steps)
@@ -150,8 +150,8 @@ fn search<L: Ledger>(
     requires within { (length held.now ≤ end) × (end < length next.now) }
     ensures found { IfSome result (λ slot. entry_at held.now slot ≡ Some (Some key)) }
     ensures none { IfNone result ((slot : ℕ) → entry_at held.now slot ≡ Some (Some key) → ⊥) }
-    ensures counted { steps.old ≤ steps.new }
-    ensures steps { steps.new ≤ steps.old + entries_in (by_place held.now) (bucket_of key) }
+    ensures steps { let many = entries_in (by_place held.now) (bucket_of key) in
+        LooksAt result many steps.old steps.new }
 {
     let mut at = next[end as usize];
     while at != end {

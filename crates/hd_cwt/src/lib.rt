@@ -4,6 +4,8 @@
 
 mod cwt;
 mod entries;
+mod laws;
 mod rings;
 
 pub use cwt::Cwt;
+pub use laws::buckets_are_these;

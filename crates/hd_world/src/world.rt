@@ -16,9 +16,9 @@ use std::sync::ledger::{Blank, Ledger};
 use std::thread::Threads;
 
 /// A world of objects and handles, seen as its numbers, its state, the ages of its clumps, its
-/// heap, its journal, and for how many more entries there is room. The journal is a run of the
-/// machine that leads to the state and leaves the ages. A world is made by `open` alone, and its
-/// journal grows by `apply` alone.
+/// heap, its table, its journal, and for how many more entries there is room. The journal is a run
+/// of the machine that leads to the state and leaves the ages. A world is made by `open` alone, and
+/// its journal grows by `apply` alone.
 #[derive(Drop)]
 pub struct World {
     store: Store,
@@ -40,6 +40,7 @@ impl Model for World {
       state = with_places w.store.state w.placed.0;
       ages = w.store.ages;
       heap = w.store.heap;
+      table = w.store.table;
       journal = w.journal.entries;
       spare = w.journal.spare;
     } };

@@ -1,6 +1,6 @@
 use Rattle.hd_world.proofs.StoreWords.{HasLimits, Run, WorldView, subst}
 use Rattle.hd_world.specs.StateHeap.{IsOfJournal}
-use Rattle.hd_world.proofs.{JournalApply.run_of, StateHeap.of-heap}
+use Rattle.hd_world.proofs.{JournalApply.run_of, StateHeap.of-heap, StateHeap.of-table}
 use Rattle.hd_world.proofs.world.World.journal.Goals as goal
 
 pub returns-clause-run : goal.returns-clause-run
@@ -13,6 +13,7 @@ returns-clause-sound c = subst IsOfJournal c.self.view_is (record {
   aged = c.self.invariant.run;
   heap = of-heap c.self.inside.store c.self.inside.placed.0 c.objects-objects.ensures.heap
       c.self.invariant.addresses;
+  table = of-table c.self.inside.store c.self.inside.placed.0 c.objects-objects.ensures.heap;
 })
 
 pub returns-clause-limits : goal.returns-clause-limits
