@@ -1,5 +1,5 @@
 -- What a whole run prints in full lines is the text of a run, and is never judged to be none.
-use Rattle.hd_run.proofs.Basics.{Audit, Bool, Cmd, Form, FullLines, Lines, List, Load, MOST_BYTES, Mode, Ok, Option, Promise, RanBy, Request, Roots, ScriptBy, SinkView, Solo, Some, SourceView, Summary, TheRun, Took, [], ap, arith, false, form_by, form_of, inl, inr, length, numbers_by, numbers_for, ran_text, refl, subst, sym, traits_of, true, world_that, ℕ, ◌++◌, ◌∙◌, ◌∷◌, ◌≡◌, ◌≤◌, ◌⊎◌}
+use Rattle.hd_run.proofs.Basics.{Audit, Bool, Cmd, Form, FullLines, Lines, List, Load, MOST_BYTES, Mode, Ok, Option, Promise, RanBy, Request, Result, Roots, ScriptBy, SinkView, Solo, Some, SourceView, Summary, TheRun, Took, [], ap, arith, false, form_by, form_of, inl, inr, length, numbers_by, numbers_for, ran_text, refl, subst, sym, traits_of, true, world_that, ℕ, ◌++◌, ◌∙◌, ◌∷◌, ◌≡◌, ◌≤◌, ◌⊎◌}
 use Rattle.std.proofs.lemmas.List.{append_cancel_left}
 use Rattle.hd_model.proofs.Basics.{cases_eq, ⊎_elim}
 use Rattle.hd_model.proofs.StepChains.{run_from_solo}
@@ -111,8 +111,8 @@ module _ (r : Request) (old new : SourceView) (before after : SinkView) (script 
   run_text true threads true form lists run a b c read whole took = cc
   run_text false threads listed form lists run a b c read whole took = cc
 
-same_lists : (a b : List (List Cmd)) → Ok {T = List (List Cmd)} {E = ℕ} a ≡ Ok b → a ≡ b
-same_lists a b is = cc
+same_lists : (a b : List (List Cmd)) (read : Result (List (List Cmd)) ℕ) → read ≡ Ok a → read ≡ Ok b → a ≡ b
+same_lists a b read one two = cc
 
 -- of the text of a run the status of a judgement is 0 or 6
 module _ (b : Bounds) (bytes script text : List ℕ) (lists : List (List Cmd)) (few : length bytes ≤ MOST_BYTES)
@@ -128,7 +128,7 @@ module _ (b : Bounds) (bytes script text : List ℕ) (lists : List (List Cmd)) (
       let same_script : h.input.script ≡ script = one_script h.input.divided divided in
       let same_text : h.text ≡ text = one_text h.input.divided divided in
       let same : h.lists ≡ lists =
-      same_lists h.lists lists (sym h.input.right ∙ ap script_of same_script ∙ right) in
+      same_lists h.lists lists (script_of h.input.script) h.input.right (ap script_of same_script ∙ right) in
       runs_have_no_wrong_line (numbers_for b lists) lists text line run
       (subst (λ (t : List ℕ). IsNoRun (numbers_for b lists) lists t line) same_text
       (subst (λ (ls : List (List Cmd)). IsNoRun (numbers_for b ls) ls h.text line) same h.says))
@@ -166,11 +166,11 @@ module _ {S K : Type 0} (seen : S → SourceView) (shown : K → SinkView) where
 
   pub printed_runs_judged : PrintedRunsAreJudgedRuns seen shown
   printed_runs_judged r q script text status p j same =
-      let (lists, right, run) = printed_text r script text p in
+      let (lists, known) = printed_text r script text p in
       let promise : AuditPromise seen shown (Some q) j.source j.sink j.outcome =
       judges_promise (traits_of q.mode).judges (AuditPromise seen shown (Some q) j.source j.sink j.outcome)
       (Promise seen shown (Some q) j.source j.sink j.outcome) j.judges j.promise in
-      judged_run q.limits j.bytes script text lists j.few j.divided right
-      (subst (λ (b : Bounds). IsRunText (numbers_for b lists) lists text) (sym same) run) status
+      judged_run q.limits j.bytes script text lists j.few j.divided known.0
+      (subst (λ (b : Bounds). IsRunText (numbers_for b lists) lists text) (sym same) known.1) status
       (subst (λ (k : ℕ). JudgesTo q.limits j.bytes k) j.returned
       (promise.decides j.read j.written j.bytes j.given))

@@ -1,5 +1,5 @@
 -- What the program prints of a whole run in full lines is a text that it judges to be that of a run.
-use Rattle.std.specs.Prelude.{◌≡◌, ◌⊎◌, ¬, ℕ, ◌≤◌, Bool, true, List, ◌++◌, length, Some}
+use Rattle.std.specs.Prelude.{◌≡◌, ◌⊎◌, ℕ, ◌≤◌, Bool, true, List, ◌++◌, length, Some}
 use Rattle.hd_model.specs.{declared.command.Cmd.Cmd, declared.limits.TheConstants.MOST_BYTES, FullText.full_text_of, State.Numbers}
 use Rattle.hd_io.specs.{Counts.Rose, Source.SourceView, Sink.SinkView}
 use Rattle.hd_script.specs.AuditInput.{IsDivided}
