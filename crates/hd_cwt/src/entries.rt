@@ -5,7 +5,7 @@ ghost use Rattle.std.specs.FinMap as map;
 ghost use Rattle.std.specs.FinMap.{get};
 ghost use Rattle.hd_model.specs.Indexed.{by_place};
 ghost use Rattle.hd_cwt.specs.WeakTable.{IsIdle, HasKey, LooksAt, bucket_of, entries_in, slots_of};
-ghost use Rattle.hd_cwt.specs.Inside.{HasBucket, entry_at};
+ghost use Rattle.hd_cwt.specs.Inside.{HasBucket, entry_at, keyed_in};
 
 use crate::rings::Rings;
 use hd_mask::{bit, lowest};
@@ -68,6 +68,13 @@ impl Entries {
         ensures { result ≡ get self.now.held slot }
     {
         entry(&self.held, slot)
+    }
+
+    /// Whether a slot, which may be any number, is held and has a key.
+    pub(crate) fn has_key(&self, slot: u32) -> bool
+        ensures { result ≡ keyed_in (get self.now.held slot) }
+    {
+        matches!(self.get(slot), Some(Some(_)))
     }
 
     /// The least idle slot.
@@ -178,8 +185,8 @@ fn first_marked(masks: &[u64], from: u32) -> u32
     masks.len() as u32
 }
 
-// A list of `count` copies of a value.
-fn filled<T: Copy + Drop>(alloc: Global, value: T, count: u32) -> Result<Vec<T>, Memory>
+/// A list of `count` copies of a value.
+pub(crate) fn filled<T: Copy + Drop>(alloc: Global, value: T, count: u32) -> Result<Vec<T>, Memory>
     ensures { IfOk result (λ v. v.items ≡ replicate count value) }
 {
     let mut list = Vec::new(alloc);

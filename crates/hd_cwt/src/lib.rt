@@ -4,6 +4,7 @@
 
 mod cwt;
 mod entries;
+mod keyed;
 mod laws;
 mod rings;
 
