@@ -1,5 +1,5 @@
 -- The held slots and their keys, where a slot gets a key or loses it, and in a sweep.
-use Rattle.hd_cwt.proofs.Basics.{BLOCKS, Bool, CanTake, Contains, HasKey, Id, IsListed, IsListedAt, IsSome, IsTaken, IsUnlisted, IsWeakTable, List, None, Option, ROWS, Some, WeakTable, [], ap, arith, cases_eq, cases_lt, cond, empty, entries, false, false≢true, get, get-empty, get_or-set_other, get_or-set_same, get_or_default, inl, inr, insert, insert_cases, is_none, is_some, kept_key, keyed_in, len, len-empty, len_again, len_new, length, length-append, length-map, length-set, mapped_in, node_at, none-some, option_map, refl, room_of, same_Some, set, slots_of, some_cases, subst, sym, true, ℕ, ⊎_elim, ◌*◌, ◌++◌, ◌+◌, ◌-◌, ◌/◌, ◌<◌, ◌^◌, ◌∙◌, ◌∷◌, ◌≡◌, ◌≢◌, ◌≤◌, ◌⊎◌}
+use Rattle.hd_cwt.proofs.Basics.{BLOCKS, Bool, CanTake, HasKey, Id, IsListed, IsListedAt, IsSome, IsTaken, IsUnlisted, IsWeakTable, List, None, Option, ROWS, Some, WeakTable, [], ap, arith, cases_eq, cases_lt, cond, empty, entries, false, false≢true, get, get-empty, get_or-set_other, get_or-set_same, get_or_default, inl, inr, insert, insert_cases, is_none, is_some, kept_key, keyed_in, len, len-empty, len_again, len_new, length, length-append, length-map, length-set, mapped_in, node_at, none-some, option_map, refl, room_of, same_Some, set, slots_of, some_cases, subst, sym, true, ℕ, ⊎_elim, ◌*◌, ◌++◌, ◌+◌, ◌-◌, ◌/◌, ◌<◌, ◌^◌, ◌∙◌, ◌∷◌, ◌≡◌, ◌≢◌, ◌≤◌, ◌⊎◌}
 use Rattle.std.specs.Ordering.{nat_cmp}
 use Rattle.std.specs.FinMap.{keys, len-entries}
 use Rattle.std.proofs.Common.{AllPairs}

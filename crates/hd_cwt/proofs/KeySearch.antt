@@ -1,5 +1,5 @@
 -- The search for a key along the ring of its bucket.
-use Rattle.hd_cwt.proofs.Basics.{Bool, Contains, HasBucket, Id, IsBucket, IsWalk, List, LooksAt, None, Option, Some, [], ap, arith, bucket_in, bucket_of, by_place, cases_eq, cases_lt, entries, entries_in, entry_at, eq-eqb, false≢true, filter, first_in, get-by_place, get_or_past, inl, inr, is_in_bucket, later_in, length, length-map, map, mapped_in, member_cases, ne_eqb, node_at, none-some, not_in_none, pairs_cons, pairs_none, pairs_passing, passing_from, passing_in, refl, same_Some, subst, suc, sym, true, ℕ, ⊎_elim, ◌+◌, ◌<◌, ◌==◌, ◌∙◌, ◌∷◌, ◌≡◌, ◌≢◌, ◌≤◌}
+use Rattle.hd_cwt.proofs.Basics.{Bool, Contains, HasBucket, Id, IsBucket, IsWalk, List, LooksAt, None, Option, Some, [], ap, arith, bucket_in, bucket_of, by_place, cases_eq, cases_lt, entries, entries_in, entry_at, eq-eqb, false≢true, filter, first_in, get-by_place, get_or_past, inl, inr, is_in_bucket, later_in, length, length-map, map, mapped_in, member_cases, ne_eqb, node_at, none-some, not_in_none, pairs_cons, pairs_none, pairs_passing, passing_from, passing_in, refl, same_Some, subst, suc, sym, true, ℕ, ⊎_elim, ◌+◌, ◌<◌, ◌∙◌, ◌∷◌, ◌≡◌, ◌≢◌, ◌≤◌}
 use Rattle.std.proofs.Common.{AllPairs, T}
 use Rattle.std.specs.FinMap.{entries_sorted, is_sorted}
 use Rattle.std.specs.FinMap.Entries.{below_all}

@@ -1,4 +1,4 @@
-use Rattle.hd_cwt.proofs.Basics.{IsSome, None, arith, false, false≢true, get, is_some, refl, rules, sym, ◌∙◌, ◌≡◌}
+use Rattle.hd_cwt.proofs.Basics.{IsSome, None, arith, false, false≢true, get, is_some, rules, sym, ◌∙◌, ◌≡◌}
 use Rattle.hd_model.proofs.MapEntries.{none_from}
 use Rattle.hd_cwt.proofs.KeyChanges.{can_seen, few_slots, put_idle, put_new, put_room, relisted, within}
 use Rattle.hd_cwt.proofs.cwt.Cwt.add.Goals as goal

@@ -1,4 +1,4 @@
-use Rattle.hd_cwt.proofs.Basics.{IsSome, WeakTable, false, get, keyed_in, refl, subst, sym, true, ◌∙◌, ◌≡◌}
+use Rattle.hd_cwt.proofs.Basics.{IsSome, WeakTable, get, refl, subst, sym, ◌∙◌}
 use Rattle.hd_cwt.proofs.KeyChanges.{clear_idle, clear_listed, held_low, keyed_place, last_low, relisted}
 use Rattle.hd_cwt.proofs.cwt.Cwt.clear.Goals as goal
 

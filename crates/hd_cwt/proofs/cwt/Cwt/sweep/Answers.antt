@@ -1,4 +1,4 @@
-use Rattle.hd_cwt.proofs.Basics.{IsListed, WeakTable, arith, get_or_default_zero, length, node_at, refl, subst, sym, vec_capacity, ℕ, ⊎_elim, ◌+◌, ◌-◌, ◌<◌, ◌≤◌, ◌∙◌, ◌≡◌}
+use Rattle.hd_cwt.proofs.Basics.{WeakTable, arith, get_or_default_zero, length, node_at, refl, subst, sym, ℕ, ⊎_elim, ◌+◌, ◌-◌, ◌<◌, ◌≤◌, ◌∙◌, ◌≡◌}
 use Rattle.hd_cwt.proofs.KeyChanges.{IsSwept, all_swept, none_swept, relisted, sweep_left, sweep_taken, taken_listed}
 use Rattle.hd_cwt.proofs.cwt.Cwt.sweep.Goals as goal
 
