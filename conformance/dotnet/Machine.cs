@@ -7,7 +7,8 @@
 // public DependentHandle.
 //
 // What the runtime must not see: a reference that the script does not have. So registers are arrays on the heap, each command is a
-// function of its own that is not inlined, a thread overwrites its stack before it waits or collects, and refusals throw nothing.
+// function of its own that is not inlined, refusals throw nothing, and for a collection all threads end: a thread of its own asks for
+// it, which overwrites its stack before.
 using System;
 using System.Collections.Generic;
 using System.IO;
@@ -492,6 +493,10 @@ sealed class Caller
     public readonly int[] Handles = new int[16];
     public int Made, Done;
 
+    public bool HasNext { get { return Done < Commands.Count; } }
+
+    public Command Next { get { return Commands[Done]; } }
+
     /// The handle that is being made or freed.
     public Handle Handle;
 
@@ -502,7 +507,7 @@ sealed class Caller
 }
 
 /// What all callers share. Its lock is held where a command takes effect and its line is taken; only the runtime's own making and
-/// freeing of a handle are outside of it, counted, so that a collection waits for them.
+/// freeing of a handle are outside of it.
 sealed class World
 {
     const int Cells = 1000000;
@@ -515,9 +520,10 @@ sealed class World
     readonly Queue<Node> queue = new Queue<Node>();
     readonly List<Watch> watches = new List<Watch>();
     readonly Dictionary<Watch, int> sizes = new Dictionary<Watch, int>();
-    readonly Action<Caller, Command> reply, collect, make, give, take, free;
-    int cells, outside, collections, counted;
-    bool collecting;
+    readonly Action<Caller, Command> reply, look, collect, report, make, give, take, free;
+    Node[] older = new Node[0];
+    Caller collector;
+    int cells, entries, collections, counted;
 
     public static bool IsThere(Watch watch)
     {
@@ -584,34 +590,40 @@ sealed class World
     public World()
     {
         reply = (me, command) => Print(me, Reply(me, command));
-        collect = (me, command) => Print(me, Collect(command.A));
+        look = Look;
+        collect = Collect;
+        report = Report;
         make = (me, command) => me.Handle = Made(me, command);
         give = Give;
         take = Take;
         free = (me, command) => me.Handle.Free();
     }
 
-    /// Does a caller's next command. The lock is given back with nothing on the stack: where it is not held another may collect.
-    public void Step(Caller me, Command command)
+    /// Whether a caller goes on. It does not where it or another one wants to collect: then all threads end, with their stacks, and
+    /// what collects is a thread of its own.
+    public bool GoesOn(Caller me)
     {
-        if (command.Word == "hnew" || command.Word == "hfree")
+        lock (this)
         {
-            StepOutside(me, command);
+            if (collector == null && me.Next.Word == "collect")
+            {
+                collector = me;
+            }
+            return collector == null;
+        }
+    }
+
+    /// Does a caller's next command, which is no collection.
+    public void Step(Caller me)
+    {
+        if (me.Next.Word == "hnew" || me.Next.Word == "hfree")
+        {
+            StepOutside(me, me.Next);
             return;
         }
         lock (this)
         {
-            Await();
-            bool collects = command.Word == "collect";
-            collecting = collects;
-            while (collects && outside > 0)
-            {
-                Monitor.Wait(this);
-            }
-            Apart(collects ? collect : reply, me, command);
-            collecting = false;
-            Scrub();
-            Monitor.PulseAll(this);
+            Apart(reply, me, me.Next);
         }
     }
 
@@ -619,30 +631,37 @@ sealed class World
     void StepOutside(Caller me, Command command)
     {
         bool makes = command.Word == "hnew";
-        me.Handle = null;
-        lock (this)
+        if (makes)
         {
-            Await();
-            outside++;
-            if (!makes)
-            {
-                Apart(take, me, command);
-            }
-        }
-        if (makes || me.Handle != null)
-        {
-            Apart(makes ? make : free, me, command);
+            Apart(make, me, command);
         }
         lock (this)
         {
-            if (makes)
-            {
-                Apart(give, me, command);
-            }
-            Scrub();
-            outside--;
-            Monitor.PulseAll(this);
+            Apart(makes ? give : take, me, command);
         }
+        if (!makes && me.Handle != null)
+        {
+            Apart(free, me, command);
+        }
+    }
+
+    /// Does the collection that is wanted, while no caller's thread is there.
+    public void CollectAlone()
+    {
+        Caller me = collector;
+        if (me == null)
+        {
+            return;
+        }
+        Command command = me.Next;
+        Check();
+        Apart(look, me, command);
+        Scrub();
+        Apart(collect, me, command);
+        Scrub();
+        Apart(report, me, command);
+        Check();
+        collector = null;
     }
 
     /// From here on the runtime collects for the script alone.
@@ -651,13 +670,8 @@ sealed class World
         counted = Collections();
     }
 
-    /// Waits, with the lock, until no caller collects.
-    void Await()
+    public void Check()
     {
-        while (collecting)
-        {
-            Monitor.Wait(this);
-        }
         if (Collections() != counted)
         {
             throw new Stop(4, "the runtime collected when it was not asked to: give it more room for new objects");
@@ -709,15 +723,42 @@ sealed class World
 
     // Collections.
 
-    /// A collection, and its report as it is seen from outside.
-    string Collect(int generation)
+    /// What there is before a collection: which handles have a target, how many entries there are, and the objects of an older
+    /// generation, which are kept by hand, since a runtime may have fewer generations.
+    void Look(Caller me, Command command)
     {
-        int entries = weak.Count();
+        entries = weak.Count();
         foreach (Handle handle in handles.Values)
         {
             handle.Had = handle.HasTarget;
         }
-        CollectUnder(generation);
+        older = new Node[watches.Count];
+        for (int at = 0; at < older.Length; at++)
+        {
+            older[at] = OlderThan(watches[at], command.A);
+        }
+    }
+
+    [MethodImpl(MethodImplOptions.NoInlining)]
+    static Node OlderThan(Watch watch, int generation)
+    {
+        Node node = (Node)watch.Weak.Target;
+        return node.Generation > generation ? node : null;
+    }
+
+    void Collect(Caller me, Command command)
+    {
+        Sweeper.Make();
+        Scrub();
+        GC.Collect(Math.Min(command.A, GC.MaxGeneration));
+        GC.WaitForPendingFinalizers();
+    }
+
+    /// The report of a collection, as it is seen from outside. The array of older objects is emptied, so that it keeps none of them
+    /// should the runtime still find it later.
+    void Report(Caller me, Command command)
+    {
+        Array.Clear(older, 0, older.Length);
         counted = Collections();
         int revived = Finalized.MoveTo(queue);
         int[] lost = new int[5];
@@ -725,43 +766,17 @@ sealed class World
         {
             lost[(int)handle.Kind] += handle.Had && !handle.HasTarget ? 1 : 0;
         }
-        int gone = entries - weak.Count();
+        lost[(int)Kind.Dep] += entries - weak.Count();
         weak.Forget();
         int removed = watches.RemoveAll(IsGone);
         int kept = 0;
         foreach (Watch watch in watches)
         {
-            kept += Survives(watch, generation) ? 1 : 0;
+            kept += Survives(watch, command.A) ? 1 : 0;
         }
         collections++;
-        return "kept " + kept + " removed " + removed + " short " + lost[(int)Kind.Short] + " long " + lost[(int)Kind.Long] + " dep " +
-            (lost[(int)Kind.Dep] + gone) + " revived " + revived;
-    }
-
-    /// The runtime's collection. Objects of an older generation are kept by hand, since a runtime may have fewer generations; the array
-    /// that does it is emptied, so that it keeps nothing should the runtime still find it later.
-    [MethodImpl(MethodImplOptions.NoInlining)]
-    void CollectUnder(int generation)
-    {
-        Node[] older = Older(generation);
-        Sweeper.Make();
-        Scrub();
-        GC.Collect(Math.Min(generation, GC.MaxGeneration));
-        GC.WaitForPendingFinalizers();
-        GC.KeepAlive(older);
-        Array.Clear(older, 0, older.Length);
-    }
-
-    [MethodImpl(MethodImplOptions.NoInlining)]
-    Node[] Older(int generation)
-    {
-        Node[] older = new Node[watches.Count];
-        for (int at = 0; at < older.Length; at++)
-        {
-            Node node = (Node)watches[at].Weak.Target;
-            older[at] = node.Generation > generation ? node : null;
-        }
-        return older;
+        Print(me, "kept " + kept + " removed " + removed + " short " + lost[(int)Kind.Short] + " long " + lost[(int)Kind.Long] +
+            " dep " + lost[(int)Kind.Dep] + " revived " + revived);
     }
 
     bool IsGone(Watch watch)
@@ -1119,45 +1134,52 @@ static class Program
         Environment.Exit(stop.Status);
     }
 
-    /// Callers in turn share one thread, so that the main thread never has an object.
+    /// Starts a thread for each caller that has commands left, or for the first alone, again after each collection. So no thread is
+    /// there while the runtime collects but the one that asks for it, and the main thread, which never has an object.
     static void Run(World world, List<Caller> callers, bool threads)
     {
-        List<Thread> started = new List<Thread>();
-        if (!threads)
+        List<Caller> left = callers.FindAll(caller => caller.HasNext);
+        while (left.Count > 0)
         {
-            started.Add(new Thread(() => callers.ForEach(caller => RunCaller(world, caller, null))));
+            int count = threads ? left.Count : 1;
+            Barrier together = new Barrier(count);
+            List<Thread> started = left.GetRange(0, count).ConvertAll(caller => Begun(() => RunCaller(world, caller, together)));
+            started.ForEach(thread => thread.Join());
+            Begun(world.CollectAlone).Join();
+            left = callers.FindAll(caller => caller.HasNext);
         }
-        Barrier together = new Barrier(Math.Max(callers.Count, 1));
-        foreach (Caller caller in threads ? callers : new List<Caller>())
-        {
-            started.Add(new Thread(() => RunCaller(world, caller, together)));
-        }
-        started.ForEach(thread => thread.Start());
-        started.ForEach(thread => thread.Join());
+        world.Check();
     }
 
-    /// With others it begins together with them, and lets them pass now and then.
+    static Thread Begun(Action act)
+    {
+        Thread thread = new Thread(() =>
+        {
+            try
+            {
+                act();
+            }
+            catch (Stop stop)
+            {
+                End(stop);
+            }
+        });
+        thread.Start();
+        return thread;
+    }
+
+    /// Begins together with the others, and lets them pass now and then.
     static void RunCaller(World world, Caller caller, Barrier together)
     {
-        Random chance = new Random(caller.Number);
-        try
+        Random chance = new Random(caller.Number + 16 * caller.Done);
+        together.SignalAndWait();
+        while (caller.HasNext && world.GoesOn(caller))
         {
-            if (together != null)
+            world.Step(caller);
+            if (together.ParticipantCount > 1 && chance.Next(8) == 0)
             {
-                together.SignalAndWait();
+                Thread.Sleep(0);
             }
-            foreach (Command command in caller.Commands)
-            {
-                world.Step(caller, command);
-                if (together != null && chance.Next(8) == 0)
-                {
-                    Thread.Sleep(0);
-                }
-            }
-        }
-        catch (Stop stop)
-        {
-            End(stop);
         }
     }
 }
