@@ -1,9 +1,10 @@
 #!/usr/bin/env python3
 """What `audit` costs for bytes that are no script or no lines, up to the most that it reads, and for dear lawful texts.
 
-    judge_cost.py PROGRAM [lawful]
+    judge_cost.py PROGRAM [LINES]
 
-Seconds of the processor and the most memory of each. With `lawful`, texts of 100,000 lines too, which take minutes."""
+Seconds of the processor and the most memory in MiB of each, which is never below what Python has as it starts the program. With
+LINES, dear lawful texts of so many lines too, up to 100,000; their cost grows with the square of the lines."""
 import os
 import random
 import subprocess
@@ -44,32 +45,34 @@ def spoiled():
     yield "a text that is one line", many(b"0")
 
 
-def kept_and_collected():
-    """In each two lines an object is made and kept, and all are collected."""
-    for _ in range(LINES // 4):
+def kept_and_collected(lines):
+    """In each four lines an object is made and kept in a chain, and all are collected."""
+    for _ in range(lines // 4):
         yield from ("new r0 1", "set r0 0 r1", "copy r1 r0", "collect 2")
 
 
-def kept_by_handles():
-    """Each object has a handle, and each third line is a collection."""
-    for _ in range(LINES // 3):
+def kept_by_handles(lines):
+    """In each three lines an object gets a handle, and all are collected."""
+    for _ in range(lines // 3):
         yield from ("new r0 0", "hnew h0 strong r0", "collect 2")
 
 
-def made_then_collected():
-    """A fifth of the lines make objects with handles, and the others collect."""
-    for _ in range(LINES // 12):
+def made_then_collected(lines):
+    """A third of the lines make objects and handles, up to 8,000, and the others collect."""
+    made = min(lines // 6, 8000)
+    for _ in range(made):
         yield from ("new r0 0", "hnew h0 strong r0")
-    for _ in range(LINES - LINES // 12 * 2):
+    for _ in range(lines - 2 * made):
         yield "collect 2"
 
 
-def chained_then_asked():
-    """Objects in a chain, and what keeps the last."""
+def chained_then_asked(lines):
+    """Objects in a chain, up to 8,000, and then what keeps the last."""
+    made = min(lines // 6, 8000)
     yield from ("new r0 1", "sput 0 r0")
-    for _ in range(8000):
+    for _ in range(made):
         yield from ("new r1 1", "set r0 0 r1", "copy r0 r1")
-    for _ in range(LINES - 24002):
+    for _ in range(lines - 3 * made - 2):
         yield "gcroot r0"
 
 
@@ -96,7 +99,7 @@ def measured(words, given, limit):
 
 
 def main(words):
-    if not words or words[1:] not in ([], ["lawful"]):
+    if len(words) not in (1, 2):
         sys.exit(__doc__)
     for name, given in spoiled():
         status, said, seconds, memory = measured([words[0], "audit"], given[:BYTES], 120)
@@ -104,7 +107,7 @@ def main(words):
         if status is None or seconds > 60 or memory > 1024:
             sys.exit(f"{name}: over a minute or 1 GiB")
     for make in (kept_and_collected, kept_by_handles, made_then_collected, chained_then_asked) if words[1:] else ():
-        script = "".join(line + "\n" for line in make()).encode()
+        script = "".join(line + "\n" for line in make(int(words[1]))).encode()
         text = subprocess.run([words[0], "solo", "--slots"], input=script, capture_output=True, check=True).stdout
         status, said, seconds, memory = measured([words[0], "audit"], script + b"=\n" + text, 3600)
         end = text.decode().splitlines()[-1]
