@@ -3,12 +3,12 @@
 //
 //     Machine [--threads] < SCRIPT
 //
-// Without --threads the callers come in turn; with it each is a thread. Written for .NET 6 and later and for mono 6.8, which has no
-// public DependentHandle.
+// Without --threads the callers come in turn; with it each is a thread. Written for .NET 6 and later and for mono 6.8, which
+// has no public DependentHandle.
 //
-// What the runtime must not see: a reference that the script does not have. So registers are arrays on the heap, each command is a
-// function of its own that is not inlined, refusals throw nothing, and for a collection all threads end: a thread of its own asks for
-// it, which overwrites its stack before.
+// What the runtime must not see: a reference that the script does not have. So registers are arrays on the heap, each command
+// is a function of its own that is not inlined, refusals throw nothing, and for a collection all threads end: a thread of its
+// own asks for it, which overwrites its stack before.
 using System;
 using System.Collections.Generic;
 using System.IO;
@@ -297,8 +297,9 @@ sealed class DependentOne : Handle
 }
 #endif
 
-/// Numbers for slots. Where the runtime stores a handle is a number of its kind's blocks from when it is first seen, so that a place
-/// which is given twice shows. Dependent handles and entries of the weak table, whose places cannot be seen, get the least number.
+/// Numbers for slots. Where the runtime stores a handle is a number of its kind's blocks from when it is first seen, so that
+/// a place which is given twice shows. Dependent handles and entries of the weak table, whose places cannot be seen, get the
+/// least number.
 sealed class Slots
 {
     const int Rows = 64, Blocks = 256;
@@ -372,8 +373,9 @@ sealed class WeakTable
     readonly SortedDictionary<int, Watch> keys = new SortedDictionary<int, Watch>();
 
 #if !NET6_0_OR_GREATER
-    /// Makes room for many entries. Mono's table leaves its array for another one when it grows; where that array is old, a collection
-    /// of new objects alone takes it for one in use, and with it what it had, though the entry left the table since.
+    /// Makes room for many entries. Mono's table leaves its array for another one when it grows; where that array is old, a
+    /// collection of new objects alone takes it for one in use, and with it what it had, though the entry left the table
+    /// since.
     public WeakTable()
     {
         const int Room = 4096;
@@ -560,8 +562,8 @@ sealed class World
         return a + b + c + d + e + f + g + h;
     }
 
-    /// Does what has references, or makes anything, deeper on the stack than all that waits, so that `Scrub` reaches all that is left of
-    /// it: even where the runtime would put the next object.
+    /// Does what has references, or makes anything, deeper on the stack than all that waits, so that `Scrub` reaches all that
+    /// is left of it: even where the runtime would put the next object.
     [MethodImpl(MethodImplOptions.NoInlining)]
     static unsafe void Apart(Action<Caller, Command> act, Caller me, Command command)
     {
@@ -599,8 +601,8 @@ sealed class World
         free = (me, command) => me.Handle.Free();
     }
 
-    /// Whether a caller goes on. It does not where it or another one wants to collect: then all threads end, with their stacks, and
-    /// what collects is a thread of its own.
+    /// Whether a caller goes on. It does not where it or another one wants to collect: then all threads end, with their
+    /// stacks, and what collects is a thread of its own.
     public bool GoesOn(Caller me)
     {
         lock (this)
@@ -754,8 +756,8 @@ sealed class World
         GC.WaitForPendingFinalizers();
     }
 
-    /// The report of a collection, as it is seen from outside. The array of older objects is emptied, so that it keeps none of them
-    /// should the runtime still find it later.
+    /// The report of a collection, as it is seen from outside. The array of older objects is emptied, so that it keeps none
+    /// of them should the runtime still find it later.
     void Report(Caller me, Command command)
     {
         Array.Clear(older, 0, older.Length);
@@ -1134,8 +1136,9 @@ static class Program
         Environment.Exit(stop.Status);
     }
 
-    /// Starts a thread for each caller that has commands left, or for the first alone, again after each collection. So no thread is
-    /// there while the runtime collects but the one that asks for it, and the main thread, which never has an object.
+    /// Starts a thread for each caller that has commands left, or for the first alone, again after each collection. So no
+    /// thread is there while the runtime collects but the one that asks for it, and the main thread, which never has an
+    /// object.
     static void Run(World world, List<Caller> callers, bool threads)
     {
         List<Caller> left = callers.FindAll(caller => caller.HasNext);
