@@ -818,7 +818,7 @@ sealed class World
             case "drop": return Stored(ref me.Objects[it.A], null);
             case "sput": return Stored(ref statics[it.A], me.Objects[it.B]);
             case "sget": return Loaded(me, it.A, statics[it.B]);
-            case "final": return queue.Count > 0 ? Loaded(me, it.A, queue.Dequeue()) : Loaded(me, it.A, null) == "null" ? "none" : "";
+            case "final": return Loaded(me, it.A, queue.Count > 0 ? queue.Dequeue() : null, "none");
             case "hput": board[it.A] = me.Handles[it.B]; return "ok";
             case "hpick": me.Handles[it.A] = board[it.B]; return "ok";
             case "hget": return GetTarget(me, it);
@@ -837,10 +837,10 @@ sealed class World
         return "ok";
     }
 
-    static string Loaded(Caller me, int register, Node node)
+    static string Loaded(Caller me, int register, Node node, string nothing = "null")
     {
         me.Objects[register] = node;
-        return node == null ? "null" : node.Text;
+        return node == null ? nothing : node.Text;
     }
 
     [MethodImpl(MethodImplOptions.NoInlining)]
@@ -880,7 +880,7 @@ sealed class World
             case "suppress": return Register(node, false);
             case "reregister": return Register(node, true);
             case "cadd": return weak.Has(node) ? "present" : "ok" + weak.Add(node, me.Objects[it.B], slots);
-            case "cfind": return weak.Has(node) ? Loaded(me, it.A, weak.Find(node)) : Loaded(me, it.A, null) == "null" ? "absent" : "";
+            case "cfind": return Loaded(me, it.A, weak.Find(node), weak.Has(node) ? "null" : "absent");
             default: return Remove(node);
         }
     }
@@ -969,8 +969,8 @@ static class Script
 {
     static readonly Dictionary<string, string> forms = new Dictionary<string, string>
     {
-        {"new", "rf"}, {"set", "rir"}, {"get", "rri"}, {"val", "rv"}, {"read", "r"}, {"copy", "rr"}, {"drop", "r"}, {"sput", "sr"},
-        {"sget", "rs"}, {"gen", "r"}, {"suppress", "r"}, {"reregister", "r"}, {"final", "r"}, {"collect", "g"}, {"hget", "rh"},
+        {"new", "rf"}, {"set", "rir"}, {"get", "rri"}, {"val", "rv"}, {"read", "r"}, {"copy", "rr"}, {"drop", "r"},
+        {"sput", "sr"}, {"sget", "rs"}, {"gen", "r"}, {"suppress", "r"}, {"reregister", "r"}, {"final", "r"}, {"collect", "g"}, {"hget", "rh"},
         {"hset", "hr"}, {"hsec", "hr"}, {"hdep", "rh"}, {"hfree", "h"}, {"hput", "sh"}, {"hpick", "hs"}, {"cadd", "rr"},
         {"cfind", "rr"}, {"cremove", "r"}
     };
