@@ -970,9 +970,9 @@ static class Script
     static readonly Dictionary<string, string> forms = new Dictionary<string, string>
     {
         {"new", "rf"}, {"set", "rir"}, {"get", "rri"}, {"val", "rv"}, {"read", "r"}, {"copy", "rr"}, {"drop", "r"},
-        {"sput", "sr"}, {"sget", "rs"}, {"gen", "r"}, {"suppress", "r"}, {"reregister", "r"}, {"final", "r"}, {"collect", "g"}, {"hget", "rh"},
-        {"hset", "hr"}, {"hsec", "hr"}, {"hdep", "rh"}, {"hfree", "h"}, {"hput", "sh"}, {"hpick", "hs"}, {"cadd", "rr"},
-        {"cfind", "rr"}, {"cremove", "r"}
+        {"sput", "sr"}, {"sget", "rs"}, {"gen", "r"}, {"suppress", "r"}, {"reregister", "r"}, {"final", "r"}, {"collect", "g"},
+        {"hget", "rh"}, {"hset", "hr"}, {"hsec", "hr"}, {"hdep", "rh"}, {"hfree", "h"}, {"hput", "sh"}, {"hpick", "hs"},
+        {"cadd", "rr"}, {"cfind", "rr"}, {"cremove", "r"}
     };
     static readonly Dictionary<string, string> lacking = new Dictionary<string, string>
     {
