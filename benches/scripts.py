@@ -55,7 +55,11 @@ def of_fields():
                                 [f"collect {generation}"], often)
     idle = ["new r0 0", "cadd r0 r1"] * 8000
     for name, beside in (("strong handles", []), ("beside 8,000 idle slots", idle)):
-        yield collected(f"`collect 0`, 10 old, {name}", graph(10, []) + beside + AGED, ["collect 0"], 2000)
+        before = graph(10, []) + beside + AGED
+        yield collected(f"`collect 0`, 10 old, {name}", before, ["collect 0"], 2000)
+        lines = [["new r0 0", "cadd r0 r0"] + last for last in (["drop r0", "collect 0"], ["cremove r0", "drop r0"])]
+        taken, removed = (before + four * 1000 for four in lines)
+        yield Row(f"`collect 0` that takes a key, 10 old, {name}", taken, removed, 1000)
     pins = graph(5000, [], ["hnew h1 pinned r0"])
     yield collected("`collect 2`, 5,000 old, every tenth pinned too", pins + AGED, ["collect 2"], 20)
     yield collected("`collect 0`, 5,000 young", [], ["new r0 2", "hnew h0 strong r0"] * 5000 + ["collect 0"], 3)
