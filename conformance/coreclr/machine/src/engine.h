@@ -36,6 +36,10 @@ public:
 
     // A collection of generations 0 to `generation` begins.
     virtual void collection_begins(int generation) {}
+
+    // All other threads are suspended for a collection; and the collection is done, and they are about to go on.
+    virtual void threads_are_suspended() {}
+    virtual void threads_go_on() {}
 };
 
 namespace engine {
@@ -64,5 +68,16 @@ public:
     Cooperative();
     ~Cooperative();
 };
+
+// While one of these lives, all other threads are suspended, as they are for a collection. One thread at a time has one, and no
+// collection is asked for meanwhile.
+class Alone {
+public:
+    Alone();
+    ~Alone();
+};
+
+// The number of a cell of eight bytes, from the heap's first.
+uint64_t cell_of(Object* object);
 
 }  // namespace engine
