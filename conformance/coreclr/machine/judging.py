@@ -1,9 +1,11 @@
 """Scripts by CoreCLR with full lines, and what hdt says of their texts."""
 import collections
+import subprocess
 
 import place
 
 BLOCKS = 256
+LONGEST = 60
 
 
 class Judge:
@@ -11,27 +13,30 @@ class Judge:
 
     def __init__(self, coreclr, hdt, threads, compact):
         ways = (["--threads"] if threads else []) + (["--compact"] if compact else [])
-        self.machine, self.hdt, self.may_compact = [coreclr, "answers", "--slots"] + ways, hdt, threads or compact
-        self.lines, self.changes, self.yes, self.demoted = 0, 0, 0, 0
+        self.machine, self.hdt, self.compact = [coreclr, "answers", "--slots"] + ways, hdt, compact
+        self.lines, self.changes, self.yes, self.cuts = 0, 0, 0, collections.Counter()
         self.commands, self.reports = collections.Counter(), collections.Counter()
 
     def text(self, script):
-        """The text, the line from which on CoreCLR demoted an object, and why there is no text."""
-        text, notes, status = place.run(self.machine, script)
+        """The text, from which line on it says nothing of the machine, and why; or None and why there is no text."""
+        try:
+            text, notes, status = place.run(self.machine, script, LONGEST)
+        except subprocess.TimeoutExpired:
+            return "", None, f"no end within {LONGEST} s"
         if status != 0:
-            return text, None, f"status {status}: {notes.strip()}"
+            return text, None, f"status {status} {notes.strip()}"
         lines = text.splitlines()
         for note in notes.splitlines():
             _, caller, number, why = note.split(" ", 3)
-            if not self.may_compact or "demoted" not in why:
+            if not self.compact:
                 return text, None, why
-            return text, next(i for i, line in enumerate(lines, 1) if line.startswith(f"{caller} {number} ")), None
+            return text, next(i for i, line in enumerate(lines, 1) if line.startswith(f"{caller} {number} ")), why
         return text, None, None
 
     def verdict(self, script):
-        """The text, and what is wrong with it: a line, or why the program ended; or None for a run, and for a demotion."""
+        """The text, and what is wrong with it: a line, or why the program ended; or None for a run, and from a demotion on."""
         text, cut, why = self.text(script)
-        if why is not None:
+        if cut is None and why is not None:
             return text, why
         said, error, status = place.run([self.hdt, "audit", "--blocks", str(BLOCKS)], f"{script}=\n{text}")
         if status not in (0, 7):
@@ -41,7 +46,7 @@ class Judge:
             return text, None
         line = int(said.split()[2])
         if cut is not None and line >= cut:
-            self.demoted += 1
+            self.cuts[why] += 1
             return text, None
         return text, line
 
@@ -71,10 +76,11 @@ class Judge:
         return "".join(line + "\n" for line in lines)
 
     def summary(self, seconds):
-        print(f"{self.yes + self.demoted} scripts, {seconds:.0f} s: {self.lines} lines judged, {self.changes} changes of caller")
+        scripts = self.yes + self.cuts.total()
+        print(f"{scripts} scripts, {seconds:.0f} s: {self.lines} lines judged, {self.changes} changes of caller")
         print("commands: " + ", ".join(f"{word} {count}" for word, count in sorted(self.commands.items())))
         print("collections: " + ", ".join(f"{word} {count}" for word, count in self.reports.items()))
-        print(f"run yes {self.yes}, run no from where a pinned object was demoted {self.demoted}")
+        print(f"run yes {self.yes}" + "".join(f", run no from {why} {count}" for why, count in sorted(self.cuts.items())))
 
 
 def pairs(script, text):
@@ -101,7 +107,7 @@ def told(script, text, wrong):
 def show(script, text, wrong):
     """Each printed line beside its command, up to the one that is not right."""
     if isinstance(wrong, str):
-        print(f"{script}\n{wrong}")
+        print(wrong)
         return
     for number, (command, line) in enumerate(list(pairs(script, text))[:wrong], 1):
         print(f"{command:24}{line}{'   <-- run no ' + str(wrong) if number == wrong else ''}")

@@ -47,6 +47,7 @@ int answers(const std::string& text, const Ways& ways) {
     Journal journal(lines);
     Machine machine(script.callers.size(), true, journal, ways.heap);
     engine::start(&machine, ways.compact);
+    engine::allocate_in_turn();
     type_of(0, false);
     if (ways.threads)
         in_threads(machine, script);

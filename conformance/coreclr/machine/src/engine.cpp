@@ -23,6 +23,7 @@ Program* the_program;
 std::atomic<Mutator*> mutators;
 std::atomic<Mutator*> suspender;
 thread_local Mutator* this_mutator;
+Thread* common_allocator = nullptr;
 
 // The generations to which a reference must be marked, and the table of marks. A byte of the table covers 2 KiB of the heap.
 struct Barrier {
@@ -178,12 +179,14 @@ void start(Program* program, bool compact) {
     attach_thread();
 }
 
+void allocate_in_turn() { common_allocator = GetThread(); }
+
 HHANDLETABLE table() { return g_HandleTableMap.pBuckets[0]->pTable[0]; }
 
 void collect(int generation) { g_theGCHeap->GarbageCollect(generation, FALSE, collection_blocking); }
 
 Object* allocate(MethodTable* type, bool finalizable) {
-    gc_alloc_context* context = GCToEEInterface::GetAllocContext(GetThread());
+    gc_alloc_context* context = GCToEEInterface::GetAllocContext(common_allocator != nullptr ? common_allocator : GetThread());
     uint8_t* at = context->alloc_ptr;
     size_t size = type->GetBaseSize();
     Object* object = (Object*)at;

@@ -47,6 +47,9 @@ namespace engine {
 // Starts the collector, the handle table and this thread. `compact` forces compaction in each collection.
 void start(Program* program, bool compact);
 
+// From here on all threads allocate from one context, one at a time, which leaves no more holes in the heap than one thread does.
+void allocate_in_turn();
+
 // Makes the calling thread one that may work on the heap. Each thread that does has a `Cooperative` around its work.
 void attach_thread();
 
