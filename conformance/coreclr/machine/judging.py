@@ -4,7 +4,6 @@ import subprocess
 
 import place
 
-BLOCKS = 256
 LONGEST = 60
 
 
@@ -14,13 +13,13 @@ class Judge:
     def __init__(self, coreclr, hdt, threads, compact):
         ways = (["--threads"] if threads else []) + (["--compact"] if compact else [])
         self.machine, self.hdt, self.compact = [coreclr, "answers", "--slots"] + ways, hdt, compact
-        self.lines, self.changes, self.yes, self.cuts = 0, 0, 0, collections.Counter()
+        self.lines, self.changes, self.full, self.yes, self.cuts = 0, 0, 0, 0, collections.Counter()
         self.commands, self.reports = collections.Counter(), collections.Counter()
 
-    def text(self, script):
+    def text(self, script, heap):
         """The text, from which line on it says nothing of the machine, and why; or None and why there is no text."""
         try:
-            text, notes, status = place.run(self.machine, script, LONGEST)
+            text, notes, status = place.run(self.machine + ["--heap", str(heap)], script, LONGEST)
         except subprocess.TimeoutExpired:
             return "", None, f"no end within {LONGEST} s"
         if status != 0:
@@ -33,12 +32,12 @@ class Judge:
             return text, next(i for i, line in enumerate(lines, 1) if line.startswith(f"{caller} {number} ")), why
         return text, None, None
 
-    def verdict(self, script):
+    def verdict(self, script, heap):
         """The text, and what is wrong with it: a line, or why the program ended; or None for a run, and from a demotion on."""
-        text, cut, why = self.text(script)
+        text, cut, why = self.text(script, heap)
         if cut is None and why is not None:
             return text, why
-        said, error, status = place.run([self.hdt, "audit", "--blocks", str(BLOCKS)], f"{script}=\n{text}")
+        said, error, status = place.run([self.hdt, "audit", "--heap", str(heap)], f"{script}=\n{text}")
         if status not in (0, 7):
             place.stop(f"hdt audit: status {status}: {said}{error}")
         if status == 0:
@@ -54,13 +53,14 @@ class Judge:
         """Counts what a run did."""
         lines = [line.split() for line in text.splitlines()]
         self.lines += len(lines)
+        self.full += text.count(" heapfull ")
         self.changes += sum(a[0] != b[0] for a, b in zip(lines, lines[1:-1]))
         self.commands.update(line.split()[0] for line in script.splitlines() if not line.startswith("caller"))
         for words in lines:
             if words[2:3] == ["kept"]:
                 self.reports.update({word: int(number) for word, number in zip(words[2::2], words[3::2])})
 
-    def shrink(self, script):
+    def shrink(self, script, heap):
         """A script that is judged to be no run and of which no line, and no run of lines, can be left out."""
         lines = script.splitlines()
         size = len(lines) // 2
@@ -68,7 +68,7 @@ class Judge:
             at, shorter = 0, False
             while at < len(lines):
                 fewer = lines[:at] + lines[at + size:]
-                if self.verdict("".join(line + "\n" for line in fewer))[1] is not None:
+                if self.verdict("".join(line + "\n" for line in fewer), heap)[1] is not None:
                     lines, shorter = fewer, True
                 else:
                     at += size
@@ -77,7 +77,8 @@ class Judge:
 
     def summary(self, seconds):
         scripts = self.yes + self.cuts.total()
-        print(f"{scripts} scripts, {seconds:.0f} s: {self.lines} lines judged, {self.changes} changes of caller")
+        print(f"{scripts} scripts, {seconds:.0f} s: {self.lines} lines judged, {self.changes} changes of caller, "
+              f"{self.full} heapfull")
         print("commands: " + ", ".join(f"{word} {count}" for word, count in sorted(self.commands.items())))
         print("collections: " + ", ".join(f"{word} {count}" for word, count in self.reports.items()))
         print(f"run yes {self.yes}" + "".join(f", run no from {why} {count}" for why, count in sorted(self.cuts.items())))

@@ -53,12 +53,15 @@ class Script:
 
     def text(self):
         callers = self.threads or self.rng.choice([1, 1, 1, 2, 3])
+        burst = self.rng.choice(self.kinds) if self.threads and self.rng.random() < 0.5 else None
         for caller in range(callers):
             if callers > 1:
                 self.lines.append(f"caller {caller}")
             # What a register has: None for null, else how many fields the object in it has, or -1 where that is not known.
             self.objects, self.handles = [None] * OBJECTS, [None] * HANDLES
             until = self.length * (caller + 1) // callers
+            if burst:
+                self.burst(burst)
             while self.commands < until:
                 step = self.rng.choices(list(self.weights), list(self.weights.values()))[0]
                 getattr(self, "step_" + step)()
@@ -304,6 +307,15 @@ class Script:
             self.say("drop", f"r{register}")
             self.objects[register] = None
 
+    def burst(self, kind):
+        """All callers begin with many handles of one kind, and then free them, which is more than the cache has room for."""
+        self.new(0, 1)
+        for register in range(HANDLES):
+            self.make(register, kind, 0)
+        for register in range(HANDLES):
+            self.say("hfree", f"h{register}")
+            self.handles[register] = None
+
     def step_many(self):
         """Many handles of one kind, so that they take more than one clump or block."""
         if self.rng.random() < 0.25:
@@ -315,6 +327,11 @@ class Script:
 def script(seed, number, length):
     """The script of a number, of those of a seed."""
     return Script(random.Random(f"{seed}/{number}"), length).text()
+
+
+def heap_of(number):
+    """How many cells the heap has for it: mostly as many as hdt has where it is not told."""
+    return [30, 100, 300][number // 4 % 3] if number % 4 == 3 else 1000000
 
 
 def judged_script(seed, number, in_threads):

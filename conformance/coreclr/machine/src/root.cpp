@@ -1,6 +1,31 @@
 // Why an object lives: by what CoreCLR's handles and objects reference, while all other threads are suspended.
 #include "machine.h"
 
+namespace {
+
+// Objects, each with the least name of those from which a chain of the same length leads to it.
+using Layer = std::map<Object*, uint64_t>;
+
+void reach(Layer& layer, const Layer& met, Object* object, uint64_t from) {
+    if (object == nullptr || met.count(object) != 0) return;
+    uint64_t& least = layer.emplace(object, from).first->second;
+    if (from < least) least = from;
+}
+
+// What fields and attachments lead to from a layer, and was not met.
+Layer beyond(const Layer& layer, const Layer& met, const std::multimap<Object*, Object*>& attached) {
+    Layer next;
+    for (auto& each : layer) {
+        Cell* cell = (Cell*)each.first;
+        for (int field = 0; field < fields_of(cell); field++) reach(next, met, cell->fields[field], each.second);
+        auto led = attached.equal_range(each.first);
+        for (auto other = led.first; other != led.second; ++other) reach(next, met, other->second, each.second);
+    }
+    return next;
+}
+
+}  // namespace
+
 // What statics reference, what waits to be finalized, and what handles hold.
 std::vector<Object*> Machine::anchors() {
     std::vector<Object*> found(statics_, statics_ + 16);
@@ -18,7 +43,6 @@ std::multimap<Object*, Object*> Machine::attachments() {
     return found;
 }
 
-// Layer by layer, with the least name from which each object is reached.
 std::string Machine::root(Caller& caller, const Line& line) {
     std::lock_guard<std::mutex> lock(suspends_);
     engine::Alone alone;
@@ -26,27 +50,15 @@ std::string Machine::root(Caller& caller, const Line& line) {
     Object* goal = caller.objects[line.at(1)];
     if (goal == nullptr) return "nullref";
     std::multimap<Object*, Object*> attached = attachments();
-    std::map<Object*, uint64_t> layer, met;
+    Layer layer, met;
     for (Object* each : anchors())
         if (each != nullptr) layer[each] = ((Cell*)each)->name;
-    for (int length = 0; !layer.empty(); length++) {
-        if (layer.count(goal) != 0)
-            return "root " + std::to_string(layer[goal] >> 32) + "." + std::to_string(layer[goal] & 0xFFFFFFFF) + " " +
-                   std::to_string(length);
+    size_t length = 0;
+    for (; !layer.empty() && layer.count(goal) == 0; length++) {
         met.insert(layer.begin(), layer.end());
-        std::map<Object*, uint64_t> next;
-        auto reach = [&](Object* object, uint64_t from) {
-            if (object == nullptr || met.count(object) != 0) return;
-            auto found = next.emplace(object, from).first;
-            if (from < found->second) found->second = from;
-        };
-        for (auto& each : layer) {
-            Cell* cell = (Cell*)each.first;
-            for (int field = 0; field < fields_of(cell); field++) reach(cell->fields[field], each.second);
-            auto led = attached.equal_range(each.first);
-            for (auto other = led.first; other != led.second; ++other) reach(other->second, each.second);
-        }
-        layer.swap(next);
+        layer = beyond(layer, met, attached);
     }
-    return "unrooted";
+    if (layer.empty()) return "unrooted";
+    uint64_t name = layer[goal];
+    return "root " + std::to_string(name >> 32) + "." + std::to_string(name & 0xFFFFFFFF) + " " + std::to_string(length);
 }
