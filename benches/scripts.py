@@ -53,6 +53,9 @@ def of_fields():
             for name, beside in BESIDE.items():
                 yield collected(f"`collect {generation}`, {objects:,} old, {name}", graph(objects, beside) + AGED,
                                 [f"collect {generation}"], often)
+    idle = ["new r0 0", "cadd r0 r1"] * 8000
+    for name, beside in (("strong handles", []), ("beside 8,000 idle slots", idle)):
+        yield collected(f"`collect 0`, 10 old, {name}", graph(10, []) + beside + AGED, ["collect 0"], 2000)
     pins = graph(5000, [], ["hnew h1 pinned r0"])
     yield collected("`collect 2`, 5,000 old, every tenth pinned too", pins + AGED, ["collect 2"], 20)
     yield collected("`collect 0`, 5,000 young", [], ["new r0 2", "hnew h0 strong r0"] * 5000 + ["collect 0"], 3)

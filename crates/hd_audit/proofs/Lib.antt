@@ -17,6 +17,7 @@ pub mod PinnedAddresses
 pub mod AnchorGains
 pub mod RootSearch
 pub mod RootReplies
+pub mod ChainEdges
 pub mod JudgedLines
 pub mod LinesSoFar
 pub mod StepNumbers

@@ -1,7 +1,7 @@
 // The lines of a text, judged in order.
 ghost use Rattle.std.specs.Prelude.{◌≡◌, ℕ, ◌+◌, ◌<◌, ◌≤◌, ◌^◌, if◌then◌else◌, List, [], ◌∷◌, ◌++◌, length, position, replicate, slice_get, slice_index, slice_index_or, bytes_eq, IfOk, IfSome, IsSome};
 ghost use Rattle.std.specs.FinMap.{len};
-ghost use Rattle.hd_model.specs.declared.limits.TheConstants.{HEAP, BLOCKS, CALLERS, MOST_BYTES};
+ghost use Rattle.hd_model.specs.declared.limits.TheConstants.{BLOCKS, CALLERS};
 ghost use Rattle.hd_model.specs.{FullText.full_line, Grammar.is_line_end, Judged.cut_lines};
 ghost use Rattle.hd_model.specs.Text.{is_collect};
 ghost use Rattle.hd_model.specs.Valid.{IsValid};
@@ -28,9 +28,7 @@ pub enum Verdict {
 
 /// Judges a text against a script, a heap of `heap` cells and a table of `blocks` blocks.
 pub fn audit(alloc: Global, scripts: &Scripts, text: &[u8], heap: u32, blocks: u32) -> Verdict
-    requires text { length text.now ≤ MOST_BYTES }
-    requires heap { (3 ≤ heap) × (heap ≤ HEAP) }
-    requires blocks { (1 ≤ blocks) × (blocks ≤ BLOCKS) }
+    requires { blocks ≤ BLOCKS }
     ensures { IsRight (numbers_of scripts.now heap blocks) scripts.now text.now result }
 {
     match judge(alloc, scripts, text, heap, blocks) {

@@ -1,7 +1,7 @@
 // The search for why an object lives: breadth first from the anchors, which are taken by identity.
 // So an object is first found along a shortest chain, and along one from the least anchor that
 // has one.
-ghost use Rattle.std.specs.Prelude.{◌≡◌, ℕ, ◌<◌, ◌^◌, ◌↔◌, [], ◌∷◌, Option, Some, IfOk, MatchOption, AllPairs, Contains};
+ghost use Rattle.std.specs.Prelude.{◌≡◌, ℕ, ◌<◌, ◌^◌, ◌↔◌, [], ◌∷◌, Option, Some, IfOk, IfSome, MatchOption, AllPairs, Contains};
 ghost use Rattle.std.specs.FinMap as map;
 ghost use Rattle.hd_model.specs.Anchors.{AnchorOf, EdgeOf, IsShortest, IsUnrooted};
 ghost use Rattle.hd_model.specs.Scene.{fields_in};
@@ -183,11 +183,14 @@ fn anchors(machine: &Machine) -> Result<Vec<u64>, Memory>
 // Where a shortest chain to an object begins, if there is one.
 fn root_of(machine: &Machine, goal: Id) -> Result<Option<Origin>, Memory>
     requires { IsWellFormed machine.now.numbers machine.now.state }
-    ensures { let edge = EdgeOf machine.now.state in
+    ensures shortest { let edge = EdgeOf machine.now.state in
         let anchor = AnchorOf machine.now.state in
         IfOk result (λ found. MatchOption found (IsUnrooted edge anchor goal)
         (λ o. IsShortest edge anchor (λ (x : Name). x.0) goal o.from o.edges)) }
+    ensures few { IfOk result (λ found. IfSome found (λ o. o.edges < 2 ^ 32)) }
 {
+    // For the proof: each object takes some of the cells.
+    let _used = machine.used();
     let attached = Attached::of(machine)?;
     let anchors = anchors(machine)?;
     let mut search = Search::open(machine.alloc);
@@ -210,10 +213,6 @@ impl Machine {
         let found = root_of(self, goal)?;
         match found {
             Some(Origin { from, edges }) => {
-                // No heap has room for that many objects.
-                if edges > u64::from(u32::MAX) {
-                    return Err(Memory);
-                }
                 let arrows = edges as u32;
                 Ok(Ok(Made::of(Reply::Chain { from, arrows })))
             }

@@ -5,7 +5,7 @@ use lib.ListN.{get_elem?}
 use Rattle.hd_custody.proofs.WordTotals.{total_set, total_member, total_at_set}
 use Rattle.hd_custody.proofs.HeldSlots.{held_times_append, held_times_out, held_times_picks, has_member, every_append, every_picks}
 use Rattle.hd_custody.proofs.SlotWeights.{weight_low, kind_word_is, kind_word_set, named_kind, named_none, named_block, mask_empty}
-use Rattle.hd_custody.proofs.{SlotSteps.held_alive, SlotSteps.has_once, ViewChange.place_there, ViewChange.seats_alike}
+use Rattle.hd_custody.proofs.{SlotSteps.held_alive, SlotSteps.has_once, ViewChange.place_there, ViewChange.seats_alike, JournalPrefixes.whole_prefix}
 
 -- ---- a step on a word below 257
 
@@ -104,7 +104,7 @@ module _ {W : Type 0} {m : Ghosts W} {numbers : Numbers} {s : State (Option W) (
       | inr h ↦ absurd (let one = h.0 in omega arith)
     ]
 
-    won_holding : (j : ℕ) (u : View W) → u.is_spent ≡ false → ((j ≡ id) × (took c.world v ≡ u))
+    won_holding : (j : ℕ) (u : View W) → u.is_spent ≡ false → ((j ≡ id) × (took m c.world v ≡ u))
         ⊎ ((j ≢ id) × (get_elem? s.views j ≡ some u)) → Holds (get_or (set s.words 0 1) 0 0) id c.world [] j u
     won_holding j u alive (inl here) has = (
       get_or-set_same s.words 0 1 0 (omega (arith, c.wide)),
@@ -118,7 +118,7 @@ module _ {W : Type 0} {m : Ghosts W} {numbers : Numbers} {s : State (Option W) (
     pub won : Custodied m numbers (record {
       words = set s.words 0 1;
       homes = set s.homes 0 none;
-      views = set s.views id (took c.world v);
+      views = set s.views id (took m c.world v);
     })
     won = record {
       world = c.world;
@@ -132,25 +132,27 @@ module _ {W : Type 0} {m : Ghosts W} {numbers : Numbers} {s : State (Option W) (
         free_or_held = inr (
           get_or-set_same s.words 0 1 0 (omega (arith, c.wide)),
           record {
-            view = took c.world v;
+            view = took m c.world v;
             gone = ap (λ hs. set hs 0 none) stored_world.0;
-            there = place_there s.views id v (took c.world v) there;
+            there = place_there s.views id v (took m c.world v) there;
             lives = lives;
             has = refl;
           },
         );
-        holding = λ j u at alive. won_holding j u alive (at_set s.views id j (took c.world v) u at);
+        holding = λ j u at alive. won_holding j u alive (at_set s.views id j (took m c.world v) u at);
       };
-      seats = seats_alike s.views id v there v.held v.trace v.trace_number v.began_empty true
-          (v.gate_steps + 1) (Some c.world) [] c.made c.owner _ _ numbers c.seats;
+      seats = seats_alike s.views id v there v.held v.trace v.trace_number v.began_empty v.began_with_gate true
+          (v.gate_steps + 1) (Some c.world) [] (m.journal c.world) c.made c.owner _ _ numbers c.seats
+          (λ _. whole_prefix (m.journal c.world));
       kinds = λ b real lt. kind_same 1 b real ∙ c.kinds b real lt
           ∙ ap (λ cs. changed cs (m.kind c.world) b) stored_world.1;
       slots = slots_low (m.live c.world) s.words s.views c.slots id v there lives c.wide 0 1 (omega arith)
-          (m.live c.world) (took c.world v) lives
+          (m.live c.world) (took m c.world v) lives
           (λ x real. ap (λ n. held_times x v.held + one_if (m.live c.world x) + named n)
           (sym (gate_kinds 1 x real)))
           (λ j le ne. gate_kinds 1 (word j) (cell_real j le ne)) (others_real 1)
           (λ k p e. belongs_gate 1 p (c.slots.held id v there lives k p e));
+      sound = c.sound;
     }
 
     dead_at : (p : ℕ × ℕ) → Belongs s.words p → Has p.0 v.held → (m.live c.world p.0 ≡ false)
@@ -172,10 +174,12 @@ module _ {W : Type 0} {m : Ghosts W} {numbers : Numbers} {s : State (Option W) (
           had_not = false_from_ne_true v.has_gate
               (λ has. (let h = c.gate.holding id v there lives has in omega (arith, h.0, free)));
           part = sym f.own_part;
+          goes_on = f.has_seen;
           room = (let r = total_member room_of s.views id v there in let is : room_of v ≡ v.room =
               ap (λ b. cond b 0 v.room) lives in let most = c.seats.roomy in omega arith);
           sized = c.sized ∙ sym f.sized;
           held = λ k p e. dead_at p (c.slots.held id v there lives k p e) (has_member v.held k p e);
+          sound = c.sound;
         }
 
   -- ---- what the holder knows
@@ -246,10 +250,12 @@ module _ {W : Type 0} {m : Ghosts W} {numbers : Numbers} {s : State (Option W) (
           );
           holding = λ j u at alive. store_holding j u alive (at_set s.views id j stores u at);
         };
-        seats = seats_alike s.views id v there held v.trace v.trace_number v.began_empty v.has_gate
-            v.gate_steps v.taken ((b, k) ∷ v.changes) c.made c.owner _ _ numbers c.seats;
+        seats = seats_alike s.views id v there held v.trace v.trace_number v.began_empty v.began_with_gate
+            v.has_gate v.gate_steps v.taken ((b, k) ∷ v.changes) v.seen c.made c.owner _ _ numbers c.seats
+            (λ alive. (c.seats.each id v there alive).has_seen);
         kinds = λ d low under. store_kind d low under (cases_eq d b);
         slots = slots;
+        sound = c.sound;
       }
 
       pub word_here : (x : ℕ) → x / ROWS ≡ b → kind_word (set s.words b k) (x / ROWS) ≡ k

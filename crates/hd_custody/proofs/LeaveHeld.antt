@@ -16,10 +16,11 @@ module _ {W : Type 0} (m : Ghosts W) (u w : W) (v : View W) where
       ∙ filter_stays (λ p. not (m.live w p.0)) v.held (λ n p at. ap not (dead n p at))
 
 -- a world that was not changed goes back as it was taken
-pub unchanged : {W : Type 0} (m : Ghosts W) (v : View W) (w : W) → Entered m v w → Follows m w w (took w v)
+pub unchanged : {W : Type 0} (m : Ghosts W) (v : View W) (w : W) → Entered m v w → Follows m w w (took m w v)
 unchanged m v w entered = record {
   kinds = λ b real low. refl;
   sized = entered.sized;
   lives = λ x real on. Rattle.std.proofs.Common.inl on;
   goes_on = Rattle.std.proofs.Common.inl (refl, refl);
+  sound = entered.sound;
 }

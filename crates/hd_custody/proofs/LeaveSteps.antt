@@ -1,5 +1,5 @@
 -- The gate given back, and the store of 0 into a kind word.
-use Rattle.hd_custody.proofs.Basics.{Allows, BLOCKS, Belongs, Bool, Continues, Custodied, Entry, Every, FIRST_MASK, FIRST_QUICK, Fits, Follows, Ghosts, Has, Holds, List, Me, Numbers, Option, ROWS, Seats, Some, Sorted, State, View, WORDS, [], and_parts, ap, arith, assigned, at_set, cases_eq, cases_lt, changed, cleared, closed, cond, entered, eq-eqb, false, filter, gave_back, get_or, get_or-set_same, gives, held_by, held_times, inl, inr, keeps, kind_word, left, length, length-append, length-set, named, ne_eqb, not, not-true, one_if, opened, part_of, picks, refl, room_of, same_Some, set, step, subst, suc, sym, takes, tally, took, total, true, weight, without_block, zero, ℕ, ◌%◌, ◌&&◌, ◌*◌, ◌++◌, ◌+◌, ◌-◌, ◌/◌, ◌<◌, ◌==◌, ◌∙◌, ◌∷◌, ◌≡◌, ◌≢◌, ◌≤◌, ◌⊎◌}
+use Rattle.hd_custody.proofs.Basics.{Allows, BLOCKS, Belongs, Bool, Continues, Custodied, Entry, Every, FIRST_MASK, FIRST_QUICK, Fits, Follows, Ghosts, Has, Holds, IsPrefix, List, Me, Numbers, Option, ROWS, Seats, Some, Sorted, State, View, WORDS, [], and_parts, ap, arith, assigned, at_set, cases_eq, cases_lt, changed, cleared, closed, cond, entered, eq-eqb, false, filter, gave_back, get_or, get_or-set_same, gives, held_by, held_times, inl, inr, keeps, kind_word, left, length, length-append, length-set, named, ne_eqb, not, not-true, one_if, opened, part_of, picks, refl, room_of, same_Some, set, step, subst, suc, sym, takes, tally, took, total, true, weight, without_block, zero, ℕ, ◌%◌, ◌&&◌, ◌*◌, ◌++◌, ◌+◌, ◌-◌, ◌/◌, ◌<◌, ◌==◌, ◌∙◌, ◌∷◌, ◌≡◌, ◌≢◌, ◌≤◌, ◌⊎◌}
 use mathlib.Core.Option.{some, none, some-injective, some-ne-none}
 use lib.ListN.{get_elem?}
 use Rattle.hd_custody.specs.Counts.{slot_count}
@@ -7,7 +7,7 @@ use Rattle.hd_custody.proofs.WordTotals.{hit, total_set, total_member, total_two
 use Rattle.hd_custody.proofs.HeldSlots.{true_false, held_times_append, held_times_kept, held_times_dropped, held_times_out, held_times_picks, has_member, every_append, every_filter, every_picks, every_cons}
 use Rattle.hd_custody.proofs.SlotWeights.{weight_low, weight_cell, kind_word_is, kind_word_out, kind_word_set, named_kind, named_none, named_most, named_block, off_of}
 use Rattle.hd_custody.proofs.SlotSteps.{held_alive, has_named, has_once, placed}
-use Rattle.hd_custody.proofs.ViewChange.{fits_as, kept_set}
+use Rattle.hd_custody.proofs.{ViewChange.fits_as, ViewChange.kept_set, JournalPrefixes.whole_prefix, JournalPrefixes.prefix_goes_on}
 use Rattle.hd_custody.proofs.GateSteps.{slots_low, gate_kinds, cell_real, others_real, belongs_gate, kind_same, won, learned, mine, away, alone_holds, storing, word_here, word_other, old_belongs, held_none, opens}
 
 -- what holds of each that passes a test
@@ -80,6 +80,11 @@ module _ {W : Type 0} {m : Ghosts W} {numbers : Numbers} {s : State (Option W) (
     part_stays = part_goes_on v.number v.room (m.journal before) (m.spare before) (m.journal w)
         (m.spare w) f.goes_on
 
+    -- what was seen of the journal is so still
+    sees : (front : List Entry) → IsPrefix front (m.journal before) → IsPrefix front (m.journal w)
+    sees front = prefix_goes_on v.number v.room (m.journal before) (m.spare before) (m.journal w)
+        (m.spare w) f.goes_on front
+
     apart : (n j : ℕ) → c.owner n ≡ j → j ≢ suc id → n ≢ v.number
     apart n j is other same = other (sym is ∙ ap c.owner same ∙ fits.owned)
 
@@ -90,12 +95,14 @@ module _ {W : Type 0} {m : Ghosts W} {numbers : Numbers} {s : State (Option W) (
           low = fits.low;
           owned = fits.owned;
           own_part = refl;
+          has_seen = whole_prefix (m.journal w);
           knows = fits.knows;
           alone = fits.alone;
           ended_parts = λ k e at. (let h = fits.ended_parts k e at in (
             h.0,
             h.1,
             h.2 ∙ sym (part_stays e.0 (apart e.0 0 h.1 (λ z. omega arith))),
+            sees e.2 h.3,
           ));
           sized = fits.sized;
         } in
@@ -106,12 +113,14 @@ module _ {W : Type 0} {m : Ghosts W} {numbers : Numbers} {s : State (Option W) (
           owned = h.owned;
           own_part = h.own_part ∙ sym (part_stays u.number
               (apart u.number (suc j) h.owned (λ z. other.0 (omega arith))));
+          has_seen = sees u.seen h.has_seen;
           knows = h.knows;
           alone = h.alone;
           ended_parts = λ k e at. (let g = h.ended_parts k e at in (
             g.0,
             g.1,
             g.2 ∙ sym (part_stays e.0 (apart e.0 0 g.1 (λ z. omega arith))),
+            sees e.2 g.3,
           ));
           sized = h.sized;
         }
@@ -266,6 +275,7 @@ module _ {W : Type 0} {m : Ghosts W} {numbers : Numbers} {s : State (Option W) (
           (c.slots.held id v there lives k p e)))
           (every_picks (Belongs words') slot_count ends ROWS (λ r. m.kind w ((ROWS + r) / ROWS))
           ended_belongs));
+      sound = f.sound;
     }
 
   -- ---- a store of 0 into the kind word of a block whose slots are all held
@@ -356,7 +366,7 @@ module _ {W : Type 0} (m : Ghosts W) (numbers : Numbers) (slots id : ℕ) (v : V
   pub enter_steps : Steps 0 (λ _. 1) (entered m (step slots 0 1 0 none) (v, carried))
   enter_steps s c len at small = elim c.gate.free_or_held [
     | inl free ↦ (
-      took c.world v,
+      took m c.world v,
       takes 0 (Some c.world),
       ap (λ hs. get_elem? hs 0) free.1,
       won c id v at lives free.0,

@@ -3,6 +3,7 @@ pub mod WordTotals
 pub mod HeldSlots
 pub mod SlotWeights
 pub mod SlotSteps
+pub mod JournalPrefixes
 pub mod ViewChange
 pub mod WordSteps
 pub mod GateSteps
@@ -22,3 +23,4 @@ pub mod CallRanks
 pub mod CallEnds
 pub mod LeaveHeld
 pub mod SlotPlaces
+pub mod FreeGate

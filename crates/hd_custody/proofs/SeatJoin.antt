@@ -1,5 +1,5 @@
 -- Seats that go: a join.
-use Rattle.hd_custody.proofs.Basics.{Bool, Custodied, Entry, Fits, Ghosts, HasNumber, List, Numbers, Option, Out, State, View, [], ap, arith, at_longer, at_set, cases_eq, cond, eq-eqb, false, held_by, held_times, inl, inr, joined, length, length-append, ne_eqb, part_of, refl, room_of, set, set_else, spent, subst, sym, tally, true, ℕ, ◌++◌, ◌+◌, ◌<◌, ◌==◌, ◌∙◌, ◌∷◌, ◌≡◌, ◌≢◌, ◌⊎◌}
+use Rattle.hd_custody.proofs.Basics.{Bool, Custodied, Ended, Fits, Ghosts, HasNumber, IsPrefix, List, Numbers, Option, Out, State, View, [], ap, arith, at_longer, at_set, cases_eq, cond, eq-eqb, false, held_by, held_times, inl, inr, joined, length, length-append, ne_eqb, part_of, refl, room_of, set, set_else, spent, subst, sym, tally, true, ℕ, ◌++◌, ◌+◌, ◌<◌, ◌==◌, ◌∙◌, ◌∷◌, ◌≡◌, ◌≢◌, ◌⊎◌}
 use mathlib.Core.Option.{some, some-injective, some-ne-none}
 use lib.ListN.{get_elem?}
 use Rattle.hd_custody.proofs.{WordTotals.total_set, HeldSlots.true_false, SlotSteps.held_alive}
@@ -60,13 +60,18 @@ module _ {W : Type 0} (m : Ghosts W) (numbers : Numbers) (id other : ℕ) (v w :
   spent_dead : (u : View W) → spent ≡ u → u.is_spent ≡ false → ⊥
   spent_dead u e alive = true_false u.is_spent (ap (λ (z : View W). z.is_spent) (sym e)) alive
 
-  ended_at : (k : ℕ) (e : ℕ × List Entry) → get_elem? (v.ended ++ (w.number, w.part) ∷ []) k ≡ some e
+  ended_at : (k : ℕ) (e : Ended) → get_elem? (v.ended ++ (w.number, w.part, w.seen) ∷ []) k ≡ some e
       → (e.0 < c.made) × (owner' e.0 ≡ 0) × (e.1 ≡ part_of (m.journal c.world) e.0)
-  ended_at k e at = elim (at_end v.ended (w.number, w.part) e k at) [
-    | inl h ↦ (let g = own.ended_parts k e h.1 in (g.0, goes (e.0 == w.number) e.0 g.1, g.2))
-    | inr h ↦ subst (λ (z : ℕ × List Entry). (z.0 < c.made) × (owner' z.0 ≡ 0)
-        × (z.1 ≡ part_of (m.journal c.world) z.0)) h.1
-        (his.low, ap (λ b. cond b 0 (c.owner w.number)) (eq-eqb w.number w.number refl), his.own_part)
+      × IsPrefix e.2 (m.journal c.world)
+  ended_at k e at = elim (at_end v.ended (w.number, w.part, w.seen) e k at) [
+    | inl h ↦ (let g = own.ended_parts k e h.1 in (g.0, goes (e.0 == w.number) e.0 g.1, g.2, g.3))
+    | inr h ↦ subst (λ (z : Ended). (z.0 < c.made) × (owner' z.0 ≡ 0)
+        × (z.1 ≡ part_of (m.journal c.world) z.0) × IsPrefix z.2 (m.journal c.world)) h.1 (
+          his.low,
+          ap (λ b. cond b 0 (c.owner w.number)) (eq-eqb w.number w.number refl),
+          his.own_part,
+          his.has_seen,
+        )
   ]
 
   fits_at : (j : ℕ) (u : View W) → u.is_spent ≡ false → Case j u
@@ -77,6 +82,7 @@ module _ {W : Type 0} (m : Ghosts W) (numbers : Numbers) (id other : ℕ) (v w :
         low = own.low;
         owned = stays v.number (λ e. not_first (sym e ∙ first)) ∙ own.owned;
         own_part = own.own_part;
+        has_seen = own.has_seen;
         knows = own.knows;
         alone = λ ne. absurd (ne first);
         ended_parts = ended_at;
@@ -89,9 +95,15 @@ module _ {W : Type 0} (m : Ghosts W) (numbers : Numbers) (id other : ℕ) (v w :
         owned = stays u.number (λ e. rest.0 (let a = ap c.owner e in let b = h.owned in let d =
             his.owned in omega arith)) ∙ h.owned;
         own_part = h.own_part;
+        has_seen = h.has_seen;
         knows = h.knows;
         alone = h.alone;
-        ended_parts = λ k e at. (let g = h.ended_parts k e at in (g.0, goes (e.0 == w.number) e.0 g.1, g.2));
+        ended_parts = λ k e at. (let g = h.ended_parts k e at in (
+          g.0,
+          goes (e.0 == w.number) e.0 g.1,
+          g.2,
+          g.3,
+        ));
         sized = h.sized;
       }
 
@@ -112,14 +124,13 @@ module _ {W : Type 0} (m : Ghosts W) (numbers : Numbers) (id other : ℕ) (v w :
             lives,
             inr (
               length v.ended,
-              w.part,
-              subst (λ k. get_elem? (v.ended ++ (w.number, w.part) ∷ [])
-                  (length v.ended) ≡ some (k, w.part)) is (at_last v.ended (w.number, w.part) (length v.ended)
-                  refl),
+              (w.number, w.part, w.seen),
+              at_last v.ended (w.number, w.part, w.seen) (length v.ended) refl,
+              is,
             ),
           ),
         )
-        | inr e ↦ absurd (some-ne-none (n, e.1) (sym (ap (λ es. get_elem? es e.0) (sym (his.alone not_first))
+        | inr e ↦ absurd (some-ne-none e.1 (sym (ap (λ es. get_elem? es e.0) (sym (his.alone not_first))
             ∙ e.2)))
       ]
   kept_at n i u at has (inr stay) (inl here) =
@@ -130,7 +141,7 @@ module _ {W : Type 0} (m : Ghosts W) (numbers : Numbers) (id other : ℕ) (v w :
         there_both,
         elim mine.1 [
           | inl is ↦ (lives, inl is)
-          | inr e ↦ (lives, inr (e.0, e.1, at_longer v.ended ((w.number, w.part) ∷ []) e.0 (n, e.1) e.2))
+          | inr e ↦ (lives, inr (e.0, e.1, at_longer v.ended ((w.number, w.part, w.seen) ∷ []) e.0 e.1 e.2, e.3))
         ],
       )
   kept_at n i u at has (inr stay) (inr far) = (
@@ -182,12 +193,12 @@ module _ {W : Type 0} (m : Ghosts W) (numbers : Numbers) (id other : ℕ) (v w :
       counted = (
           let a = total_set tally halfway other w spent there' in
           let b = total_set tally s.views id v both there in
-          let l = length-append v.ended ((w.number, w.part) ∷ []) in
+          let l = length-append v.ended ((w.number, w.part, w.seen) ∷ []) in
           let tw : tally w ≡ 1 = ap (λ t. cond t 0 (length w.ended + 1)) lives'
           ∙ ap (λ es. length es + 1) (his.alone not_first) in
           let tv : tally v ≡ length v.ended + 1 = ap (λ t. cond t 0 (length v.ended + 1)) lives in
-          let tb : tally both ≡ length (v.ended ++ (w.number, w.part) ∷ []) + 1 =
-          ap (λ t. cond t 0 (length (v.ended ++ (w.number, w.part) ∷ []) + 1)) lives in
+          let tb : tally both ≡ length (v.ended ++ (w.number, w.part, w.seen) ∷ []) + 1 =
+          ap (λ t. cond t 0 (length (v.ended ++ (w.number, w.part, w.seen) ∷ []) + 1)) lives in
           let d = c.seats.counted in
           omega arith);
       kept = λ n lt. (let a = c.seats.kept n lt in kept_at n a.0 a.1 a.2 a.3 (cases_eq a.0 other)
@@ -208,4 +219,5 @@ module _ {W : Type 0} (m : Ghosts W) (numbers : Numbers) (id other : ℕ) (v w :
         let e : held_by x both ≡ held_by x v = refl in
         let none : held_by x w ≡ 0 = held_alive x w lives' ∙ ap (λ h. held_times x h) empty in
         omega arith);
+    sound = c.sound;
   }

@@ -3,7 +3,7 @@ use Rattle.hd_custody.proofs.Basics.{Bool, Custodied, Fits, Gate, Ghosts, HasNum
 use mathlib.Core.Option.{some, none, some-injective, some-ne-none}
 use lib.ListN.{get_elem?}
 use Rattle.hd_custody.proofs.{WordTotals.total_set, WordTotals.total_snoc, HeldSlots.true_false}
-use Rattle.hd_custody.proofs.ViewChange.{fits_as, kept_set, out_set}
+use Rattle.hd_custody.proofs.{ViewChange.fits_as, ViewChange.kept_set, ViewChange.out_set, JournalPrefixes.empty_prefix}
 use mathlib.Core.Option as maybe
 
 pub at_end : {A : Type 0} (l : List A) (a b : A) (j : ℕ) → get_elem? (l ++ a ∷ []) j ≡ some b
@@ -116,12 +116,14 @@ module _ {W : Type 0} (m : Ghosts W) (numbers : Numbers) (id share : ℕ) (v : V
         low = (let low = own.low in omega arith);
         owned = old_owner v.number own.low ∙ own.owned;
         own_part = own.own_part;
+        has_seen = own.has_seen;
         knows = λ _. ap (λ n. n + 1) made_is;
         alone = own.alone;
         ended_parts = λ k e at. (let h = own.ended_parts k e at in (
           omega (arith, h.0),
           old_owner e.0 h.0 ∙ h.1,
           h.2,
+          h.3,
         ));
         sized = own.sized;
       } in
@@ -131,6 +133,7 @@ module _ {W : Type 0} (m : Ghosts W) (numbers : Numbers) (id share : ℕ) (v : V
         low = (let low = h.low in omega arith);
         owned = old_owner u.number h.low ∙ h.owned;
         own_part = h.own_part;
+        has_seen = h.has_seen;
         knows = λ z. absurd (other.0 (let a = ap c.owner (z ∙ sym first) in let b = h.owned in let d =
             own.owned in omega arith));
         alone = h.alone;
@@ -138,6 +141,7 @@ module _ {W : Type 0} (m : Ghosts W) (numbers : Numbers) (id share : ℕ) (v : V
           omega (arith, g.0),
           old_owner e.0 g.0 ∙ g.1,
           g.2,
+          g.3,
         ));
         sized = h.sized;
       }
@@ -146,6 +150,7 @@ module _ {W : Type 0} (m : Ghosts W) (numbers : Numbers) (id share : ℕ) (v : V
         low = omega (arith, made_is);
         owned = ap (λ b. cond b (suc (length s.views)) (c.owner v.made)) (eq-eqb v.made c.made made_is);
         own_part = sym (c.seats.unmade v.made (omega (arith, made_is)));
+        has_seen = empty_prefix [] (m.journal c.world) refl;
         knows = λ z. absurd (let some_now = some_made in omega (arith, made_is));
         alone = λ _. refl;
         ended_parts = λ k e at. absurd (some-ne-none e (sym at));
@@ -219,4 +224,5 @@ module _ {W : Type 0} (m : Ghosts W) (numbers : Numbers) (id share : ℕ) (v : V
         let b = total_set (held_by x) s.views id v left there in
         let e : held_by x left ≡ held_by x v = refl in
         omega arith);
+    sound = c.sound;
   }

@@ -1,8 +1,8 @@
 -- The table at its start and at its end.
-use Rattle.hd_custody.proofs.Basics.{BLOCKS, Custodied, Divided, Entry, FIRST_MASK, Final, Fits, Ghosts, HasNumber, IsUnused, List, Numbers, Option, ROWS, Seen, Some, State, View, WORDS, [], ap, arith, cases_eq, cases_lt, cond, false, get_or, inl, inr, kind_word, length, length-replicate, one_if, opening, part_of, refl, replicate, starting, subst, suc, sym, tally, weight, zero, ℕ, ◌+◌, ◌/◌, ◌<◌, ◌==◌, ◌^◌, ◌∙◌, ◌∷◌, ◌≡◌, ◌≢◌, ◌≤◌, ◌⊎◌}
+use Rattle.hd_custody.proofs.Basics.{BLOCKS, Custodied, Divided, Ended, FIRST_MASK, Final, Fits, Ghosts, HasNumber, IsUnused, List, Numbers, Option, ROWS, Seen, Some, State, View, WORDS, [], ap, arith, cases_eq, cases_lt, cond, false, get_or, inl, inr, kind_word, length, length-replicate, one_if, opening, part_of, refl, replicate, starting, subst, suc, sym, tally, weight, zero, ℕ, ◌+◌, ◌/◌, ◌<◌, ◌==◌, ◌^◌, ◌∙◌, ◌∷◌, ◌≡◌, ◌≢◌, ◌≤◌, ◌⊎◌}
 use mathlib.Core.Option.{some, some-injective, some-ne-none}
 use lib.ListN.{get_elem?}
-use Rattle.hd_custody.proofs.{WordTotals.total_two, WordTotals.total_at_none, HeldSlots.true_false, ViewChange.fits_as}
+use Rattle.hd_custody.proofs.{WordTotals.total_two, WordTotals.total_at_none, HeldSlots.true_false, ViewChange.fits_as, JournalPrefixes.empty_prefix}
 use Rattle.hd_custody.proofs.SlotWeights.{weight_zero, kind_word_is, kind_word_out, named_none}
 
 -- ---- the table at its start
@@ -43,6 +43,7 @@ module _ {W : Type 0} (m : Ghosts W) (world : W) (unused : IsUnused m world) whe
     low = omega arith;
     owned = refl;
     own_part = sym (ap (λ j. part_of j 0) unused.no_entries);
+    has_seen = empty_prefix [] (m.journal world) refl;
     knows = λ _. refl;
     alone = λ _. refl;
     ended_parts = λ k e at. absurd (some-ne-none e (sym at));
@@ -81,6 +82,7 @@ module _ {W : Type 0} (m : Ghosts W) (world : W) (unused : IsUnused m world) whe
       masks = λ i le lt. subst (λ n. n < (2 ^ ROWS)) (sym (zeros i)) (omega arith);
       empty_masks = λ b real lt none. zeros (BLOCKS + b);
     };
+    sound = unused.sound;
   }
 
 -- ---- the table at its end, where all seats that were made have ended in the first
@@ -114,7 +116,7 @@ module _ {W : Type 0} (m : Ghosts W) (numbers : Numbers) (id : ℕ) (v : View W)
   ]
 
   numbered : (n j : ℕ) (u : View W) → get_elem? s.views j ≡ some u → HasNumber n u → (j ≡ id) ⊎ (j ≢ id)
-      → (n ≡ 0) ⊎ ((k : ℕ) × (p : List Entry) × (get_elem? v.ended k ≡ some (n, p)))
+      → (n ≡ 0) ⊎ ((k : ℕ) × (e : Ended) × (get_elem? v.ended k ≡ some e) × (e.0 ≡ n))
   numbered n j u at has (inl here) =
       let same : u ≡ v = some-injective u v (sym at ∙ ap (get_elem? s.views) here ∙ there) in
       let mine : HasNumber n v = subst (λ z. HasNumber n z) same has in
@@ -129,9 +131,11 @@ module _ {W : Type 0} (m : Ghosts W) (numbers : Numbers) (id : ℕ) (v : View W)
       let made = own.knows first in record {
         sized = c.sized ∙ sym own.sized;
         own_part = ap (part_of (m.journal c.world)) (sym first) ∙ sym own.own_part;
-        ended_parts = λ k e at. sym (own.ended_parts k e at).2;
+        own_seen = own.has_seen;
+        ended_parts = λ k e at. (let h = own.ended_parts k e at in (sym h.2, h.3));
         each = λ n lt. (let a = c.seats.kept n (omega arith) in numbered n a.0 a.1 a.2 a.3 (cases_eq a.0 id));
         others = λ n le. c.seats.unmade n (omega arith);
+        sound = c.sound;
       }
 
 module _ {W : Type 0} (m : Ghosts W) (numbers : Numbers) (id : ℕ) (v : View W) (lives : v.is_spent ≡ false)

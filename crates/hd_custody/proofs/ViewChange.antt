@@ -1,13 +1,14 @@
 -- A step after which the seat's view has other slots held and another trace, and nothing else.
-use Rattle.hd_custody.proofs.Basics.{Bool, Custodied, Entry, FIRST_MASK, Fits, Gate, Ghosts, HasNumber, Holds, List, Numbers, Out, Seats, Slots, State, View, [], ap, arith, at_set, cases_eq, false, get_or, get_or-set_other, inl, inr, length-set, refl, room_of, set, set_else, subst, suc, sym, tally, zero, ℕ, ◌∙◌, ◌∷◌, ◌≡◌, ◌≢◌, ◌≤◌, ◌⊎◌}
+use Rattle.hd_custody.proofs.Basics.{Bool, Custodied, Entry, FIRST_MASK, Fits, Gate, Ghosts, HasNumber, Holds, IsPrefix, List, Numbers, Out, Seats, Slots, State, View, [], ap, arith, at_set, cases_eq, false, get_or, get_or-set_other, inl, inr, length-set, refl, room_of, set, set_else, subst, suc, sym, tally, zero, ℕ, ◌∙◌, ◌∷◌, ◌≡◌, ◌≢◌, ◌≤◌, ◌⊎◌}
 use mathlib.Core.Option.{some, none, some-injective}
 use lib.ListN.{get_elem?}
 use Rattle.hd_custody.proofs.WordTotals.{total_set}
 use mathlib.Core.Option as maybe
 
--- the view with these slots held, this trace, number of the trace, and whether it began with nothing
-abbrev pub reshaped : {W : Type 0} → List (ℕ × ℕ) → List (ℕ × ℕ × ℕ) → ℕ → Bool → View W → View W
-reshaped h t n e v = record v { held = h; trace = t; trace_number = n; began_empty = e }
+-- the view with these slots held, this trace, number of the trace, and whether it began with nothing, and with
+-- the gate
+abbrev pub reshaped : {W : Type 0} → List (ℕ × ℕ) → List (ℕ × ℕ × ℕ) → ℕ → Bool → Bool → View W → View W
+reshaped h t n e b v = record v { held = h; trace = t; trace_number = n; began_empty = e; began_with_gate = b }
 
 pub place_there : {A : Type 0} (xs : List A) (i : ℕ) (a b : A) → get_elem? xs i ≡ some a
     → get_elem? (set xs i b) i ≡ some b
@@ -64,46 +65,50 @@ module _ {W : Type 0} where
   ]
 
 module _ {W : Type 0} (views : List (View W)) (id : ℕ) (v : View W) (there : get_elem? views id ≡ some v)
-    (h : List (ℕ × ℕ)) (t : List (ℕ × ℕ × ℕ)) (n : ℕ) (e : Bool) (g : Bool) (z : ℕ)
-    (took : Rattle.std.specs.Prelude.Option W) (cs : List (ℕ × ℕ)) where
+    (h : List (ℕ × ℕ)) (t : List (ℕ × ℕ × ℕ)) (n : ℕ) (e b : Bool) (g : Bool) (z : ℕ)
+    (took : Rattle.std.specs.Prelude.Option W) (cs : List (ℕ × ℕ)) (sees : List Entry) where
   abbrev w : View W
   w = record v {
     held = h;
     trace = t;
     trace_number = n;
     began_empty = e;
+    began_with_gate = b;
     has_gate = g;
     gate_steps = z;
     taken = took;
     changes = cs;
+    seen = sees;
   }
 
   abbrev views' : List (View W)
   views' = set views id w
 
   fits_at : (made : ℕ) (owner : ℕ → ℕ) (journal : List Entry) (spare : ℕ) (numbers : Numbers)
-      → Seats made owner journal spare numbers views
+      → Seats made owner journal spare numbers views → (v.is_spent ≡ false → IsPrefix sees journal)
       → (i : ℕ) (u : View W) → u.is_spent ≡ false → ((i ≡ id) × (w ≡ u))
       ⊎ ((i ≢ id) × (get_elem? views i ≡ some u)) → Fits made owner journal numbers i u
-  fits_at made owner journal spare numbers s i u alive (inl here) =
+  fits_at made owner journal spare numbers s has i u alive (inl here) =
       let lives : v.is_spent ≡ false = ap (λ (z : View W). z.is_spent) here.1 ∙ alive in
       let f = s.each id v there lives in
       let mine : Fits made owner journal numbers id w = record {
         low = f.low;
         owned = f.owned;
         own_part = f.own_part;
+        has_seen = has lives;
         knows = f.knows;
         alone = f.alone;
         ended_parts = f.ended_parts;
         sized = f.sized;
       } in
       fits_as mine here
-  fits_at made owner journal spare numbers s i u alive (inr other) = s.each i u other.1 alive
+  fits_at made owner journal spare numbers s has i u alive (inr other) = s.each i u other.1 alive
 
   pub seats_alike : (made : ℕ) (owner : ℕ → ℕ) (journal : List Entry) (spare : ℕ) (numbers : Numbers)
-      → Seats made owner journal spare numbers views → Seats made owner journal spare numbers views'
-  seats_alike made owner journal spare numbers s = record {
-    each = λ i u at alive. fits_at made owner journal spare numbers s i u alive (at_set views id i w u at);
+      → Seats made owner journal spare numbers views → (v.is_spent ≡ false → IsPrefix sees journal)
+      → Seats made owner journal spare numbers views'
+  seats_alike made owner journal spare numbers s has = record {
+    each = λ i u at alive. fits_at made owner journal spare numbers s has i u alive (at_set views id i w u at);
     begun = s.begun;
     unmade = s.unmade;
     counted = (let c = total_set tally views id v w there in let d = s.counted in omega arith);
@@ -112,9 +117,9 @@ module _ {W : Type 0} (views : List (View W)) (id : ℕ) (v : View W) (there : g
   }
 
 module _ {W : Type 0} (views : List (View W)) (id : ℕ) (v : View W) (there : get_elem? views id ≡ some v)
-    (h : List (ℕ × ℕ)) (t : List (ℕ × ℕ × ℕ)) (n : ℕ) (e : Bool) where
+    (h : List (ℕ × ℕ)) (t : List (ℕ × ℕ × ℕ)) (n : ℕ) (e b : Bool) where
   abbrev x : View W
-  x = reshaped h t n e v
+  x = reshaped h t n e b v
 
   abbrev views'' : List (View W)
   views'' = set views id x
@@ -155,14 +160,14 @@ module _ {W : Type 0} (views : List (View W)) (id : ℕ) (v : View W) (there : g
 module _ {W : Type 0} {m : Ghosts W} {numbers : Numbers}
     {s : State (Rattle.std.specs.Prelude.Option W) (View W)} (c : Custodied m numbers s)
     (id : ℕ) (v : View W) (there : get_elem? s.views id ≡ some v)
-    (h : List (ℕ × ℕ)) (t : List (ℕ × ℕ × ℕ)) (k : ℕ) (e : Bool) where
+    (h : List (ℕ × ℕ)) (t : List (ℕ × ℕ × ℕ)) (k : ℕ) (e gated : Bool) where
   -- a step on a mask or cell keeps the rule where it keeps what the rule says of slots
   pub kept : (i n : ℕ) → FIRST_MASK ≤ i → Slots (m.live c.world) (set s.words i n)
-      (set s.views id (reshaped h t k e v))
+      (set s.views id (reshaped h t k e gated v))
       → Custodied m numbers (record {
         words = set s.words i n;
         homes = s.homes;
-        views = set s.views id (reshaped h t k e v);
+        views = set s.views id (reshaped h t k e gated v);
       })
   kept i n low slots = record {
     world = c.world;
@@ -172,10 +177,11 @@ module _ {W : Type 0} {m : Ghosts W} {numbers : Numbers}
     owner = c.owner;
     wide = length-set s.words i n ∙ c.wide;
     sized = c.sized;
-    gate = gate_alike s.views id v there h t k e c.world c.holder c.changes s.words s.homes c.gate i n
+    gate = gate_alike s.views id v there h t k e gated c.world c.holder c.changes s.words s.homes c.gate i n
         (λ z. omega arith);
-    seats = seats_alike s.views id v there h t k e v.has_gate v.gate_steps v.taken v.changes c.made c.owner
-        _ _ numbers c.seats;
+    seats = seats_alike s.views id v there h t k e gated v.has_gate v.gate_steps v.taken v.changes v.seen
+        c.made c.owner _ _ numbers c.seats (λ lives. (c.seats.each id v there lives).has_seen);
     kinds = λ b real lt. get_or-set_other s.words i b n 0 (λ z. omega arith) ∙ c.kinds b real lt;
     slots = slots;
+    sound = c.sound;
   }

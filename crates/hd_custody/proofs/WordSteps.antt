@@ -82,9 +82,9 @@ module _ {W : Type 0} {m : Ghosts W} {numbers : Numbers} {s : State (Option W) (
 
   -- ---- the steps, and the views they leave, with any trace
 
-  module _ (t : List (ℕ × ℕ × ℕ)) (k : ℕ) (e : Bool) where
+  module _ (t : List (ℕ × ℕ × ℕ)) (k : ℕ) (e gated : Bool) where
     abbrev shaped : List (ℕ × ℕ) → View W
-    shaped h = reshaped h t k e v
+    shaped h = reshaped h t k e gated v
 
     abbrev Kept : ℕ → ℕ → List (ℕ × ℕ) → Type 0
     Kept i n h = Custodied m numbers (record {
@@ -98,7 +98,7 @@ module _ {W : Type 0} {m : Ghosts W} {numbers : Numbers} {s : State (Option W) (
         → (FIRST_QUICK ≤ i → n ≢ 0 → (ROWS ≤ n) × (kind_word s.words (n / ROWS) ≡ cell_kind i + 1))
         → (i < FIRST_QUICK → n < (2 ^ ROWS)) → Every (Belongs s.words) h → Kept i n h
     moved i n h low within moves cell mask held =
-        kept c id v there h t k e i n low
+        kept c id v there h t k e gated i n low
         (slots_step (m.live c.world) s.words s.views c.slots id v there lives (shaped h) lives i n low
         (subst (λ n. i < n) (sym c.wide) within) moves cell mask held)
 
@@ -316,8 +316,8 @@ module _ {W : Type 0} (m : Ghosts W) (numbers : Numbers) (slots id : ℕ) (v : V
     keeps,
     tt,
     swaps c id v at lives (v.trace ++ (i, get_or s.words i 0, n) ∷ []) v.trace_number
-        v.began_empty i n cell.0 cell.1 has,
-    (refl, swap_shows c id v at lives [] 0 true i n cell.0 cell.1 has),
+        v.began_empty v.began_with_gate i n cell.0 cell.1 has,
+    (refl, swap_shows c id v at lives [] 0 true false i n cell.0 cell.1 has),
   )
 
   pub begin_steps : (i n : ℕ) → IsCell i → (n ≢ 0 → HasAs (n, cell_kind i + 1) v.held)
@@ -327,8 +327,8 @@ module _ {W : Type 0} (m : Ghosts W) (numbers : Numbers) (slots id : ℕ) (v : V
     keeps,
     tt,
     swaps c id v at lives ((i, get_or s.words i 0, n) ∷ []) (v.trace_number + 1)
-        (Rattle.hd_custody.specs.Counts.is_nil v.held) i n cell.0 cell.1 has,
-    (refl, swap_shows c id v at lives [] 0 true i n cell.0 cell.1 has),
+        (Rattle.hd_custody.specs.Counts.is_nil v.held) v.has_gate i n cell.0 cell.1 has,
+    (refl, swap_shows c id v at lives [] 0 true false i n cell.0 cell.1 has),
   )
 
   pub bank_steps : (i n : ℕ) → IsCell i → (n ≢ 0 → HasAs (n, cell_kind i + 1) v.held)
@@ -339,7 +339,7 @@ module _ {W : Type 0} (m : Ghosts W) (numbers : Numbers) (slots id : ℕ) (v : V
         keeps,
         tt,
         banks c id v at lives (v.trace ++ (i, y, cond (y == 0) n y) ∷ []) v.trace_number
-            v.began_empty i n cell.0 cell.1 has (y == 0) refl,
+            v.began_empty v.began_with_gate i n cell.0 cell.1 has (y == 0) refl,
         refl,
       )
 
@@ -350,7 +350,8 @@ module _ {W : Type 0} (m : Ghosts W) (numbers : Numbers) (slots id : ℕ) (v : V
         looked b y v,
         keeps,
         tt,
-        looks c id v at lives (v.trace ++ (b, y, y) ∷ []) v.trace_number v.began_empty b block.0 block.1,
+        looks c id v at lives (v.trace ++ (b, y, y) ∷ []) v.trace_number v.began_empty v.began_with_gate b
+            block.0 block.1,
         (refl, knows_kind c id v at lives b block.0 block.1),
       )
 
@@ -361,8 +362,8 @@ module _ {W : Type 0} (m : Ghosts W) (numbers : Numbers) (slots id : ℕ) (v : V
         drained i y v,
         keeps,
         tt,
-        drains c id v at lives (v.trace ++ (i, y, 0) ∷ []) v.trace_number v.began_empty i low lt,
-        (refl, row_fresh c id v at lives [] 0 true i low lt),
+        drains c id v at lives (v.trace ++ (i, y, 0) ∷ []) v.trace_number v.began_empty v.began_with_gate i low lt,
+        (refl, row_fresh c id v at lives [] 0 true false i low lt),
       )
 
   pub return_steps : (i block mask : ℕ) → i ≡ BLOCKS + block → IsBlock block → mask < (2 ^ ROWS)
@@ -374,7 +375,7 @@ module _ {W : Type 0} (m : Ghosts W) (numbers : Numbers) (slots id : ℕ) (v : V
         keeps,
         tt,
         backs c id v at lives (v.trace ++ (i, y, bit_or y mask) ∷ []) v.trace_number v.began_empty
-            i (omega arith) (omega arith) mask fits
+            v.began_with_gate i (omega arith) (omega arith) mask fits
             (subst (λ d. HasRows d mask v.held) (let e : block ≡ i - BLOCKS = omega arith in e) has),
         refl,
       )
@@ -386,7 +387,8 @@ module _ {W : Type 0} (m : Ghosts W) (numbers : Numbers) (slots id : ℕ) (v : V
     put_in i mask v,
     keeps,
     tt,
-    backs c id v at lives v.trace v.trace_number v.began_empty i (omega arith) (omega arith) mask fits
+    backs c id v at lives v.trace v.trace_number v.began_empty v.began_with_gate i (omega arith) (omega arith)
+        mask fits
         (subst (λ d. HasRows d mask v.held) (let e : block ≡ i - BLOCKS = omega arith in e) has),
     refl,
   )

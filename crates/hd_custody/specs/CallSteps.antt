@@ -51,10 +51,6 @@ module _ {W : Type 0} where
   abbrev pub with_view : View W → Acting W → Acting W
   with_view v a = record a { view = v }
 
-  -- the seat with the gate and the world
-  abbrev pub carrying : W → Acting W → Acting W
-  carrying w a = record a { view = took w a.view; out = (0, Some w) ∷ a.out }
-
   -- the view once block d, where it isn't 0, is a data block
   abbrev pub storing_data : ℕ → View W → View W
   storing_data d v = record v { changes = with_data d v.changes }
@@ -83,6 +79,10 @@ module _ {W : Type 0} where
       pub made : (x : ℕ) → Made (to_bank b x from.0 from.1) (to_bank b x to.0 to.1) c.view.held a c
 
 module _ {W : Type 0} (m : Ghosts W) where
+  -- the seat with the gate and the world
+  abbrev pub carrying : W → Acting W → Acting W
+  carrying w a = record a { view = took m w a.view; out = (0, Some w) ∷ a.out }
+
   -- what came, where it is no 0, was not held, is not live, and is of the kind with number k
   abbrev pub Offers : ℕ → View W → ℕ → Type 0
   Offers k v x = x ≢ 0 → Fresh m v x × KindIs m v (slot_block x) (k + 1)

@@ -1,5 +1,5 @@
--- Where a slot is, in plain words; and the words and bounds of a table, as numerals.
-use Rattle.std.specs.Prelude.{◌≡◌, ℕ, ◌+◌, ◌*◌, ◌<◌, ◌≤◌, false, true, Option, slice_index}
+-- Where a slot is and what a free gate means, in plain words; and the words and bounds of a table, as numerals.
+use Rattle.std.specs.Prelude.{◌≡◌, ◌⊎◌, ℕ, ◌+◌, ◌*◌, ◌<◌, ◌≤◌, false, true, List, [], ◌∷◌, Option, Some, slice_index}
 use Rattle.std.specs.Int.{bit_at}
 use mathlib.Core.Option.{some}
 use lib.ListN.{get_elem?}
@@ -7,12 +7,14 @@ use Rattle.atomic_table.specs.Table.{State}
 use Rattle.hd_model.specs.declared.data.Kind.{Kind}
 use Rattle.hd_model.specs.declared.held.Held.{Ghosts}
 use Rattle.hd_model.specs.Kinds.{kind_number}
+use Rattle.hd_model.specs.Run.{part_of}
 use Rattle.hd_model.specs.State.{Numbers}
 use Rattle.hd_custody.specs.declared.view.View.{View}
 use Rattle.hd_model.specs.declared.limits.TheConstants.{BLOCKS}
 use Rattle.hd_custody.specs.declared.words.TheConstants.{GATE, BANK, CACHE, WORDS, EXTRA_DATA}
 use Rattle.hd_custody.specs.Counts.{mask_word, quick_word, reserve_cell, free_cell, slot_block, slot_row, kind_word, named, held_times, IsCell, IsSlot, Has}
-use Rattle.hd_custody.specs.Rule.{Custodied}
+use Rattle.hd_custody.specs.Rule.{Custodied, Ended, HasNumber}
+use Rattle.hd_custody.specs.Views.{IsPrefix}
 
 -- a place where a slot may be
 pub data Spot : Type 0 where
@@ -52,6 +54,29 @@ module _ {W : Type 0} (m : Ghosts W) where
       (numbers : Numbers) (s : State (Option W) (View W)) (rule : Custodied m numbers s) (x : ℕ) → IsSlot x
       → (named (kind_word s.words (slot_block x)) ≡ 1 → IsInOnePlace rule.world s x)
       × (named (kind_word s.words (slot_block x)) ≡ 0 → (place : Spot) → IsAt rule.world s x place → ⊥)
+
+module _ {W : Type 0} (m : Ghosts W) where
+  -- The table's slot has this world, and nothing else is out of it. The kind words are its kinds, its journal
+  -- has of each seat and each ended part exactly that part, of nobody else an entry, and begins with what each
+  -- has seen; and it is sound.
+  pub record HasTheWorld (numbers : Numbers) (s : State (Option W) (View W)) (world : W) : Type 0 where
+    pub stored : s.homes ≡ some (Some world) ∷ []
+    pub sized : m.numbers world ≡ numbers
+    pub kinds : (b : ℕ) → 0 < b → b < BLOCKS + 1 → kind_word s.words b ≡ m.kind world b
+    pub parts : (i : ℕ) (v : View W) → get_elem? s.views i ≡ some v → v.is_spent ≡ false
+        → (v.part ≡ part_of (m.journal world) v.number) × IsPrefix v.seen (m.journal world)
+    pub ended_parts : (i : ℕ) (v : View W) → get_elem? s.views i ≡ some v → v.is_spent ≡ false
+        → (k : ℕ) (e : Ended) → get_elem? v.ended k ≡ some e
+        → (e.1 ≡ part_of (m.journal world) e.0) × IsPrefix e.2 (m.journal world)
+    pub others : (n : ℕ) → (part_of (m.journal world) n ≡ []) ⊎ ((i : ℕ) × (v : View W)
+        × (get_elem? s.views i ≡ some v) × HasNumber n v)
+    pub sound : m.sound world
+
+  -- Whenever the rule holds and the gate is free, the table's slot has such a world.
+  abbrev pub AFreeGateHasTheWorld : Type 0
+  AFreeGateHasTheWorld =
+      (numbers : Numbers) (s : State (Option W) (View W)) → Custodied m numbers s
+      → slice_index s.words GATE ≡ 0 → (world : W) × HasTheWorld numbers s world
 
 -- The gate is word 0, the kind word of block b word b, its mask word 256 + b; the words of the kind with
 -- number k begin at 513 + 127 k: the quick word, 63 reserve cells, 63 free cells.

@@ -16,7 +16,11 @@ use Rattle.hd_model.specs.declared.limits.TheConstants.{BLOCKS, ROWS}
 use Rattle.hd_custody.specs.declared.words.TheConstants.{FIRST_MASK, FIRST_QUICK, WORDS}
 use Rattle.hd_custody.specs.Counts.{mask_word, masked_block, slot_block, total, total_at, one_if, weight, held_times, kind_word, named, cell_kind, changed, Every}
 use Rattle.hd_custody.specs.Views.{numbers_of, took, swapped, banked, looked, drained, restored, put_in, opened, closed, gave_back}
-use Rattle.hd_custody.specs.Views.{Sorted, Fresh, KindIs}
+use Rattle.hd_custody.specs.Views.{IsPrefix, Sorted, Fresh, KindIs}
+
+-- a seat that ended: its number, its part, and what it had seen of the journal
+abbrev pub Ended : Type 0
+Ended = ℕ × List Entry × List Entry
 
 -- how many seats a view stands for: its own, and those that ended in it
 abbrev pub tally : {W : Type 0} → View W → ℕ
@@ -47,20 +51,22 @@ module _ {W : Type 0} where
     pub owned : owner v.number ≡ suc i
     -- it knows its own entries
     pub own_part : v.part ≡ part_of journal v.number
+    -- what it has seen of the journal is so still
+    pub has_seen : IsPrefix v.seen journal
     -- seat 0 knows how many numbers were given, and no other has seats that ended in it
     pub knows : v.number ≡ 0 → v.made ≡ made
     pub alone : v.number ≢ 0 → v.ended ≡ []
-    -- an ended part has the number of a seat that is no more, and that caller's entries
-    pub ended_parts : (k : ℕ) (e : ℕ × List Entry) → get_elem? v.ended k ≡ some e
-        → (e.0 < made) × (owner e.0 ≡ 0) × (e.1 ≡ part_of journal e.0)
+    -- an ended part has the number of a seat that is no more, that caller's entries, and what it had seen
+    pub ended_parts : (k : ℕ) (e : Ended) → get_elem? v.ended k ≡ some e
+        → (e.0 < made) × (owner e.0 ≡ 0) × (e.1 ≡ part_of journal e.0) × IsPrefix e.2 journal
     -- it knows the numbers of the world
     pub sized : numbers_of v.limits ≡ numbers
 
   -- n is the seat's number, or that of a part that ended in it
   abbrev pub HasNumber : ℕ → View W → Type 0
   HasNumber n v =
-      (v.is_spent ≡ false) × ((v.number ≡ n) ⊎ ((k : ℕ) × (p : List Entry)
-      × (get_elem? v.ended k ≡ some (n, p))))
+      (v.is_spent ≡ false) × ((v.number ≡ n) ⊎ ((k : ℕ) × (e : Ended) × (get_elem? v.ended k ≡ some e)
+      × (e.0 ≡ n)))
 
   -- (f) Each number below made is that of one seat or of one ended part. Seat 0 knows made. The entries of
   -- caller n in the journal are the part of number n, and a number not yet made has none.
@@ -125,7 +131,7 @@ module _ {W : Type 0} where
 
 module _ {W : Type 0} (m : Ghosts W) where
   -- The rule. `world` is the world in its slot, or the one that the holder of the gate took; `changes` are
-  -- its stores since.
+  -- its stores since. That world is sound.
   pub record Custodied (numbers : Numbers) (s : State (Option W) (View W)) : Type 0 where
     pub world : W
     pub holder : ℕ
@@ -139,41 +145,48 @@ module _ {W : Type 0} (m : Ghosts W) where
     -- (c) The kind words are the kinds of the world, with what the holder of the gate stored since.
     pub kinds : (b : ℕ) → 0 < b → b < BLOCKS + 1 → slice_index s.words b ≡ changed changes (m.kind world) b
     pub slots : Slots (m.live world) s.words s.views
+    pub sound : m.sound world
 
   abbrev M : Type 0
   M = Me (Option W) (View W)
 
-  -- what a seat that wins the gate learns: that it had not got it, and of the world its own part, its room,
-  -- and that no slot held is live
+  -- what a seat that wins the gate learns: that it had not got it, and of the world its own part, that what
+  -- it had seen of the journal is so still, its room, that no slot held is live, and that it is sound
   pub record Entered (v : View W) (w : W) : Type 0 where
     pub had_not : v.has_gate ≡ false
     pub part : part_of (m.journal w) v.number ≡ v.part
+    pub goes_on : IsPrefix v.seen (m.journal w)
     pub room : v.room ≤ m.spare w
     pub sized : m.numbers w ≡ numbers_of v.limits
     pub held : Every (λ p. (m.live w p.0 ≡ false) × (p.1 ≢ 0 → m.kind w (slot_block p.0) ≡ p.1)) v.held
+    pub sound : m.sound w
 
   -- The world that a table leaves where all seats were joined to the first, of view v: its journal has of
-  -- each caller exactly that caller's part.
+  -- each caller exactly that caller's part, and begins with what each has seen; and it is sound.
   pub record Divided (v : View W) (w : W) : Type 0 where
     pub sized : m.numbers w ≡ numbers_of v.limits
     pub own_part : part_of (m.journal w) 0 ≡ v.part
-    pub ended_parts : (k : ℕ) (e : ℕ × List Entry) → get_elem? v.ended k ≡ some e
-        → part_of (m.journal w) e.0 ≡ e.1
-    pub each : (n : ℕ) → n < v.made → (n ≡ 0) ⊎ ((k : ℕ) × (p : List Entry)
-        × (get_elem? v.ended k ≡ some (n, p)))
+    pub own_seen : IsPrefix v.seen (m.journal w)
+    pub ended_parts : (k : ℕ) (e : Ended) → get_elem? v.ended k ≡ some e
+        → (part_of (m.journal w) e.0 ≡ e.1) × IsPrefix e.2 (m.journal w)
+    pub each : (n : ℕ) → n < v.made → (n ≡ 0) ⊎ ((k : ℕ) × (e : Ended) × (get_elem? v.ended k ≡ some e)
+        × (e.0 ≡ n))
     pub others : (n : ℕ) → v.made ≤ n → part_of (m.journal w) n ≡ []
+    pub sound : m.sound w
 
-  -- a world that custody may begin with: nothing is live, no block is in use, and nothing was done
+  -- a world that custody may begin with: nothing is live, no block is in use, nothing was done, and it is
+  -- sound
   pub record IsUnused (w : W) : Type 0 where
     pub nothing_live : (x : ℕ) → m.live w x ≡ false
     pub no_kinds : (b : ℕ) → m.kind w b ≡ 0
     pub no_entries : m.journal w ≡ []
+    pub sound : m.sound w
 
   -- What each kind of step shows its seat: of the step, the seat before, the value found, the seat after. the
   -- gate was free, and the seat has the world; or it was not, and nothing changed
   abbrev pub entered : Step (Option W) → M → ℕ → M → Type 0
   entered st a n b =
-      (n ≡ 0 → (w : W) × (b ≡ (took w a.0, (0, Some w) ∷ a.1)) × Entered a.0 w) × (n ≢ 0 → b ≡ a)
+      (n ≡ 0 → (w : W) × (b ≡ (took m w a.0, (0, Some w) ∷ a.1)) × Entered a.0 w) × (n ≢ 0 → b ≡ a)
 
   -- the gate is given back
   abbrev pub left : Step (Option W) → M → ℕ → M → Type 0

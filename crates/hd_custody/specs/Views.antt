@@ -44,6 +44,10 @@ limits_of n = record { heap = n.heap; blocks = n.blocks; callers = n.callers }
 abbrev pub Kinded : List (ℕ × ℕ) → Type 0
 Kinded held = Every (λ p. IsSlot p.0 × (p.1 ≢ 0)) held
 
+-- the journal is the entries `front`, and others after them
+abbrev pub IsPrefix : List Entry → List Entry → Type 0
+IsPrefix front journal = (rest : List Entry) × (journal ≡ front ++ rest)
+
 -- the journal is what it was, with the same spare; or it has one entry of this caller more, one less to
 -- spare, and the caller had room for one
 abbrev pub Continues : ℕ → ℕ → List Entry → ℕ → List Entry → ℕ → Type 0
@@ -94,6 +98,7 @@ module _ {W : Type 0} where
     number = 0;
     part = [];
     room = room;
+    seen = [];
     ended = [];
     made = 1;
     limits = limits_of numbers;
@@ -105,6 +110,7 @@ module _ {W : Type 0} where
     trace = [];
     trace_number = 0;
     began_empty = true;
+    began_with_gate = false;
   }
 
   -- what is left of a view that was joined into another
@@ -121,11 +127,7 @@ module _ {W : Type 0} where
 
   -- seat 0 after a join
   abbrev pub joined : View W → View W → View W
-  joined v w = record v { room = v.room + w.room; ended = v.ended ++ (w.number, w.part) ∷ [] }
-
-  -- the gate is won, and the world w is taken
-  abbrev pub took : W → View W → View W
-  took w v = record v { has_gate = true; gate_steps = v.gate_steps + 1; taken = Some w; changes = [] }
+  joined v w = record v { room = v.room + w.room; ended = v.ended ++ (w.number, w.part, w.seen) ∷ [] }
 
   -- a store of k into the kind word of block b, by the holder of the gate: of handles, the block's slots
   -- then are held
@@ -154,7 +156,12 @@ module _ {W : Type 0} where
 
   -- the steps of a call begin
   abbrev pub begun : View W → View W
-  begun v = record v { trace = []; trace_number = v.trace_number + 1; began_empty = is_nil v.held }
+  begun v = record v {
+    trace = [];
+    trace_number = v.trace_number + 1;
+    began_empty = is_nil v.held;
+    began_with_gate = v.has_gate;
+  }
 
   -- an exchange of the quick word or cell i, which had y, with x
   abbrev pub swapped : ℕ → ℕ → ℕ → View W → View W
@@ -192,9 +199,20 @@ module _ {W : Type 0} where
     trace = trace;
     trace_number = v.trace_number + 1;
     began_empty = is_nil v.held;
+    began_with_gate = v.has_gate;
   }
 
 module _ {W : Type 0} (m : Ghosts W) where
+  -- the gate is won, the world w is taken, and its journal is seen
+  abbrev pub took : W → View W → View W
+  took w v = record v {
+    has_gate = true;
+    gate_steps = v.gate_steps + 1;
+    taken = Some w;
+    changes = [];
+    seen = m.journal w;
+  }
+
   -- What a grant of a kind to block b and, where it isn't 0, data block d asks of the holder of the gate:
   -- they are two blocks of the table, without a kind in what it took and stored since.
   pub record MayGrant (blocks b d : ℕ) (v : View W) : Type 0 where
@@ -204,8 +222,8 @@ module _ {W : Type 0} (m : Ghosts W) where
     pub no_kind : changed v.changes (m.kind world) b ≡ 0
     pub no_data : d ≢ 0 → changed v.changes (m.kind world) d ≡ 0
 
-  -- The gate is given back with w, where u was taken: an entry is added to the part, slots that became live
-  -- are held no more, and slots that ended are held, each as of its block's kind.
+  -- The gate is given back with w, where u was taken: an entry is added to the part, the journal of w is
+  -- seen, slots that became live are held no more, and slots that ended are held, each as of its block's kind.
   abbrev pub gave_back : W → W → View W → View W
   gave_back u w v = record v {
     has_gate = false;
@@ -213,6 +231,7 @@ module _ {W : Type 0} (m : Ghosts W) where
     taken = None;
     changes = [];
     part = part_of (m.journal w) v.number;
+    seen = m.journal w;
     room = v.room - (length (m.journal w) - length (m.journal u));
     held = filter (λ p. not (m.live w p.0)) v.held
         ++ picks slot_count (λ r. m.live u (ROWS + r) && not (m.live w (ROWS + r))) ROWS
@@ -220,12 +239,13 @@ module _ {W : Type 0} (m : Ghosts W) where
   }
 
   -- what `leave` asks of w, where u was taken: its kinds are the kind words, its numbers are the same, each
-  -- live slot was live or is held, and the journal goes on
+  -- live slot was live or is held, the journal goes on, and it is sound
   pub record Follows (u w : W) (v : View W) : Type 0 where
     pub kinds : (b : ℕ) → 0 < b → b < BLOCKS + 1 → m.kind w b ≡ changed v.changes (m.kind u) b
     pub sized : m.numbers w ≡ numbers_of v.limits
     pub lives : (x : ℕ) → ROWS ≤ x → m.live w x ≡ true → (m.live u x ≡ true) ⊎ Has x v.held
     pub goes_on : Continues v.number v.room (m.journal u) (m.spare u) (m.journal w) (m.spare w)
+    pub sound : m.sound w
 
   -- what was live was in blocks of handles, and in w these are so too
   abbrev pub Sorted : W → W → Type 0

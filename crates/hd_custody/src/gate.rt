@@ -12,33 +12,15 @@ ghost use Rattle.hd_custody.specs.Rule.{Entered, Divided, IsUnused};
 use crate::plays::{Assign, Clear, Cut, Ends, Enter, Leave, Share};
 use crate::rule::Board;
 use crate::types::{Caller, Custody, Seat};
-use crate::words::{EXTRA_DATA, GATE, WORDS};
+use crate::waiting::{WaitWords, Waiter};
+use crate::words::{EXTRA_DATA, FREE, GATE, HELD, ROWS_AFTER_FIRST, WORDS, WORLD};
 use atomic_table::{Refused, Table};
 use hd_model::limits::{BLOCKS, KINDS, ROWS};
 use hd_model::{Grown, Held, Kind, Memory};
 use std::alloc::{AllocError, Global};
-use std::hint::spin_loop;
 use std::marker::Brand;
 use std::snapshot::Snapshot;
 use std::sync::Wait;
-use std::sync::atomic::{AtomicU32, Ordering};
-
-// The slot of a table, which has the world.
-const WORLD: usize = 0;
-
-// What the gate word has while no seat has the gate.
-const FREE: u64 = 0;
-
-// What it has while one has.
-const HELD: u32 = 1;
-
-// All rows of a block but row 0.
-const ROWS_AFTER_FIRST: u64 = u64::MAX - 1;
-
-// How often a caller that lost the gate looks whether it is free before it sleeps, with a pause of
-// the processor after each look: 31 microseconds in all where it was measured, and several times
-// that where a pause is long. See benches/README.md.
-const LOOKS: u32 = 8000;
 
 fn zeros(alloc: Global) -> Result<Vec<u64>, AllocError>
     ensures { IfOk result (λ v. v.items ≡ replicate WORDS 0) }
@@ -74,11 +56,11 @@ impl<W: Held> Custody<W> {
         };
         match Table::new(alloc, words.as_slice(), slots, &about) {
             Ok((table, place)) => {
-                let sleepers = AtomicU32::new(0);
+                let waits = WaitWords::new();
                 let custody = Custody {
                     table,
                     blocks,
-                    sleepers,
+                    waits,
                 };
                 let caller = Caller { place };
                 Ok((custody, Seat { caller }))
@@ -140,7 +122,7 @@ impl<W: Held> Custody<W> {
     }
 
     /// The world, once all other seats were joined to seat 0. Its journal has of each caller
-    /// exactly that caller's part.
+    /// exactly that caller's part, and begins with what each has seen.
     pub fn close(self, first: Seat<W>) -> W
         requires seat { first.table ≡ self.table }
         requires first { first.view.number ≡ 0 }
@@ -151,7 +133,7 @@ impl<W: Held> Custody<W> {
         let Custody {
             table,
             blocks: _,
-            sleepers: _,
+            waits: _,
         } = self;
         let Seat { caller } = first;
         stored_world(table, caller)
@@ -160,12 +142,12 @@ impl<W: Held> Custody<W> {
     // An exchange of the gate word with 1: whether the gate was free, and is this seat's now.
     fn win(&self, caller: &mut Caller<W>) -> bool
         requires seat { caller.old.table ≡ self.now.table }
-        ensures won { OnTrue result ((w : W) × (caller.new ≡ carrying w caller.old)
+        ensures won { OnTrue result ((w : W) × (caller.new ≡ carrying W.Held w caller.old)
             × Entered W.Held caller.old.view w) }
         ensures lost { OnFalse result (caller.new ≡ caller.old) }
     {
         let shared = &self.table.shared;
-        shared.swap::<Enter>(&mut caller.place, GATE, HELD as u64) == FREE
+        shared.swap::<Enter>(&mut caller.place, GATE, HELD) == FREE
     }
 
     // The world, where the gate was free.
@@ -174,7 +156,7 @@ impl<W: Held> Custody<W> {
         ensures lost { IfNone result (seat.new ≡ seat.old) }
         ensures won { IfSome result (λ w. seat.new ≡ record seat.old {
           view =
-              took w seat.old.view;
+              took W.Held w seat.old.view;
         }) }
         ensures entered { IfSome result (Entered W.Held seat.old.view) }
     {
@@ -185,56 +167,32 @@ impl<W: Held> Custody<W> {
         self.table.shared.exchange(&mut caller.place, WORLD, None)
     }
 
-    // Whether the gate was free at one of some looks. It says nothing for certain.
-    fn looks_free(&self) -> bool {
-        for _look in 0..LOOKS {
-            if self.table.shared.peek(GATE) == FREE {
-                return true;
-            }
-            spin_loop();
-        }
-        false
-    }
-
-    // Sleeps while the gate is held, counted as one who may sleep: the count is raised before the
-    // gate word is looked at, and lowered after. It may also return for no reason.
-    fn sleep<R: Wait>(&self, rt: &R) {
-        self.sleepers.fetch_add(1, Ordering::SeqCst);
-        self.table.shared.park(rt, GATE, HELD);
-        self.sleepers.fetch_sub(1, Ordering::SeqCst);
-    }
-
-    // Wakes one caller where any may sleep. The gate is free before it.
-    fn wake(&self) {
-        if self.sleepers.load(Ordering::SeqCst) != 0 {
-            self.table.shared.wake_one(GATE);
-        }
-    }
-
     /// Takes the gate, and with it the world. It may wait for whoever has it, and counts one step
     /// on the gate: a try that fails changes nothing. No slot held is live in that world, each that
     /// has a kind is there in a block of that kind, its journal has of this caller exactly the
-    /// seat's part, and it has room for the entries that the seat may still add.
+    /// seat's part and begins with all that the seat has seen, and it has room for the entries that
+    /// the seat may still add. It is sound.
     pub fn enter<R: Wait>(&self, rt: &R, seat: &mut Seat<W>) -> W
         requires seat { seat.old.table ≡ self.now.table }
         requires gate { seat.old.view.has_gate ≡ false }
-        ensures view { seat.new ≡ record seat.old { view = took result seat.old.view } }
+        ensures view { seat.new ≡ record seat.old { view = took W.Held result seat.old.view } }
         ensures entered { Entered W.Held seat.old.view result }
     {
+        self.give_way();
+        let mut waiter = Waiter::new();
         for _try in rt.forever() {
             if let Some(world) = self.try_enter(seat) {
+                self.end_wait(&waiter);
                 return world;
             }
-            if !self.looks_free() {
-                self.sleep(rt);
-            }
+            self.wait(rt, &mut waiter);
         }
         unreachable!()
     }
 
     /// Gives the gate back with the world, and wakes a caller if any may sleep at it. Slots that
     /// became live are held no more, and slots that are live no more are held, each with its
-    /// block's kind.
+    /// block's kind. The world has to be sound again.
     pub fn leave(&self, seat: &mut Seat<W>, world: W)
         requires seat { seat.old.table ≡ self.now.table }
         requires gate { seat.old.view.has_gate ≡ true }

@@ -1,5 +1,5 @@
 ghost use Rattle.hd_custody.specs.Misses.{MissesFoundNone};
-ghost use Rattle.hd_custody.specs.Laws.{EachSlotIsInOnePlace, WordsAreNumbered, KindWordsAreNumbered, BoundsAreNumbered};
+ghost use Rattle.hd_custody.specs.Laws.{EachSlotIsInOnePlace, AFreeGateHasTheWorld, WordsAreNumbered, KindWordsAreNumbered, BoundsAreNumbered};
 
 use hd_model::Held;
 
@@ -8,6 +8,12 @@ use hd_model::Held;
 /// of any other block is in none. So no slot is given twice, and none is lost.
 pub fn each_slot_is_in_one_place<W: Held>()
     ensures { EachSlotIsInOnePlace W.Held }
+{}
+
+/// Between any two steps at which the gate is free, the table has one world: its kinds are the kind
+/// words, its journal has each caller's part and begins with what each has seen, and it is sound.
+pub fn a_free_gate_has_the_world<W: Held>()
+    ensures { AFreeGateHasTheWorld W.Held }
 {}
 
 /// A whole miss found no slot in any word of the kind: each quick word and cell gave 0, and the

@@ -16,6 +16,11 @@
 //! allocate     quick, reserve and free: exchange with 0, until a slot comes; else each block: load
 //!              kind, exchange mask with 0, load kind: one row is kept, others to reserve or back
 //! release      exchange into quick, what was there into free[0], free[1], ..; the last: mask
+//!
+//! beside the table, and in no rule: what a caller who waits for the gate looks at and sleeps on
+//! gate         looked at, and tried again once it is free. Nobody sleeps on it
+//! nap          0, or 1 where somebody may sleep on it. leave takes the 1 back and wakes one
+//! asked        whether one who looked for long asks those who newly come to give way
 //! ```
 #![tactic(auto)]
 
@@ -29,8 +34,11 @@ mod steps;
 mod tests;
 mod types;
 mod view;
+mod waiting;
 mod words;
 
-pub use laws::{each_slot_is_in_one_place, misses_found_none, numbers_are_these};
+pub use laws::{
+    a_free_gate_has_the_world, each_slot_is_in_one_place, misses_found_none, numbers_are_these,
+};
 pub use types::{Custody, Seat};
 pub use view::{Limits, View};

@@ -1,6 +1,6 @@
 //! The rule of the table, whose words `words` numbers. Its one slot has the world.
 use crate::view::View;
-use atomic_table::{Seat, Shared, Table, TableRule};
+use atomic_table::{Seat, Table, TableRule};
 use hd_model::Held;
 use std::alloc::Global;
 use std::snapshot::Snapshot;
@@ -18,7 +18,5 @@ impl<W: Held> TableRule<Option<W>, View<W>, Snapshot<W>> for Law {
 }
 
 pub(crate) type Board<W> = Table<Option<W>, View<W>, Snapshot<W>, Law, Global>;
-
-pub(crate) type Words<W> = Shared<Option<W>, View<W>, Snapshot<W>, Law>;
 
 pub(crate) type Place<W> = Seat<Option<W>, View<W>>;

@@ -1,7 +1,7 @@
 use crate::rule::{Board, Place};
+use crate::waiting::WaitWords;
 use hd_model::Held;
 use std::marker::Model;
-use std::sync::atomic::AtomicU32;
 
 /// A seat that has not ended, as the steps of a call change it. Contracts see the table, what its
 /// caller knows, and what it has taken out of the table's slot.
@@ -44,8 +44,8 @@ impl<W: Held> Model for Seat<W> {
 pub struct Custody<W: Held> {
     pub(crate) table: Board<W>,
     pub(crate) blocks: u32,
-    // How many callers sleep at the gate, or are about to. It is no word of the table.
-    pub(crate) sleepers: AtomicU32,
+    // No words of the table: what callers who wait look at and sleep on.
+    pub(crate) waits: WaitWords,
 }
 
 impl<W: Held> Model for Custody<W> {

@@ -18,8 +18,10 @@ pub struct View<W> {
     pub part: LinkedList<Entry>,
     /// How many entries it may still add.
     pub room: u64,
-    /// The numbers and parts of the seats that were joined to it.
-    pub ended: LinkedList<(u64, LinkedList<Entry>)>,
+    /// The whole journal, as it was when this seat last took the gate or gave it back.
+    pub seen: LinkedList<Entry>,
+    /// The numbers of the seats that were joined to it, with the part of each and what it had seen.
+    pub ended: LinkedList<(u64, LinkedList<Entry>, LinkedList<Entry>)>,
     /// How many seats were made. Only seat 0 knows it.
     pub made: u64,
     /// The numbers of the world.
@@ -41,4 +43,6 @@ pub struct View<W> {
     pub trace_number: u64,
     /// Whether no slot was held as the last of them began.
     pub began_empty: bool,
+    /// Whether it had the gate then.
+    pub began_with_gate: bool,
 }

@@ -1,5 +1,5 @@
-//! The words of a table, by their numbers, and those of a kind in the order in which each call goes
-//! over them.
+//! The words of a table, by their numbers, and what they have; those of a kind in the order in which
+//! each call goes over them.
 ghost use Rattle.std.specs.Prelude.{◌≡◌, ◌+◌, ◌*◌, ◌/◌, ◌%◌, ◌<◌, ◌≤◌};
 ghost use Rattle.hd_custody.specs.Counts.{mask_word, slot_block, slot_row, quick_word, reserve_cell, cell_kind, IsCell};
 ghost use Rattle.hd_custody.specs.Traces.{probe_word, sweep_word, push_word};
@@ -8,6 +8,21 @@ use hd_model::limits::{BLOCKS, KINDS, ROWS};
 
 /// The gate. The kind words of the blocks come next, each at the number of its block.
 pub(crate) const GATE: usize = 0;
+
+/// What the gate has while no seat has it.
+pub(crate) const FREE: u64 = 0;
+
+/// What it has while one has.
+pub(crate) const HELD: u64 = 1;
+
+/// The slot of the table, which has the world.
+pub(crate) const WORLD: usize = 0;
+
+/// What the word to sleep on has while a caller may sleep on it. It is no word of the table.
+pub(crate) const ANY_ASLEEP: u32 = 1;
+
+/// What it has while none does.
+pub(crate) const NONE_ASLEEP: u64 = 0;
 
 /// The first mask. Each block has one, from block 1 on.
 pub(crate) const FIRST_MASK: usize = BLOCKS as usize + 1;
@@ -24,6 +39,9 @@ pub(crate) const CACHE: u32 = 1 + 2 * BANK;
 
 /// All words.
 pub(crate) const WORDS: usize = FIRST_QUICK + KINDS as usize * CACHE as usize;
+
+/// The mask of all rows of a block but row 0.
+pub(crate) const ROWS_AFTER_FIRST: u64 = u64::MAX - 1;
 
 /// The kind word of a block of extra data. That of handles is one more than the number of the kind.
 pub(crate) const EXTRA_DATA: u64 = KINDS as u64 + 1;

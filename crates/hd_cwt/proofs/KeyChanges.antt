@@ -1,7 +1,10 @@
 -- The held slots and their keys, where a slot gets a key or loses it, and in a sweep.
-use Rattle.hd_cwt.proofs.Basics.{BLOCKS, Bool, CanTake, Contains, HasKey, Id, IsListed, IsSome, IsWeakTable, List, None, Option, ROWS, Some, WeakTable, [], ap, arith, cases_lt, cond, cond_both, empty, false, false≢true, first_in, get, get-empty, get_or, get_or_default, inl, inr, insert, insert_cases, is_none, is_some, kept_key, len, len-empty, len_again, len_new, length, length-append, member_cases, none-some, not_in_none, option_map, refl, room_of, same_Some, slots_of, some_cases, still_some, subst, swept_at, sym, true, ℕ, ⊎_elim, ◌*◌, ◌++◌, ◌+◌, ◌/◌, ◌<◌, ◌∙◌, ◌∷◌, ◌≡◌, ◌≤◌, ◌⊎◌}
+use Rattle.hd_cwt.proofs.Basics.{BLOCKS, Bool, CanTake, HasKey, Id, IsListed, IsListedAt, IsSome, IsTaken, IsUnlisted, IsWeakTable, List, None, Option, ROWS, Some, WeakTable, [], ap, arith, cases_eq, cases_lt, cond, empty, entries, false, false≢true, get, get-empty, get_or-set_other, get_or-set_same, get_or_default, inl, inr, insert, insert_cases, is_none, is_some, kept_key, keyed_in, len, len-empty, len_again, len_new, length, length-append, length-map, length-set, mapped_in, node_at, none-some, option_map, refl, room_of, same_Some, set, slots_of, some_cases, subst, sym, true, ℕ, ⊎_elim, ◌*◌, ◌++◌, ◌+◌, ◌-◌, ◌/◌, ◌<◌, ◌^◌, ◌∙◌, ◌∷◌, ◌≡◌, ◌≢◌, ◌≤◌, ◌⊎◌}
 use Rattle.std.specs.Ordering.{nat_cmp}
-use Rattle.std.proofs.lemmas.List.Elements.{Contains-append_cases, Contains-append_left, Contains-append_right}
+use Rattle.std.specs.FinMap.{keys, len-entries}
+use Rattle.std.proofs.Common.{AllPairs}
+use Rattle.std.proofs.lemmas.List.{get_or_append_left, get_or-append-add}
+use Rattle.hd_model.proofs.{MapEntries.entry_of, PropertyCounts.fewer, ReadAfterWrite.get_beside, ReadAfterWrite.get_inserted}
 use Rattle.hd_model.specs.Table.{Table, live_at}
 
 -- a slot that is not held can be given a key where there is room
@@ -13,94 +16,322 @@ can_room t s can none =
 abbrev pub with_entry : WeakTable → ℕ → Option Id → WeakTable
 with_entry t s v = record t { held = insert t.held s v }
 
-module _ {t : WeakTable} {slots : List ℕ} {capacity : ℕ} (is : IsListed t slots capacity) (s : ℕ) where
-  -- a held slot loses its key, if it has one
-  module _ (had : IsSome (get t.held s)) where
-    key_before : (key : Id) (a : ℕ) → HasKey (with_entry t s None) key a → HasKey t key a
-    key_before key a =
-        insert_cases t.held s (λ q o. o ≡ Some (Some key) → HasKey t key q) None a
-        (λ e. absurd (none-some key (same_Some None (Some key) e))) (λ _ e. e)
+-- what a slot with a key has
+some_key : (o : Option (Option Id)) → keyed_in o ≡ true → (k : Id) × (o ≡ Some (Some k))
+some_key None is = absurd (false≢true is)
+some_key (Some None) is = absurd (false≢true is)
+some_key (Some (Some k)) is = (k, refl)
 
-    pub clear_listed : IsListed (with_entry t s None) slots capacity
-    clear_listed = record {
-      table = record {
+held_of : (o : Option (Option Id)) → keyed_in o ≡ true → IsSome o
+held_of None is = absurd (false≢true is)
+held_of (Some v) is = refl
+
+-- a slot that can be given a key has none
+can_none : (t : WeakTable) (s : ℕ) → CanTake t s → keyed_in (get t.held s) ≡ false
+can_none t s can = ⊎_elim (λ idle. ap keyed_in idle) (λ room. ap keyed_in room.0) can
+
+pub can_seen : {t seen : WeakTable} → t ≡ seen → (s : ℕ) → CanTake seen s → keyed_in (get t.held s) ≡ false
+can_seen {t} view s can = can_none t s (subst (λ u. CanTake u s) (sym view) can)
+
+module _ {t : WeakTable} {count : ℕ} {slots places : List ℕ} {capacity : ℕ}
+    (is : IsListed t count slots places capacity) where
+  -- no slot is listed twice, so no more are listed than are held
+  same_place : (i j : ℕ) → i < length slots → j < length slots → node_at slots i ≡ node_at slots j → i ≡ j
+  same_place i j low more same =
+      sym (is.placed i low) ∙ ap (node_at places) same ∙ is.placed j more
+
+  listed_apart : AllPairs (λ x y. x ≢ y) slots
+  listed_apart = λ i j d less low same.
+      let first : i < length slots = omega (arith, less, low) in
+      let e : i ≡ j = same_place i j first low
+      (sym (get_or_default slots i d 0 first) ∙ same ∙ get_or_default slots j d 0 low) in
+      omega (arith, less, e)
+
+  pub few_listed : length slots ≤ len t.held
+  few_listed =
+      let few : length slots ≤ length (keys t.held) =
+      fewer slots (keys t.held) listed_apart (λ z h.
+      let at : node_at slots h.0 ≡ z = get_or_default slots h.0 0 z h.1 ∙ h.2 in
+      let (k, there) = some_key (get t.held z)
+      (ap (λ s. keyed_in (get t.held s)) (sym at) ∙ is.from h.0 h.1) in
+      mapped_in (λ (e : ℕ × Option Id). e.0) (entries t.held) (z, Some k)
+      (entry_of t.held z (Some k) there)) in
+      let long : length (keys t.held) ≡ length (entries t.held) =
+      length-map (entries t.held) (λ (e : ℕ × Option Id). e.0) in
+      omega (arith, few, long, len-entries t.held)
+
+  pub few_slots : length slots < 2 ^ 32
+  few_slots = omega (arith, few_listed, is.table.fits, is.table.limit)
+
+  -- a listed slot is held, and one of the blocks'
+  pub slot_held : (i : ℕ) → i < length slots → IsSome (get t.held (node_at slots i))
+  slot_held i low = held_of (get t.held (node_at slots i)) (is.from i low)
+
+  pub held_low : (s : ℕ) → IsSome (get t.held s) → s < length places
+  held_low s had = let inside = is.table.within s had in omega (arith, is.size, inside)
+
+  pub slot_low : (i : ℕ) → i < length slots → node_at slots i < length places
+  slot_low i low = held_low (node_at slots i) (slot_held i low)
+
+  -- a slot with a key is listed, and there is a last one
+  pub keyed_place : (s : ℕ) → keyed_in (get t.held s) ≡ true → node_at places s < length slots
+  keyed_place s keyed = (is.into s keyed).0
+
+  pub last_low : (s : ℕ) → keyed_in (get t.held s) ≡ true → node_at slots (length slots - 1) < length places
+  last_low s keyed = slot_low (length slots - 1) (let at = keyed_place s keyed in omega (arith, at))
+
+  module _ (s : ℕ) where
+    -- a slot beside the one that is written
+    beside : (v : Option Id) (q : ℕ) → q ≢ s → keyed_in (get (insert t.held s v) q) ≡ keyed_in (get t.held q)
+    beside v q apart = ap keyed_in (get_beside t.held s v q apart)
+
+    -- a held slot loses its key, if it has one
+    module _ (had : IsSome (get t.held s)) where
+      key_before : (key : Id) (a : ℕ) → HasKey (with_entry t s None) key a → HasKey t key a
+      key_before key a =
+          insert_cases t.held s (λ q o. o ≡ Some (Some key) → HasKey t key q) None a
+          (λ e. absurd (none-some key (same_Some None (Some key) e))) (λ _ e. e)
+
+      clear_table : IsWeakTable (with_entry t s None)
+      clear_table = record {
         limit = is.table.limit;
         apart = λ key a b ha hb. is.table.apart key a b (key_before key a ha) (key_before key b hb);
         within = some_cases t.held s (λ q. q < slots_of t) None (is.table.within s had) is.table.within;
         fits = omega (arith, is.table.fits, len_again t.held s None had);
-      };
-      counted = is.counted ∙ sym (len_again t.held s None had);
-      room = is.room;
-      into = some_cases t.held s (Contains slots) None (is.into s had) is.into;
-      from = λ q h. still_some t.held s None q (is.from q h);
-    }
+      }
 
-  -- a slot gets a key
-  module _ {seen : WeakTable} (view : t ≡ seen) (key : Id)
-      (is_new : (other : ℕ) → HasKey seen key other → ⊥) (is_within : s < slots_of seen) where
-    new : (other : ℕ) → HasKey t key other → ⊥
-    new = subst (λ u. (other : ℕ) → HasKey u key other → ⊥) (sym view) is_new
+      -- where it had none, the list is as it was
+      pub clear_idle : keyed_in (get t.held s) ≡ false
+          → IsListed (with_entry t s None) count slots places capacity
+      clear_idle none = record {
+        table = clear_table;
+        counted = is.counted ∙ sym (len_again t.held s None had);
+        room = is.room;
+        size = is.size;
+        into = λ q. insert_cases t.held s (λ x o. keyed_in o ≡ true → IsListedAt slots places x) None q
+            (λ e. absurd (false≢true e)) (λ _ e. is.into q e);
+        from = λ i low. beside None (node_at slots i)
+            (λ same. false≢true (sym none ∙ ap (λ q. keyed_in (get t.held q)) (sym same) ∙ is.from i low))
+            ∙ is.from i low;
+        placed = is.placed;
+      }
 
-    within : s < slots_of t
-    within = subst (λ u. s < slots_of u) (sym view) is_within
+    -- a slot with a key loses it, and is listed no more
+    module _ (keyed : keyed_in (get t.held s) ≡ true) {new_slots new_places : List ℕ}
+        (off : IsUnlisted slots places new_slots new_places s) where
+      abbrev at : ℕ
+      at = node_at places s
 
-    key_put : (k : Id) (a : ℕ) → HasKey (with_entry t s (Some key)) k a → ((a ≡ s) × (key ≡ k)) ⊎ HasKey t k a
-    key_put k a =
-        insert_cases t.held s (λ q o. o ≡ Some (Some k) → ((q ≡ s) × (key ≡ k)) ⊎ HasKey t k q) (Some key) a
-        (λ e. inl (refl, same_Some key k (same_Some (Some key) (Some k) e))) (λ _ e. inr e)
+      abbrev end : ℕ
+      end = length slots - 1
 
-    put_apart : (k : Id) (a b : ℕ) → HasKey (with_entry t s (Some key)) k a
-        → HasKey (with_entry t s (Some key)) k b → a ≡ b
-    put_apart k a b ha hb =
-        ⊎_elim
-        (λ here. ⊎_elim (λ there. here.0 ∙ sym there.0)
-        (λ old. absurd (new b (subst (λ x. HasKey t x b) (sym here.1) old))) (key_put k b hb))
-        (λ old. ⊎_elim (λ there. absurd (new a (subst (λ x. HasKey t x a) (sym there.1) old)))
-        (λ other. is.table.apart k a b old other) (key_put k b hb))
-        (key_put k a ha)
+      abbrev last : ℕ
+      last = node_at slots (length slots - 1)
 
-    put_table : len (insert t.held s (Some key)) ≤ room_of t → IsWeakTable (with_entry t s (Some key))
-    put_table fits = record {
-      limit = is.table.limit;
-      apart = put_apart;
-      within = some_cases t.held s (λ q. q < slots_of t) (Some key) within is.table.within;
-      fits = fits;
-    }
+      at_low : at < length slots
+      at_low = (is.into s keyed).0
 
-    pub put_idle : IsSome (get t.held s) → IsListed (with_entry t s (Some key)) slots capacity
-    put_idle had = record {
-      table = put_table (omega (arith, is.table.fits, len_again t.held s (Some key) had));
-      counted = is.counted ∙ sym (len_again t.held s (Some key) had);
-      room = is.room;
-      into = some_cases t.held s (Contains slots) (Some key) (is.into s had) is.into;
-      from = λ q h. still_some t.held s (Some key) q (is.from q h);
-    }
+      at_is : node_at slots at ≡ s
+      at_is = (is.into s keyed).1
 
-    pub put_new : get t.held s ≡ None → CanTake seen s
-        → IsListed (with_entry t s (Some key)) (slots ++ s ∷ []) capacity
-    put_new none can = record {
-      table =
+      end_low : end < length slots
+      end_low = omega (arith, at_low)
+
+      shorter : length new_slots + 1 ≡ length slots
+      shorter = off.shorter
+
+      place_cases : (P : ℕ → Type 0) (i : ℕ) → i < length new_slots → (i ≡ at → P last)
+          → (i ≢ at → P (node_at slots i)) → P (node_at new_slots i)
+      place_cases P i low here there = elim (cases_eq i at) [
+        | inl e ↦ subst P
+            (sym (ap (node_at new_slots) e ∙ off.moved (omega (arith, e, low, shorter)))) (here e)
+        | inr n ↦ subst P (sym (off.kept i n (omega (arith, low, shorter)))) (there n)
+      ]
+
+      apart_from : (j : ℕ) → j < length slots → j ≢ at → node_at slots j ≢ s
+      apart_from j low n same = n (sym (is.placed j low) ∙ ap (node_at places) same)
+
+      at_last : node_at new_places last ≡ at
+      at_last = ap (λ ps. node_at ps last) off.replaced
+          ∙ get_or-set_same places last at 0 (slot_low end end_low)
+
+      at_other : (q : ℕ) → q ≢ last → node_at new_places q ≡ node_at places q
+      at_other q n = ap (λ ps. node_at ps q) off.replaced ∙ get_or-set_other places last q at 0 n
+
+      listed_still : (q : ℕ) → q ≢ s → keyed_in (get t.held q) ≡ true → IsListedAt new_slots new_places q
+      listed_still q apart is_keyed =
+          let old = is.into q is_keyed in
+          let p : ℕ = node_at places q in
+          let beyond : p ≢ at = λ same. apart (sym old.1 ∙ ap (node_at slots) same ∙ at_is) in
+          elim (cases_eq q last) [
+            | inl e ↦
+                let was : p ≡ end = ap (node_at places) e ∙ is.placed end end_low in
+                let now : node_at new_places q ≡ at = ap (node_at new_places) e ∙ at_last in
+                let low : at + 1 < length slots = omega (arith, at_low, beyond, was, old.0) in (
+                  omega (arith, now, low, shorter),
+                  ap (node_at new_slots) now ∙ off.moved low ∙ sym e,
+                )
+            | inr n ↦
+                let inner : p ≢ end = λ same. n (sym old.1 ∙ ap (node_at slots) same) in
+                let now : node_at new_places q ≡ p = at_other q n in
+                let low : p + 1 < length slots = omega (arith, old.0, inner) in (
+                  omega (arith, now, low, shorter),
+                  ap (node_at new_slots) now ∙ off.kept p beyond low ∙ old.1,
+                )
+          ]
+
+      pub clear_listed : IsListed (with_entry t s None) count new_slots new_places capacity
+      clear_listed =
+          let had : IsSome (get t.held s) = held_of (get t.held s) keyed in record {
+            table = clear_table had;
+            counted = is.counted ∙ sym (len_again t.held s None had);
+            room = is.room;
+            size = ap length off.replaced ∙ length-set places last at ∙ is.size;
+            into = λ q. insert_cases t.held s
+                (λ x o. keyed_in o ≡ true → IsListedAt new_slots new_places x) None q
+                (λ e. absurd (false≢true e)) (listed_still q);
+            from = λ i low. place_cases (λ z. keyed_in (get (insert t.held s None) z) ≡ true) i low
+                (λ e. beside None last (apart_from end end_low (λ q. omega (arith, q, e, low, shorter)))
+                ∙ is.from end end_low)
+                (λ n. let inside : i < length slots = omega (arith, low, shorter) in
+                beside None (node_at slots i) (apart_from i inside n) ∙ is.from i inside);
+            placed = λ i low. place_cases (λ z. node_at new_places z ≡ i) i low (λ e. at_last ∙ sym e)
+                (λ n. let inside : i < length slots = omega (arith, low, shorter) in
+                at_other (node_at slots i)
+                (λ same. let e = same_place i end inside end_low same in omega (arith, e, low, shorter))
+                ∙ is.placed i inside);
+          }
+
+    -- a slot without a key gets one, and is listed
+    module _ {seen : WeakTable} (view : t ≡ seen) (key : Id)
+        (is_new : (other : ℕ) → HasKey seen key other → ⊥) (is_within : s < slots_of seen) where
+      new : (other : ℕ) → HasKey t key other → ⊥
+      new = subst (λ u. (other : ℕ) → HasKey u key other → ⊥) (sym view) is_new
+
+      pub within : s < slots_of t
+      within = subst (λ u. s < slots_of u) (sym view) is_within
+
+      key_put : (k : Id) (a : ℕ) → HasKey (with_entry t s (Some key)) k a
+          → ((a ≡ s) × (key ≡ k)) ⊎ HasKey t k a
+      key_put k a =
+          insert_cases t.held s (λ q o. o ≡ Some (Some k) → ((q ≡ s) × (key ≡ k)) ⊎ HasKey t k q) (Some key) a
+          (λ e. inl (refl, same_Some key k (same_Some (Some key) (Some k) e))) (λ _ e. inr e)
+
+      put_apart : (k : Id) (a b : ℕ) → HasKey (with_entry t s (Some key)) k a
+          → HasKey (with_entry t s (Some key)) k b → a ≡ b
+      put_apart k a b ha hb =
+          ⊎_elim
+          (λ here. ⊎_elim (λ there. here.0 ∙ sym there.0)
+          (λ old. absurd (new b (subst (λ x. HasKey t x b) (sym here.1) old))) (key_put k b hb))
+          (λ old. ⊎_elim (λ there. absurd (new a (subst (λ x. HasKey t x a) (sym there.1) old)))
+          (λ other. is.table.apart k a b old other) (key_put k b hb))
+          (key_put k a ha)
+
+      put_table : len (insert t.held s (Some key)) ≤ room_of t → IsWeakTable (with_entry t s (Some key))
+      put_table fits = record {
+        limit = is.table.limit;
+        apart = put_apart;
+        within = some_cases t.held s (λ q. q < slots_of t) (Some key) within is.table.within;
+        fits = fits;
+      }
+
+      abbrev longer : List ℕ
+      longer = slots ++ s ∷ []
+
+      long : length longer ≡ length slots + 1
+      long = length-append slots (s ∷ [])
+
+      end_is : node_at longer (length slots) ≡ s
+      end_is = ap (node_at longer) (omega arith) ∙ get_or-append-add slots (s ∷ []) 0 0
+
+      listed_cases : (P : ℕ → Type 0) (i : ℕ) → i < length longer → (i < length slots → P (node_at slots i))
+          → (i ≡ length slots → P s) → P (node_at longer i)
+      listed_cases P i low there here = elim (cases_lt i (length slots)) [
+        | inl less ↦ subst P (sym (get_or_append_left slots (s ∷ []) 0 i less)) (there less)
+        | inr more ↦
+            let e : i ≡ length slots = omega (arith, more, low, long) in
+            subst P (sym (ap (node_at longer) e ∙ end_is)) (here e)
+      ]
+
+      -- with a count, and where there is room for one more held slot
+      pub put_listed : keyed_in (get t.held s) ≡ false → (now : ℕ) → now ≡ len (insert t.held s (Some key))
+          → len (insert t.held s (Some key)) ≤ room_of t
+          → IsListed (with_entry t s (Some key)) now longer (set places s (length slots)) capacity
+      put_listed none now counts fits = record {
+        table = put_table fits;
+        counted = counts;
+        room = is.room;
+        size = length-set places s (length slots) ∙ is.size;
+        into = λ q. insert_cases t.held s
+            (λ x o. keyed_in o ≡ true → IsListedAt longer (set places s (length slots)) x) (Some key) q
+            (λ _. (omega (arith, here, long), ap (node_at longer) here ∙ end_is))
+            (λ apart e. let old = is.into q e in let p = there q apart in (
+              omega (arith, p, old.0, long),
+              ap (node_at longer) p ∙ get_or_append_left slots (s ∷ []) 0 (node_at places q) old.0 ∙ old.1,
+            ));
+        from = λ i low. listed_cases (λ z. keyed_in (get (insert t.held s (Some key)) z) ≡ true) i low
+            (λ less. beside (Some key) (node_at slots i) (apart_old i less) ∙ is.from i less)
+            (λ _. ap keyed_in (get_inserted t.held s (Some key)));
+        placed = λ i low. listed_cases (λ z. node_at (set places s (length slots)) z ≡ i) i low
+            (λ less. there (node_at slots i) (apart_old i less) ∙ is.placed i less) (λ e. here ∙ sym e);
+      }
+        where
+          here : node_at (set places s (length slots)) s ≡ length slots
+          here = get_or-set_same places s (length slots) 0 (omega (arith, within, is.size))
+
+          there : (q : ℕ) → q ≢ s → node_at (set places s (length slots)) q ≡ node_at places q
+          there q apart = get_or-set_other places s q (length slots) 0 apart
+
+          apart_old : (i : ℕ) → i < length slots → node_at slots i ≢ s
+          apart_old i less same =
+              false≢true (sym none ∙ ap (λ q. keyed_in (get t.held q)) (sym same) ∙ is.from i less)
+
+      -- so it is where the slot was held, and where it was not
+      pub put_idle : IsSome (get t.held s) → keyed_in (get t.held s) ≡ false
+          → IsListed (with_entry t s (Some key)) count longer (set places s (length slots)) capacity
+      put_idle had none =
+          let same = len_again t.held s (Some key) had in
+          put_listed none count (is.counted ∙ sym same) (omega (arith, is.table.fits, same))
+
+      pub put_new : get t.held s ≡ None → CanTake seen s
+          → IsListed (with_entry t s (Some key)) (count + 1) longer (set places s (length slots)) capacity
+      put_new none can =
           let room : len t.held < room_of t = can_room t s (subst (λ u. CanTake u s) (sym view) can) none in
-          put_table (omega (arith, room, len_new t.held s (Some key) none));
-      counted =
+          let more = len_new t.held s (Some key) none in
+          put_listed (ap keyed_in none) (count + 1) (omega (arith, is.counted, more))
+          (omega (arith, room, more))
+
+-- there is room in the list for a slot that can be given a key
+module _ {t : WeakTable} {count : ℕ} {slots places : List ℕ} {capacity : ℕ}
+    (is : IsListed t count slots places capacity) (s : ℕ) {seen : WeakTable} (view : t ≡ seen) (key : Id)
+    (is_new : (other : ℕ) → HasKey seen key other → ⊥) (is_within : s < slots_of seen) where
+  pub put_room : CanTake seen s → length slots < capacity
+  put_room can = by (get t.held s) refl
+    where
+      bounded : {now : ℕ} → IsListed (with_entry t s (Some key)) now (slots ++ s ∷ [])
+          (set places s (length slots)) capacity → length slots < capacity
+      bounded after =
           let long : length (slots ++ s ∷ []) ≡ length slots + 1 = length-append slots (s ∷ []) in
-          omega (arith, long, is.counted, len_new t.held s (Some key) none);
-      room = is.room;
-      into = some_cases t.held s (Contains (slots ++ s ∷ [])) (Some key)
-          (Contains-append_right slots (s ∷ []) s (first_in s []))
-          (λ q h. Contains-append_left slots (s ∷ []) q (is.into q h));
-      from = λ q h. ⊎_elim (λ old. still_some t.held s (Some key) q (is.from q old))
-          (λ last. ⊎_elim
-          (λ e. subst (λ x. IsSome (get (insert t.held s (Some key)) x)) e
-          (insert_cases t.held s (λ _ o. IsSome o) (Some key) s refl (λ n. absurd (n refl))))
-          (λ later. absurd (not_in_none q later)) (member_cases s [] q last))
-          (Contains-append_cases slots (s ∷ []) q h);
-    }
+          omega (arith, few_listed after, after.table.fits, is.room, long)
+
+      by : (o : Option (Option Id)) → get t.held s ≡ o → length slots < capacity
+      by None e = bounded (put_new is s view key is_new is_within e can)
+      by (Some v) e = bounded (put_idle is s view key is_new is_within (ap is_some e) (can_seen view s can))
+
+-- under other names
+pub relisted : {t u : WeakTable} {count : ℕ} {a b c d : List ℕ} {m n : ℕ} → IsListed t count a c m → u ≡ t
+    → b ≡ a → d ≡ c → n ≡ m → IsListed u count b d n
+relisted {t} {u} {count} {a} {b} {c} {d} {m} {n} is table slots places capacity =
+    subst (λ x. IsListed u count b d x) (sym capacity)
+    (subst (λ x. IsListed u count b x m) (sym places)
+    (subst (λ x. IsListed u count x c m) (sym slots)
+    (subst (λ x. IsListed x count a c m) (sym table) is)))
 
 -- a table of which no slot is held
-pub none_listed : (blocks capacity : ℕ) → blocks ≤ BLOCKS → ROWS * (blocks / 2) ≤ capacity
-    → IsListed (record { blocks = blocks; held = empty }) [] capacity
-none_listed blocks capacity limit room = record {
+pub none_listed : (blocks capacity : ℕ) (places : List ℕ) → blocks ≤ BLOCKS → ROWS * (blocks / 2) ≤ capacity
+    → length places ≡ ROWS * (blocks + 1)
+    → IsListed (record { blocks = blocks; held = empty }) 0 [] places capacity
+none_listed blocks capacity places limit room size = record {
   table = record {
     limit = limit;
     apart = λ key a b has _. absurd (none-some (Some key) (sym (get-empty nat_cmp a) ∙ has));
@@ -109,17 +340,11 @@ none_listed blocks capacity limit room = record {
   };
   counted = sym (len-empty nat_cmp (Option Id));
   room = room;
-  into = λ s some. absurd (false≢true (sym (ap is_some (get-empty nat_cmp s)) ∙ some));
-  from = λ s h. absurd (not_in_none s h);
+  size = size;
+  into = λ s keyed. absurd (false≢true (sym (ap keyed_in (get-empty nat_cmp s)) ∙ keyed));
+  from = λ i low. absurd (omega (arith, low));
+  placed = λ i low. absurd (omega (arith, low));
 }
-
--- the first i slots are swept, and others are swept or as they were
-pub record IsSwept (seg : Table) (slots : List ℕ) (i : ℕ) (old now : WeakTable) : Type 0 where
-  pub blocks : now.blocks ≡ old.blocks
-  pub each : (s : ℕ) → (get now.held s ≡ get old.held s)
-      ⊎ (get now.held s ≡ option_map (kept_key seg s) (get old.held s))
-  pub done : (j : ℕ) → j < i → get now.held (get_or slots j 0)
-      ≡ option_map (kept_key seg (get_or slots j 0)) (get old.held (get_or slots j 0))
 
 mapped_some : (f : Option Id → Option Id) (o : Option (Option Id)) → is_some (option_map f o) ≡ is_some o
 mapped_some f None = refl
@@ -135,77 +360,116 @@ other_kept : (seg : Table) (s : ℕ) (o : Option (Option Id)) → is_none (live_
 other_kept seg s None other = refl
 other_kept seg s (Some v) other = ap (λ b. Some (cond b None v)) (sym other)
 
--- a slot is swept
-pub swept_listed : {t : WeakTable} {slots : List ℕ} {capacity : ℕ} → IsListed t slots capacity → (seg : Table)
-    (s : ℕ) → IsSome (get t.held s) → IsListed (swept_at seg t s) slots capacity
-swept_listed {t} {slots} {capacity} is seg s had =
-    cond_both (is_none (live_at seg s).target) (with_entry t s None) t (λ u. IsListed u slots capacity)
-    (λ _. clear_listed is s had) (λ _. is)
+none_none : (b : Bool) (o : Option Id) → o ≡ cond b o o
+none_none true o = refl
+none_none false o = refl
 
-module _ {seg : Table} {slots : List ℕ} {i : ℕ} {old now : WeakTable} (is : IsSwept seg slots i old now) where
-  pub was_held : (s : ℕ) → IsSome (get now.held s) → IsSome (get old.held s)
-  was_held s some = ⊎_elim (λ same. sym (ap is_some same) ∙ some)
+-- a slot without a key is as a sweep leaves it
+unkeyed_kept : (seg : Table) (s : ℕ) (o : Option (Option Id)) → keyed_in o ≡ false
+    → o ≡ option_map (kept_key seg s) o
+unkeyed_kept seg s None is = refl
+unkeyed_kept seg s (Some None) is = ap Some (none_none (is_none (live_at seg s).target) None)
+unkeyed_kept seg s (Some (Some k)) is = absurd (false≢true (sym is))
+
+-- a slot with a key that is still to be swept: it is among the first ones of the list
+pub record IsAhead (places : List ℕ) (left : ℕ) (old now : WeakTable) (s : ℕ) : Type 0 where
+  pub same : get now.held s ≡ get old.held s
+  pub keyed : keyed_in (get now.held s) ≡ true
+  pub low : node_at places s < left
+
+-- all slots are swept but those at the first places of the list
+pub record IsSwept (seg : Table) (places : List ℕ) (left : ℕ) (old now : WeakTable) : Type 0 where
+  pub blocks : now.blocks ≡ old.blocks
+  pub each : (s : ℕ) → (get now.held s ≡ option_map (kept_key seg s) (get old.held s))
+      ⊎ IsAhead places left old now s
+
+pub none_swept : (seg : Table) {old : WeakTable} {count : ℕ} {slots places : List ℕ} {capacity : ℕ}
+    → IsListed old count slots places capacity → IsSwept seg places (length slots) old old
+none_swept seg {old} {count} {slots} {places} listed = record {
+  blocks = refl;
+  each = λ s. by s (keyed_in (get old.held s)) refl;
+}
+  where
+    by : (s : ℕ) (b : Bool) → keyed_in (get old.held s) ≡ b
+        → (get old.held s ≡ option_map (kept_key seg s) (get old.held s))
+        ⊎ IsAhead places (length slots) old old s
+    by s true is = inr (record { same = refl; keyed = is; low = (listed.into s is).0 })
+    by s false is = inl (unkeyed_kept seg s (get old.held s) is)
+
+module _ {seg : Table} {count : ℕ} {slots places : List ℕ} {capacity i : ℕ} {old now : WeakTable}
+    (is : IsSwept seg places (i + 1) old now) (listed : IsListed now count slots places capacity)
+    (low : i < length slots) (slot : ℕ) (at : slot ≡ node_at slots i) where
+  was_held : (s : ℕ) → IsSome (get now.held s) → IsSome (get old.held s)
+  was_held s some =
+      ⊎_elim
       (λ swept. sym (mapped_some (kept_key seg s) (get old.held s)) ∙ sym (ap is_some swept) ∙ some)
-      (is.each s)
+      (λ ahead. sym (ap is_some ahead.same) ∙ some) (is.each s)
 
-  -- the next slot is swept
-  pub sweep_more : (s : ℕ) → s ≡ get_or slots i 0 → IsSome (get now.held s)
-      → IsSwept seg slots (i + 1) old (swept_at seg now s)
-  sweep_more s at some = by (is_none (live_at seg s).target) refl
-    where
-      last : (j : ℕ) → j < i + 1 → i ≤ j → get_or slots j 0 ≡ s
-      last j low more = let same : j ≡ i = omega arith in ap (λ k. get_or slots k 0) same ∙ sym at
+  slot_keyed : keyed_in (get now.held slot) ≡ true
+  slot_keyed = ap (λ s. keyed_in (get now.held s)) at ∙ listed.from i low
 
-      cleared : Some None ≡ option_map (kept_key seg s) (get old.held s)
-          → IsSwept seg slots (i + 1) old (with_entry now s None)
-      cleared here = record {
-        blocks = is.blocks;
-        each = λ q. insert_cases now.held s
-            (λ x o. (o ≡ get old.held x) ⊎ (o ≡ option_map (kept_key seg x) (get old.held x))) None q
-            (inr here) (λ _. is.each q);
-        done = λ j low. insert_cases now.held s (λ x o. o ≡ option_map (kept_key seg x) (get old.held x)) None
-            (get_or slots j 0) here
-            (λ apart. elim (cases_lt j i) [
-              | inl less ↦ is.done j less
-              | inr more ↦ absurd (apart (last j low more))
-            ]);
-      }
+  -- what is ahead is the slot, or before it
+  ahead_cases : (s : ℕ) → IsAhead places (i + 1) old now s → (s ≡ slot) ⊎ (node_at places s < i)
+  ahead_cases s ahead = elim (cases_eq (node_at places s) i) [
+    | inl e ↦ inl (sym (listed.into s ahead.keyed).1 ∙ ap (node_at slots) e ∙ sym at)
+    | inr n ↦ inr (let below = ahead.low in omega (arith, below, n))
+  ]
 
-      kept : is_none (live_at seg s).target ≡ false → IsSwept seg slots (i + 1) old now
-      kept other = record {
-        blocks = is.blocks;
-        each = is.each;
-        done = λ j low. elim (cases_lt j i) [
-          | inl less ↦ is.done j less
-          | inr more ↦ subst (λ q. get now.held q ≡ option_map (kept_key seg q) (get old.held q))
-              (sym (last j low more))
-              (⊎_elim (λ same. same ∙ other_kept seg s (get old.held s) other) (λ swept. swept) (is.each s))
-        ];
-      }
+  -- the next slot has a target
+  pub sweep_left : is_none (live_at seg slot).target ≡ false → IsSwept seg places i old now
+  sweep_left target = record {
+    blocks = is.blocks;
+    each = λ s. ⊎_elim (λ swept. inl swept) (λ ahead. ⊎_elim
+        (λ e. inl (ahead.same ∙ other_kept seg s (get old.held s)
+        (ap (λ q. is_none (live_at seg q).target) e ∙ target)))
+        (λ below. inr (record { same = ahead.same; keyed = ahead.keyed; low = below }))
+        (ahead_cases s ahead)) (is.each s);
+  }
 
-      by : (b : Bool) → is_none (live_at seg s).target ≡ b
-          → IsSwept seg slots (i + 1) old (swept_at seg now s)
-      by true e =
-          subst (IsSwept seg slots (i + 1) old) (ap (λ b. cond b (with_entry now s None) now) (sym e))
-          (cleared (null_kept seg s (get old.held s) e (was_held s some)))
-      by false e =
-          subst (IsSwept seg slots (i + 1) old)
-          (ap (λ b. cond b (with_entry now s None) now) (sym e)) (kept e)
+  -- the next slot has none, and its key is taken
+  module _ {next : WeakTable} {new_slots new_places : List ℕ}
+      (taken : IsTaken seg slot now next slots places new_slots new_places) where
+    still_low : (s : ℕ) → IsAhead places (i + 1) old now s → s ≢ slot → node_at new_places s < i
+    still_low s ahead apart =
+        let below : node_at places s < i =
+        ⊎_elim (λ e. absurd (apart e)) (λ less. less) (ahead_cases s ahead) in
+        let last : ℕ = node_at slots (length slots - 1) in
+        let inner : s ≢ last = λ e.
+        let end : node_at places s ≡ length slots - 1 =
+        ap (node_at places) e ∙ listed.placed (length slots - 1) (omega (arith, low)) in
+        omega (arith, end, below, low) in
+        let same : node_at new_places s ≡ node_at places s =
+        ap (λ ps. node_at ps s) taken.lists.replaced
+        ∙ get_or-set_other places last s (node_at places slot) 0 inner in
+        omega (arith, same, below)
 
-  -- all are swept
-  pub all_swept : {capacity : ℕ} → IsListed now slots capacity → length slots ≤ i → (s : ℕ)
-      → get now.held s ≡ option_map (kept_key seg s) (get old.held s)
-  all_swept listed over s = at (get now.held s) refl
-    where
-      at : (o : Option (Option Id)) → get now.held s ≡ o
-          → get now.held s ≡ option_map (kept_key seg s) (get old.held s)
-      at None e = ⊎_elim (λ same. same ∙ none (get old.held s) (sym same ∙ e)) (λ swept. swept) (is.each s)
-        where
-          none : (x : Option (Option Id)) → x ≡ None → x ≡ option_map (kept_key seg s) x
-          none None f = refl
-          none (Some v) f = absurd (none-some v (sym f))
-      at (Some v) e =
-          let place : Contains slots s = listed.into s (ap is_some e) in
-          let same : get_or slots place.0 0 ≡ s = get_or_default slots place.0 0 s place.1 ∙ place.2 in
-          subst (λ q. get now.held q ≡ option_map (kept_key seg q) (get old.held q)) same
-          (is.done place.0 (omega (arith, place.1, over)))
+    swept_entry : IsSwept seg new_places i old (with_entry now slot None)
+    swept_entry = record {
+      blocks = is.blocks;
+      each = λ s. elim (cases_eq s slot) [
+        | inl e ↦ inl (ap (get (insert now.held slot None)) e ∙ get_inserted now.held slot None
+            ∙ null_kept seg slot (get old.held slot) taken.null
+            (was_held slot (held_of (get now.held slot) slot_keyed))
+            ∙ ap (λ q. option_map (kept_key seg q) (get old.held q)) (sym e))
+        | inr n ↦ ⊎_elim (λ swept. inl (get_beside now.held slot None s n ∙ swept))
+            (λ ahead. inr (record {
+              same = get_beside now.held slot None s n ∙ ahead.same;
+              keyed = ap keyed_in (get_beside now.held slot None s n) ∙ ahead.keyed;
+              low = still_low s ahead n;
+            })) (is.each s)
+      ];
+    }
+
+    pub sweep_taken : IsSwept seg new_places i old next
+    sweep_taken = subst (IsSwept seg new_places i old) (sym taken.entries) swept_entry
+
+    pub taken_listed : IsListed next count new_slots new_places capacity
+    taken_listed = subst (λ u. IsListed u count new_slots new_places capacity) (sym taken.entries)
+        (clear_listed listed slot slot_keyed taken.lists)
+
+-- all are swept
+pub all_swept : {seg : Table} {places : List ℕ} {left : ℕ} {old now : WeakTable}
+    → IsSwept seg places left old now → left ≤ 0 → (s : ℕ)
+    → get now.held s ≡ option_map (kept_key seg s) (get old.held s)
+all_swept is none s =
+    ⊎_elim (λ swept. swept) (λ ahead. let low = ahead.low in absurd (omega (arith, low, none))) (is.each s)

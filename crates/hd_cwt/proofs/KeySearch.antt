@@ -1,6 +1,11 @@
 -- The search for a key along the ring of its bucket.
-use Rattle.hd_cwt.proofs.Basics.{Bool, Contains, HasBucket, Id, IsBucket, IsWalk, List, None, Option, Some, [], ap, arith, bucket_in, bucket_of, by_place, cases_lt, entries, entries_in, entry_at, eq-eqb, filter, first_in, get-by_place, get_or_past, inl, inr, is_in_bucket, later_in, length, length-map, map, mapped_in, member_cases, node_at, none-some, not_in_none, passing_in, refl, same_Some, subst, suc, sym, ℕ, ⊎_elim, ◌+◌, ◌<◌, ◌∙◌, ◌∷◌, ◌≡◌, ◌≢◌, ◌≤◌}
-use Rattle.hd_model.proofs.{MapEntries.entry_of, PropertyCounts.fewer}
+use Rattle.hd_cwt.proofs.Basics.{Bool, Contains, HasBucket, Id, IsBucket, IsWalk, List, LooksAt, None, Option, Some, [], ap, arith, bucket_in, bucket_of, by_place, cases_eq, cases_lt, entries, entries_in, entry_at, eq-eqb, false≢true, filter, first_in, get-by_place, get_or_past, inl, inr, is_in_bucket, later_in, length, length-map, map, mapped_in, member_cases, ne_eqb, node_at, none-some, not_in_none, pairs_cons, pairs_none, pairs_passing, passing_from, passing_in, refl, same_Some, subst, suc, sym, true, ℕ, ⊎_elim, ◌+◌, ◌<◌, ◌∙◌, ◌∷◌, ◌≡◌, ◌≢◌, ◌≤◌}
+use Rattle.std.proofs.Common.{AllPairs, T}
+use Rattle.std.specs.FinMap.{entries_sorted, is_sorted}
+use Rattle.std.specs.FinMap.Entries.{below_all}
+use Rattle.std.specs.Ordering.{nat_cmp}
+use Rattle.hd_model.proofs.Members.{mapped_from, pairs_mapped}
+use Rattle.hd_model.proofs.{MapEntries.below, MapEntries.both, MapEntries.entry_of, MapEntries.get_entry, PropertyCounts.fewer}
 
 -- the key of a slot in a bucket
 pub key_of : (v : Option (Option Id)) (b : ℕ) → bucket_in v ≡ Some b
@@ -9,10 +14,27 @@ key_of None b e = absurd (none-some b e)
 key_of (Some None) b e = absurd (none-some b e)
 key_of (Some (Some k)) b e = (k, (refl, same_Some (bucket_of k) b e))
 
+-- the keys of a sorted list are apart
+entries_apart : (es : List (ℕ × Option Id)) → T (is_sorted nat_cmp es) → AllPairs (λ e f. e.0 ≢ f.0) es
+entries_apart [] h = pairs_none (λ e f. e.0 ≢ f.0)
+entries_apart (f ∷ es) h =
+    let parts : T (below_all nat_cmp f.0 es) × T (is_sorted nat_cmp es) = both _ _ h in
+    pairs_cons (λ e f. e.0 ≢ f.0) f es
+    (λ e c. let low : f.0 < e.0 = below f.0 es parts.0 e c in λ same. omega (arith, low, same))
+    (entries_apart es parts.1)
+
+-- an entry that is in a bucket has a key there
+in_bucket : (b : ℕ) (v : Option Id) → is_in_bucket b v ≡ true → bucket_in (Some v) ≡ Some b
+in_bucket b None is = absurd (false≢true is)
+in_bucket b (Some k) is = elim (cases_eq (bucket_of k) b) [
+  | inl same ↦ ap Some same
+  | inr apart ↦ absurd (false≢true (sym (ne_eqb (bucket_of k) b apart) ∙ is))
+]
+
 module _ (held : List (Option (Option Id))) (next : List ℕ) (end b : ℕ) (l : List ℕ)
     (is : IsBucket held next end b l) where
   -- a bucket's ring is not longer than the number of its entries
-  pub ring_short : length l ≤ entries_in (by_place held) b
+  ring_short : length l ≤ entries_in (by_place held) b
   ring_short =
       let test : ℕ × Option Id → Bool = λ (e : ℕ × Option Id). is_in_bucket b e.1 in
       let found : List (ℕ × Option Id) = filter test (entries (by_place held)) in
@@ -26,6 +48,29 @@ module _ (held : List (Option (Option Id))) (next : List ℕ) (end b : ℕ) (l :
       let long : length (map (λ (e : ℕ × Option Id). e.0) found) ≡ length found =
       length-map found (λ (e : ℕ × Option Id). e.0) in
       omega arith
+
+  -- and it has each of them
+  ring_long : entries_in (by_place held) b ≤ length l
+  ring_long =
+      let test : ℕ × Option Id → Bool = λ (e : ℕ × Option Id). is_in_bucket b e.1 in
+      let all : List (ℕ × Option Id) = entries (by_place held) in
+      let found : List (ℕ × Option Id) = filter test all in
+      let apart : AllPairs (λ x y. x ≢ y) (map (λ (e : ℕ × Option Id). e.0) found) =
+      pairs_mapped (λ e f. e.0 ≢ f.0) (λ x y. x ≢ y) (λ (e : ℕ × Option Id). e.0) found (λ x y h. h)
+      (pairs_passing test (λ e f. e.0 ≢ f.0) all (entries_apart all (entries_sorted (by_place held)))) in
+      let few : length (map (λ (e : ℕ × Option Id). e.0) found) ≤ length l =
+      fewer (map (λ (e : ℕ × Option Id). e.0) found) l apart (λ z h.
+      let (e, at) = mapped_from (λ (g : ℕ × Option Id). g.0) found z h in
+      let (among, passes) = passing_from test all e at.0 in
+      subst (Contains l) at.1 (is.into e.0
+      (ap bucket_in (sym (get-by_place held e.0) ∙ get_entry (by_place held) e.0 e.1 among)
+      ∙ in_bucket b e.1 passes))) in
+      let long : length (map (λ (e : ℕ × Option Id). e.0) found) ≡ length found =
+      length-map found (λ (e : ℕ × Option Id). e.0) in
+      omega arith
+
+  pub ring_size : length l ≡ entries_in (by_place held) b
+  ring_size = omega (arith, ring_short, ring_long)
 
 -- the nodes from one on are those of a list, and then an end
 abbrev pub IsAhead : List ℕ → ℕ → List ℕ → ℕ → Type 0
@@ -45,7 +90,7 @@ pub record IsSearching (held : List (Option (Option Id))) (next : List ℕ) (end
   pub slots : (z : ℕ) → Contains left z → z < length held
   pub has : (z : ℕ) → entry_at held z ≡ Some (Some key) → Contains left z
   pub counted : old ≤ now
-  pub bound : now + length left ≤ old + entries_in (by_place held) (bucket_of key)
+  pub bound : now + length left ≡ old + entries_in (by_place held) (bucket_of key)
 
 -- a slot is the first node of a list that is ahead
 record IsNext (next : List ℕ) (at : ℕ) (l : List ℕ) (end : ℕ) : Type 0 where
@@ -83,7 +128,7 @@ module _ {held : List (Option (Option Id))} {next : List ℕ} {end : ℕ} {key :
     slots = λ z h. in_held held z (bucket_of key) (bucket.is.from z h);
     has = λ z h. bucket.is.into z (ap bucket_in h);
     counted = omega arith;
-    bound = omega (arith, ring_short held next end (bucket_of key) bucket.list bucket.is);
+    bound = omega (arith, ring_size held next end (bucket_of key) bucket.list bucket.is);
   }
 
   module _ {at old now : ℕ} (is : IsSearching held next end key at old now) where
@@ -116,6 +161,24 @@ module _ {held : List (Option (Option Id))} {next : List ℕ} {end : ℕ} {key :
           counted = omega (arith, is.counted, step);
           bound = omega (arith, is.bound, long, step);
         }
+
+    -- the entry that was looked at last is the one, or none was left
+    pub looked_found : at ≢ end → (slot after : ℕ) → after ≡ now + 1
+        → LooksAt (Some slot) (entries_in (by_place held) (bucket_of key)) old after
+    looked_found apart slot after step =
+        let low = more apart in (omega (arith, is.counted, step), omega (arith, low, step))
+
+    pub looked_all : at ≡ end → length held ≤ end
+        → LooksAt {A = ℕ} None (entries_in (by_place held) (bucket_of key)) old now
+    looked_all over high = by is.left is.ahead is.slots is.bound
+      where
+        by : (l : List ℕ) → IsAhead next at l end → ((y : ℕ) → Contains l y → y < length held)
+            → now + length l ≡ old + entries_in (by_place held) (bucket_of key)
+            → now ≡ old + entries_in (by_place held) (bucket_of key)
+        by [] ahead slots bound = omega (arith, bound)
+        by (s ∷ ss) ahead slots bound =
+            let below : s < length held = slots s (first_in s ss) in
+            let same : s ≡ end = sym ahead.0 ∙ over in absurd (omega arith)
 
     pub nowhere : at ≡ end → length held ≤ end → (z : ℕ) → entry_at held z ≡ Some (Some key) → ⊥
     nowhere over high z h = none is.left is.ahead is.slots (is.has z h)

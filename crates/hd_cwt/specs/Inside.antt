@@ -1,11 +1,11 @@
 -- What is always true of the fields of a weak table.
-use Rattle.std.specs.Prelude.{◌≡◌, ◌≢◌, ℕ, ◌+◌, ◌*◌, ◌/◌, ◌%◌, ◌<◌, ◌≤◌, true, false, Bool, cond, List, length, slice_index_or, is_none, Option, Some, None, IsSome, Contains, AllPairs}
+use Rattle.std.specs.Prelude.{◌≡◌, ◌≢◌, ℕ, ◌+◌, ◌-◌, ◌*◌, ◌/◌, ◌%◌, ◌<◌, ◌≤◌, true, false, Bool, cond, List, length, slice_index_or, slice_set, is_none, Option, Some, None, Contains, AllPairs}
 use Rattle.std.specs.FinMap.{get, insert, len}
 use Rattle.std.specs.Int.{bit_at}
 use Rattle.hd_model.specs.{declared.data.Id.Id, declared.limits.TheConstants.BLOCKS, declared.limits.TheConstants.ROWS, Table.Table, Table.live_at}
 use Rattle.hd_cwt.specs.declared.entries.TheConstants.{BUCKETS}
 use Rattle.hd_cwt.specs.Rings.{node_at, IsWalk, IsRings}
-use Rattle.hd_cwt.specs.WeakTable.{WeakTable, bucket_of, room_of, IsWeakTable}
+use Rattle.hd_cwt.specs.WeakTable.{WeakTable, bucket_of, room_of, slots_of, IsWeakTable}
 
 -- whether a slot is held, and its key
 abbrev pub entry_at : List (Option (Option Id)) → ℕ → Option (Option Id)
@@ -60,14 +60,47 @@ pub record IsEntries (blocks : ℕ) (held : List (Option (Option Id))) (next pre
   pub linked : IsLinked held next previous
   pub marked : IsMarked held masks first
 
--- the list of the held slots
-pub record IsListed (t : WeakTable) (slots : List ℕ) (capacity : ℕ) : Type 0 where
-  pub table : IsWeakTable t
-  pub counted : length slots ≡ len t.held
-  pub room : room_of t ≤ capacity
-  pub into : (s : ℕ) → IsSome (get t.held s) → Contains slots s
-  pub from : (s : ℕ) → Contains slots s → IsSome (get t.held s)
+-- whether a slot is held and has a key
+abbrev pub keyed_in : Option (Option Id) → Bool
+keyed_in None = false
+keyed_in (Some None) = false
+keyed_in (Some (Some key)) = true
 
--- a table with one slot swept
-abbrev pub swept_at : Table → WeakTable → ℕ → WeakTable
-swept_at seg t slot = cond (is_none (live_at seg slot).target) (record t { held = insert t.held slot None }) t
+-- a slot is listed at its place
+abbrev pub IsListedAt : (slots places : List ℕ) (slot : ℕ) → Type 0
+IsListedAt slots places slot =
+    (node_at places slot < length slots) × (node_at slots (node_at places slot) ≡ slot)
+
+-- the number of the held slots, and the list of those with a key, each of which has its place there
+pub record IsListed (t : WeakTable) (count : ℕ) (slots places : List ℕ) (capacity : ℕ) : Type 0 where
+  pub table : IsWeakTable t
+  pub counted : count ≡ len t.held
+  pub room : room_of t ≤ capacity
+  pub size : length places ≡ slots_of t
+  pub into : (s : ℕ) → keyed_in (get t.held s) ≡ true → IsListedAt slots places s
+  pub from : (i : ℕ) → i < length slots → keyed_in (get t.held (node_at slots i)) ≡ true
+  pub placed : (i : ℕ) → i < length slots → node_at places (node_at slots i) ≡ i
+
+-- a slot was taken off the list, and the last one has come to its place
+pub record IsUnlisted (slots places new_slots new_places : List ℕ) (slot : ℕ) : Type 0 where
+  pub shorter : length new_slots + 1 ≡ length slots
+  pub moved :
+      node_at places slot + 1 < length slots
+      → node_at new_slots (node_at places slot) ≡ node_at slots (length slots - 1)
+  pub kept :
+      (i : ℕ) → i ≢ node_at places slot → i + 1 < length slots → node_at new_slots i ≡ node_at slots i
+  pub replaced : new_places ≡ slice_set places (node_at slots (length slots - 1)) (node_at places slot)
+
+-- a slot with a key is swept: where its row has no target, its key is taken and it is listed no more
+pub record IsTaken (seg : Table) (slot : ℕ) (old new : WeakTable)
+    (slots places new_slots new_places : List ℕ) : Type 0 where
+  pub null : is_none (live_at seg slot).target ≡ true
+  pub entries : new ≡ record old { held = insert old.held slot None }
+  pub lists : IsUnlisted slots places new_slots new_places slot
+
+pub record IsLeft (seg : Table) (slot : ℕ) (old new : WeakTable)
+    (slots places new_slots new_places : List ℕ) : Type 0 where
+  pub target : is_none (live_at seg slot).target ≡ false
+  pub entries : new ≡ old
+  pub slots_are : new_slots ≡ slots
+  pub places_are : new_places ≡ places

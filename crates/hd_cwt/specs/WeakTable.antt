@@ -65,6 +65,16 @@ is_in_bucket bucket (Some key) = bucket_of key == bucket
 abbrev pub entries_in : FinMap nat_cmp (Option Id) → ℕ → ℕ
 entries_in held bucket = length (filter (λ (e : ℕ × Option Id). is_in_bucket bucket e.1) (entries held))
 
+-- a search of a bucket looks at each of its entries where the key is in none, and else at one at least and at
+-- no more than these
+abbrev pub LooksAt : {A : Type 0} → Option A → (many before after : ℕ) → Type 0
+LooksAt None many before after = after ≡ before + many
+LooksAt (Some found) many before after = (before + 1 ≤ after) × (after ≤ before + many)
+
+-- keys are divided into 4,096 buckets
+abbrev pub BucketsAreThese : Type 0
+BucketsAreThese = BUCKETS ≡ 4096
+
 -- what a held slot has after a sweep: no key where its row has no target
 abbrev pub kept_key : Table → ℕ → Option Id → Option Id
 kept_key seg slot key = cond (is_none (live_at seg slot).target) None key

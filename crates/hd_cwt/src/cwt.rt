@@ -1,13 +1,15 @@
 ghost use Rattle.std.specs.Prelude.{◌≡◌, ℕ, ◌+◌, ◌<◌, ◌≤◌, ◌↔◌, Some, None, option_map};
-ghost use Rattle.std.specs.Prelude.{IfOk, IfSome, IsSome, IsNone};
+ghost use Rattle.std.specs.Prelude.{◌⊎◌, ◌-◌, IfOk, IfSome, IsSome, IsNone, length, vec_capacity};
 ghost use Rattle.std.specs.FinMap as map;
 ghost use Rattle.std.specs.FinMap.{get, len, contains_key};
 ghost use Rattle.hd_model.specs.Table.{live_at};
-ghost use Rattle.hd_cwt.specs.WeakTable.{CanTake, HasKey, IsIdle, IsIn, IsLeastIdle, IsWeakTable};
+ghost use Rattle.hd_cwt.specs.WeakTable.{CanTake, HasKey, IsIdle, IsIn, IsLeastIdle, IsWeakTable, LooksAt};
 ghost use Rattle.hd_cwt.specs.WeakTable.{bucket_of, entries_in, kept_key, slots_of};
-ghost use Rattle.hd_cwt.specs.Inside.{swept_at};
+ghost use Rattle.hd_cwt.specs.Rings.{node_at};
+ghost use Rattle.hd_cwt.specs.Inside.{IsTaken, IsLeft};
 
 use crate::entries::Entries;
+use crate::keyed::Keyed;
 use hd_model::limits::{BLOCKS, ROWS};
 use hd_model::{Addr, Id, Memory, Slot, Steps};
 use hd_seg::Seg;
@@ -22,8 +24,9 @@ use std::sync::ledger::{Blank, Ledger};
 #[derive(Drop)]
 pub struct Cwt {
     entries: Entries,
-    // The held slots, in the order in which they were first taken.
-    slots: Vec<u32>,
+    // The number of held slots, and those of them with a key.
+    count: u32,
+    keyed: Keyed,
 }
 
 impl Model for Cwt {
@@ -36,7 +39,8 @@ impl Model for Cwt {
 
     ghost view = { λ t. t.entries };
 
-    ghost invariant = { λ t. IsListed t.entries t.slots.items (vec_capacity t.slots) };
+    ghost invariant = { λ t. IsListed t.entries t.count t.keyed.slots.items t.keyed.places.items
+        (vec_capacity t.keyed.slots) };
 }
 
 impl Cwt {
@@ -47,11 +51,12 @@ impl Cwt {
         ensures { IfOk result (λ t. t ≡ record { blocks = blocks; held = map.empty }) }
     {
         let entries = Entries::open(alloc, blocks)?;
-        let room = ROWS * (blocks / 2);
-        match Vec::with_capacity(alloc, room as usize) {
-            Ok(slots) => Ok(Cwt { entries, slots }),
-            Err(_) => Err(Memory),
-        }
+        let keyed = Keyed::open(alloc, ROWS * (blocks + 1), ROWS * (blocks / 2))?;
+        Ok(Cwt {
+            entries,
+            count: 0,
+            keyed,
+        })
     }
 
     /// Whether a slot, which may be any number, is held.
@@ -67,7 +72,7 @@ impl Cwt {
         ensures value { result ≡ len self.now.held }
         ensures table { IsWeakTable self.now }
     {
-        self.slots.len() as u32
+        self.count
     }
 
     /// The least held slot without a key, in constant time.
@@ -84,8 +89,8 @@ impl Cwt {
     pub fn find<L: Ledger>(&self, key: Id, steps: &mut Steps<L>) -> Option<Slot>
         ensures found { IfSome result (λ slot. HasKey self.now key slot.0) }
         ensures none { IsNone result ↔ ((slot : ℕ) → ¬ (HasKey self.now key slot)) }
-        ensures counted { steps.old ≤ steps.new }
-        ensures steps { steps.new ≤ steps.old + (entries_in self.now.held (bucket_of key) + 1) }
+        ensures steps { let many = entries_in self.now.held (bucket_of key) in
+            LooksAt result many steps.old steps.new }
         ensures table { IsWeakTable self.now }
     {
         let slot = self.entries.find(key, steps)?;
@@ -101,8 +106,9 @@ impl Cwt {
     {
         let held = self.held(slot);
         self.entries.put(slot.0, key);
+        self.keyed.push(slot.0);
         if !held {
-            self.slots.push_reserved(slot.0);
+            self.count += 1;
         }
     }
 
@@ -125,28 +131,55 @@ impl Cwt {
         let mut steps = Steps::<L>::open(blank);
         let slot = self.entries.find(key, &mut steps).unwrap();
         self.entries.clear(slot);
+        self.keyed.remove(slot);
+    }
+
+    /// Takes the key out of a held slot, if it has one, without a search. The slot stays held, and
+    /// is idle.
+    pub fn clear(&mut self, slot: Slot)
+        requires { IsSome (get self.old.held slot.0) }
+        ensures { self.new ≡ record self.old { held = map.insert self.old.held slot.0 None } }
+    {
+        let keyed = self.entries.has_key(slot.0);
+        self.entries.clear(slot.0);
+        if keyed {
+            self.keyed.remove(slot.0);
+        }
     }
 
     /// Takes out the keys in slots whose row has a null target. Their slots stay held. It looks at
-    /// each held slot once. A slot that is not live has no target.
+    /// each slot with a key once, and at no other. A slot that is not live has no target.
     pub fn sweep(&mut self, seg: &Seg)
         ensures blocks { self.new.blocks ≡ self.old.blocks }
         ensures each { (slot : ℕ) → get self.new.held slot ≡
             option_map (kept_key seg.now slot) (get self.old.held slot) }
     {
-        for i in 0..self.slots.len() {
-            sweep_slot(&mut self.entries, seg, self.slots[i]);
+        let mut left = self.keyed.slots.len();
+        // From the last on: where a slot is taken off, the one that comes to its place was seen.
+        while left > 0 {
+            left -= 1;
+            let slot = self.keyed.slots[left];
+            sweep_slot(&mut self.entries, &mut self.keyed, seg, slot);
         }
     }
 }
 
-// Takes out the key in a slot whose row has a null target, if it has one.
-fn sweep_slot(entries: &mut Entries, seg: &Seg, slot: u32)
-    requires { IsSome (get entries.old.held slot) }
-    ensures { entries.new ≡ swept_at seg.now entries.old slot }
+// Takes out the key in a slot that has one, where its row has a null target.
+fn sweep_slot(entries: &mut Entries, keyed: &mut Keyed, seg: &Seg, slot: u32)
+    requires held { IsSome (get entries.old.held slot) }
+    requires within { slot < length keyed.old.places.items }
+    requires listed { node_at keyed.old.places.items slot < length keyed.old.slots.items }
+    requires last { let slots = keyed.old.slots.items in
+        node_at slots (length slots - 1) < length keyed.old.places.items }
+    ensures swept { let slots = keyed.old.slots.items in let places = keyed.old.places.items in
+        let left = keyed.new.slots.items in let moved = keyed.new.places.items in
+        IsTaken seg.now slot entries.old entries.new slots places left moved
+        ⊎ IsLeft seg.now slot entries.old entries.new slots places left moved }
+    ensures capacity { vec_capacity keyed.new.slots ≡ vec_capacity keyed.old.slots }
 {
     if target_of(seg, slot).is_none() {
         entries.clear(slot);
+        keyed.remove(slot);
     }
 }
 

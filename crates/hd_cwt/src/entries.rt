@@ -4,8 +4,8 @@ ghost use Rattle.std.specs.Prelude.{slice_index_or, Some, None, IfOk, IfSome, If
 ghost use Rattle.std.specs.FinMap as map;
 ghost use Rattle.std.specs.FinMap.{get};
 ghost use Rattle.hd_model.specs.Indexed.{by_place};
-ghost use Rattle.hd_cwt.specs.WeakTable.{IsIdle, HasKey, bucket_of, entries_in, slots_of};
-ghost use Rattle.hd_cwt.specs.Inside.{HasBucket, entry_at};
+ghost use Rattle.hd_cwt.specs.WeakTable.{IsIdle, HasKey, LooksAt, bucket_of, entries_in, slots_of};
+ghost use Rattle.hd_cwt.specs.Inside.{HasBucket, entry_at, keyed_in};
 
 use crate::rings::Rings;
 use hd_mask::{bit, lowest};
@@ -70,6 +70,13 @@ impl Entries {
         entry(&self.held, slot)
     }
 
+    /// Whether a slot, which may be any number, is held and has a key.
+    pub(crate) fn has_key(&self, slot: u32) -> bool
+        ensures { result ≡ keyed_in (get self.now.held slot) }
+    {
+        matches!(self.get(slot), Some(Some(_)))
+    }
+
     /// The least idle slot.
     pub(crate) fn idle(&self) -> Option<u32>
         ensures idle { IfSome result (IsIdle self.now) }
@@ -87,8 +94,8 @@ impl Entries {
     pub(crate) fn find<L: Ledger>(&self, key: Id, steps: &mut Steps<L>) -> Option<u32>
         ensures found { IfSome result (HasKey self.now key) }
         ensures none { IfNone result ((slot : ℕ) → HasKey self.now key slot → ⊥) }
-        ensures counted { steps.old ≤ steps.new }
-        ensures steps { steps.new ≤ steps.old + entries_in self.now.held (bucket_of key) }
+        ensures steps { let many = entries_in self.now.held (bucket_of key) in
+            LooksAt result many steps.old steps.new }
     {
         let end = self.bucket(key);
         search(&self.held, &self.rings.next, end, key, steps)
@@ -150,8 +157,8 @@ fn search<L: Ledger>(
     requires within { (length held.now ≤ end) × (end < length next.now) }
     ensures found { IfSome result (λ slot. entry_at held.now slot ≡ Some (Some key)) }
     ensures none { IfNone result ((slot : ℕ) → entry_at held.now slot ≡ Some (Some key) → ⊥) }
-    ensures counted { steps.old ≤ steps.new }
-    ensures steps { steps.new ≤ steps.old + entries_in (by_place held.now) (bucket_of key) }
+    ensures steps { let many = entries_in (by_place held.now) (bucket_of key) in
+        LooksAt result many steps.old steps.new }
 {
     let mut at = next[end as usize];
     while at != end {
@@ -178,8 +185,8 @@ fn first_marked(masks: &[u64], from: u32) -> u32
     masks.len() as u32
 }
 
-// A list of `count` copies of a value.
-fn filled<T: Copy + Drop>(alloc: Global, value: T, count: u32) -> Result<Vec<T>, Memory>
+/// A list of `count` copies of a value.
+pub(crate) fn filled<T: Copy + Drop>(alloc: Global, value: T, count: u32) -> Result<Vec<T>, Memory>
     ensures { IfOk result (λ v. v.items ≡ replicate count value) }
 {
     let mut list = Vec::new(alloc);

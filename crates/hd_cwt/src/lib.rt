@@ -4,6 +4,9 @@
 
 mod cwt;
 mod entries;
+mod keyed;
+mod laws;
 mod rings;
 
 pub use cwt::Cwt;
+pub use laws::buckets_are_these;

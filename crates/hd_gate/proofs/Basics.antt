@@ -16,14 +16,14 @@ pub use Rattle.hd_custody.proofs.HeldSlots.{every_append, every_cons, every_pick
 pub use Rattle.hd_custody.proofs.LeaveHeld.{none_ended, unchanged}
 pub use Rattle.hd_custody.specs.Calls.{Allocates, Gathers, gathered, offered, slot_number}
 pub use Rattle.hd_custody.specs.Counts.{Every, Has, HasAs, changed, is_nil, picks, rows, slot_block, without, without_block}
-pub use Rattle.hd_custody.specs.Rule.{Divided, Entered}
-pub use Rattle.hd_custody.specs.Views.{Continues, Follows, Fresh, GrowsByBlocks, KindIs, Known, MayGrant, Named, called, closed, extra_block, gave_back, granted, handle_block, joined, numbers_of, shared_out, starting, took}
+pub use Rattle.hd_custody.specs.Rule.{Divided, Ended, Entered}
+pub use Rattle.hd_custody.specs.Views.{Continues, Follows, Fresh, GrowsByBlocks, IsPrefix, KindIs, Known, MayGrant, Named, called, closed, extra_block, gave_back, granted, handle_block, joined, numbers_of, shared_out, starting, took}
 pub use Rattle.hd_custody.specs.declared.view.View.{View}
 pub use Rattle.hd_gate.specs.Alone.{FindsFullExactly, HasCalled, TrimsExactly}
 pub use Rattle.hd_gate.specs.Change.{MayGrow, MayNote, Offers, change_in, change_of, grown_by, noted}
 pub use Rattle.hd_gate.specs.Idle.{IsIdle}
 pub use Rattle.hd_gate.specs.Opening.{AreNew, HasEnded, IsFirst, IsNew}
-pub use Rattle.hd_gate.specs.Shared.{AreAll, Begin, CallerView, Found, HadRoom, HasDone, HasParts, LookedFor, OwnMiss, OwnSteps, ReleasesOne, SearchView, SlotCalls}
+pub use Rattle.hd_gate.specs.Shared.{AreAll, Begin, CallerView, Found, HadRoom, HasDone, HasParts, LookedFor, OwnMiss, OwnSteps, ReleasesOne, SearchView, SlotCalls, having_seen, looks_with_gate}
 pub use Rattle.hd_gate.specs.Tied.{IsTied, is_free, is_live, kind_of_block}
 pub use Rattle.hd_gate.specs.Turns.{Looked, LooksWhere, ReleasesFreed, Stayed, Stepped, Turned, WantsMemory, caller_view_of, freed_in, search_of, with_grown, without_gathered}
 pub use Rattle.hd_gate.specs.declared.change.Change.{Change}

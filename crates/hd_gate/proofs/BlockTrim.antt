@@ -1,5 +1,5 @@
 -- `trim`: what its caller has under the gate, and once it left.
-use Rattle.hd_gate.proofs.Basics.{Back, BlockUse, Bool, Change, Cmd, Entered, Entry, Every, Gathers, GrowsUnoffered, Has, IfSome, IsIdle, IsOffer, Kind, List, LookedFor, None, Option, OwnSteps, ROWS, SlotCalls, Some, State, StepOf, Stepped, View, WorldView, [], ap, arith, asks_of, called, cases_eq, change_in, change_of, closed, cond, eq-eqb, every_append, every_picks, false, filter-append, filter_picks, first_block, first_slot, gathered, get, get_left, get_removed, ghosts, inl, inr, is_live, is_nil, kind_number, kind_word, member_at, nat_cmp, ne_eqb, not, numbers_of, option_map, part_of, picks_none, refl, row_has, rows, search_of, subst, sym, took, true, use_of, without_block, without_gathered, without_use, ℕ, ◌%◌, ◌&&◌, ◌*◌, ◌++◌, ◌+◌, ◌/◌, ◌<◌, ◌==◌, ◌∙◌, ◌≡◌, ◌≤◌}
+use Rattle.hd_gate.proofs.Basics.{Back, BlockUse, Bool, Change, Cmd, Entered, Entry, Every, Gathers, GrowsUnoffered, Has, IfSome, IsIdle, IsOffer, IsPrefix, Kind, List, LookedFor, None, Option, OwnSteps, ROWS, SlotCalls, Some, State, StepOf, Stepped, View, WorldView, [], ap, arith, asks_of, called, cases_eq, change_in, change_of, closed, cond, eq-eqb, every_append, every_picks, false, filter-append, filter_picks, first_block, first_slot, gathered, get, get_left, get_removed, ghosts, inl, inr, is_live, is_nil, kind_number, kind_word, looks_with_gate, member_at, nat_cmp, ne_eqb, not, numbers_of, option_map, part_of, picks_none, refl, row_has, rows, search_of, subst, sym, took, true, use_of, without_block, without_gathered, without_use, ℕ, ◌%◌, ◌&&◌, ◌*◌, ◌++◌, ◌+◌, ◌/◌, ◌<◌, ◌==◌, ◌∙◌, ◌≡◌, ◌≤◌}
 use Rattle.std.specs.Int.{bit_at}
 use Rattle.std.proofs.lemmas.Nat.Bits.{bit_at_ones}
 use mathlib.Core.Option.{some}
@@ -9,7 +9,7 @@ use Rattle.hd_world.specs.World.{Takes as TakesOffer}
 use Rattle.hd_gate.specs.declared.change.Change.TheVariants.{GivesBack as Gives}
 use Rattle.hd_gate.proofs.HandleMake.{free_among_held}
 use Rattle.hd_gate.proofs.StepLiveSlots.{in_state, zero_is_not_one, is_trim}
-use Rattle.hd_gate.proofs.GateLeave.{SameSeat, same_seat, Leaves, leaves, every_nil, held_stays}
+use Rattle.hd_gate.proofs.GateLeave.{Finds, SameSeat, same_seat, Leaves, leaves, every_nil, held_stays}
 use Rattle.std.specs.FinMap as map
 use Rattle.hd_model.specs.declared.data.Reply.TheVariants as reply
 use Rattle.hd_model.specs.declared.command.Cmd.TheVariants as cmd
@@ -92,8 +92,14 @@ module _ (number : ℕ) (command : Cmd) (kind : Kind) (is_gives : change_of comm
   same : SameSeat v v'
   same = same_seat v' (called (gathered K o v.held) v'.trace v) found.view
 
-  own : part_of u.journal v.number ≡ v.part
-  own = ap (part_of u.journal) (sym same.0) ∙ entered.part ∙ same.2
+  own : Finds v u
+  own = (
+    ap (part_of u.journal) (sym same.0) ∙ entered.part ∙ same.2,
+    subst (λ s. IsPrefix s u.journal) (ap (λ (x : View WorldView). x.seen) found.view) entered.goes_on,
+  )
+
+  won : v'.gate_steps + 1 ≡ v.gate_steps + 1
+  won = ap (λ (x : View WorldView). x.gate_steps + 1) found.view
 
   sized : u.numbers ≡ numbers_of v.limits
   sized = entered.sized ∙ ap numbers_of same.1
@@ -105,22 +111,27 @@ module _ (number : ℕ) (command : Cmd) (kind : Kind) (is_gives : change_of comm
   does = subst (StepOf u.numbers u.state e w.state)
       (stepped.applied.command.1 ∙ is_trim u.state number kind command gives) stepped.applied.step.does
 
-  own_steps : OwnSteps (search_of v) (search_of v')
+  abbrev with_gate : Bool
+  with_gate = looks_with_gate (change_of command)
+
+  own_steps : OwnSteps with_gate (search_of v) (search_of v')
   own_steps = record {
     one = ap (λ (x : View WorldView). x.trace_number) found.view;
     began_empty = ap (λ (x : View WorldView). x.began_empty) found.view ∙ ap is_nil idle.held;
+    began_with_gate = ap (λ (x : View WorldView). x.began_with_gate) found.view ∙ idle.gate
+        ∙ sym (ap looks_with_gate is_gives);
   }
 
-  slot_calls : SlotCalls (change_in u.state number command) u.state v.limits.blocks (search_of v)
+  slot_calls : SlotCalls (change_in u.state number command) with_gate u.state v.limits.blocks (search_of v)
       (search_of v') e
   slot_calls =
-      subst (λ (c : Change). SlotCalls c u.state v.limits.blocks (search_of v) (search_of v') e) (sym gives)
-      own_steps
+      subst (λ (c : Change). SlotCalls c with_gate u.state v.limits.blocks (search_of v) (search_of v') e)
+      (sym gives) own_steps
 
   looked_for : (e.reply ≡ reply.Value 0 → o ≡ None)
-      → LookedFor (asks_of u.state number command) v.limits.blocks (search_of v) (search_of v') e
+      → LookedFor (asks_of u.state number command) with_gate v.limits.blocks (search_of v) (search_of v') e
   looked_for only =
-      subst (λ (c : Cmd). LookedFor (asks_of u.state number c) v.limits.blocks (search_of v) (search_of v') e)
+      subst (λ (c : Cmd). LookedFor (asks_of u.state number c) with_gate v.limits.blocks (search_of v) (search_of v') e)
       (sym (is_trim u.state number kind command gives))
       (λ says. record {
         own = own_steps;
@@ -129,7 +140,7 @@ module _ (number : ℕ) (command : Cmd) (kind : Kind) (is_gives : change_of comm
       })
 
   -- nothing was gathered, and nothing is given back
-  kept : o ≡ None → Leaves number command u w e v (took u v')
+  kept : o ≡ None → Leaves number command u w e v (took ghosts u v')
   kept none =
       let grows : e.reply ≡ reply.Value 0 =
       subst (λ (c : Cmd). GrowsUnoffered u.numbers u.state number c None e)
@@ -140,18 +151,18 @@ module _ (number : ℕ) (command : Cmd) (kind : Kind) (is_gives : change_of comm
       elim does [
         | inl m ↦ absurd (zero_is_not_one (sym grows ∙ m.reply))
         | inr out ↦ leaves number command (option_map first_slot o) u w e stepped v
-            (took u v') idle some_room own sized
-            same refl slot_calls (λ b _ _. ap (λ (s : State). kind_word (use_of s b)) out.after)
+            (took ghosts u v') idle some_room own sized
+            same won refl slot_calls (λ b _ _. ap (λ (s : State). kind_word (use_of s b)) out.after)
             (λ x _ on. inl (sym (ap (λ (s : State). is_live s x) out.after) ∙ on))
-            (held_stays u w (took u v') (λ x. ap (λ (s : State). is_live s x) out.after)
+            (held_stays u w (took ghosts u v') (λ x. ap (λ (s : State). is_live s x) out.after)
             (held ∙ ap (λ p. gathered K p []) none))
             (looked_for (λ _. none))
       ]
 
   -- a block was gathered, and is given back
-  given : (block : ℕ) → o ≡ Some block → Leaves number command u w e v (closed block (took u v'))
+  given : (block : ℕ) → o ≡ Some block → Leaves number command u w e v (closed block (took ghosts u v'))
   given block is =
-      let busy = closed block (took u v') in
+      let busy = closed block (took ghosts u v') in
       let takes : TakesOffer u.state number e (cmd.Trim kind) (first_slot block) = subst
       (λ (c : Cmd). TakesOffer u.state number e c (first_slot block))
       (is_trim u.state number kind command gives)
@@ -162,7 +173,7 @@ module _ (number : ℕ) (command : Cmd) (kind : Kind) (is_gives : change_of comm
             (sym m.grown ∙ takes.1 ∙ ap Back (first_block block)) in
             let after : w.state ≡ without_use u.state block = m.after ∙ ap (without_use u.state) which in
             leaves number command (option_map first_slot o) u w e stepped v busy idle some_room own sized
-            same refl slot_calls
+            same won refl slot_calls
             (λ b _ _. closed_kind u.state.blocks w.state.blocks block
             (ap (λ (s : State). s.blocks) after) b)
             (λ x _ on. inl (sym (ap (λ (s : State). is_live s x) after) ∙ on))
@@ -172,11 +183,11 @@ module _ (number : ℕ) (command : Cmd) (kind : Kind) (is_gives : change_of comm
         | inr out ↦ absurd (zero_is_not_one (sym out.reply ∙ takes.0))
       ]
 
-  leaves_at : (p : Option ℕ) → o ≡ p → Leaves number command u w e v (without_gathered p (took u v'))
+  leaves_at : (p : Option ℕ) → o ≡ p → Leaves number command u w e v (without_gathered p (took ghosts u v'))
   leaves_at None is = kept is
   leaves_at (Some block) is = given block is
 
-  pub trim_leaves : Leaves number command u w e v (without_gathered o (took u v'))
+  pub trim_leaves : Leaves number command u w e v (without_gathered o (took ghosts u v'))
   trim_leaves = leaves_at o refl
 
 -- what `gather` returned may be withdrawn

@@ -60,6 +60,7 @@ module _ (s : Named) (rooms : List ℕ) (first : CallerView) (list all : List Ca
   begin = subst (Begin rooms) (sym are) (record {
     parts = λ c d below. (all_new s rooms first list new news c d below).part;
     rooms = λ c d below. (all_new s rooms first list new news c d below).room;
+    seen = λ c d below. (all_new s rooms first list new news c d below).seen;
   })
 
 -- ---- seats
@@ -72,4 +73,8 @@ module _ {W : Type 0} (begun v : View W) (numbers : Numbers) (begins : begun
 
   pub first_part : (seats spared : ℕ) → IsFirst begun v seats spared → v.part ≡ []
   first_part seats spared first = ap (λ (x : View W). x.part) (first.view ∙ ap
+      (λ (x : View W). record x { made = seats; room = v.room }) begins)
+
+  pub first_seen : (seats spared : ℕ) → IsFirst begun v seats spared → v.seen ≡ []
+  first_seen seats spared first = ap (λ (x : View W). x.seen) (first.view ∙ ap
       (λ (x : View W). record x { made = seats; room = v.room }) begins)

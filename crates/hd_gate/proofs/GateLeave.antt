@@ -1,5 +1,5 @@
 -- What a seat is once its caller took a step under the gate and left.
-use Rattle.hd_gate.proofs.Basics.{BLOCKS, Bool, Cmd, Continues, Entered, Entry, Every, Follows, Has, HasDone, IsIdle, IsOffer, IsWellFormed, Known, List, LookedFor, MayApply, Numbers, Option, ROWS, Run, Slot, SlotCalls, Some, Step, Stepped, TableId, Turned, View, WorldView, [], ap, arith, asks_of, both_off, caller_view_of, cases_eq, change_in, changed, cond, eq-eqb, false, filter, gave_back, ghosts, inl, inr, length, length-append, ne_eqb, none_ended, not, numbers_of, part_of, picks, picks_none, picks_one, refl, run_is_well_formed, search_of, subst, sym, true, ℕ, ◌&&◌, ◌++◌, ◌+◌, ◌/◌, ◌<◌, ◌==◌, ◌∙◌, ◌∷◌, ◌≡◌, ◌≢◌, ◌≤◌, ◌⊎◌, ◌*◌}
+use Rattle.hd_gate.proofs.Basics.{BLOCKS, Bool, Cmd, Continues, Entered, Entry, Every, Follows, Has, HasDone, IsIdle, IsOffer, IsPrefix, IsWellFormed, Known, List, LookedFor, MayApply, Numbers, Option, ROWS, Run, Slot, SlotCalls, Some, Step, Stepped, TableId, Turned, View, WorldView, [], ap, arith, asks_of, both_off, caller_view_of, cases_eq, change_in, change_of, changed, cond, eq-eqb, false, filter, gave_back, ghosts, inl, inr, length, length-append, looks_with_gate, ne_eqb, none_ended, not, numbers_of, part_of, picks, picks_none, picks_one, refl, run_is_well_formed, search_of, subst, sym, true, ℕ, ◌&&◌, ◌++◌, ◌+◌, ◌/◌, ◌<◌, ◌==◌, ◌∙◌, ◌∷◌, ◌≡◌, ◌≢◌, ◌≤◌, ◌⊎◌, ◌*◌}
 use mathlib.Core.Option.{some-ne-none}
 use Rattle.hd_custody.specs.{declared.view.Limits.Limits, Counts.slot_count}
 use Rattle.hd_model.specs.Valid.{IsValid}
@@ -48,6 +48,10 @@ idle_of v n number idle same limits ended made held gate =
       made = λ first. made ∙ idle.made first ∙ sym callers;
     }
 
+-- what the caller of a seat finds in a world: its part is there, and all that it has seen
+abbrev pub Finds : View WorldView → WorldView → Type 0
+Finds v u = (part_of u.journal v.number ≡ v.part) × IsPrefix v.seen u.journal
+
 -- the part of the caller of the last entry
 one_more : (e : Entry) (journal : List Entry) → part_of (journal ++ e ∷ []) e.caller
     ≡ part_of journal e.caller ++ e ∷ []
@@ -78,8 +82,8 @@ pub record Leaves (number : ℕ) (command : Cmd) (u w : WorldView) (e : Entry)
 module _ (number : ℕ) (command : Cmd) (offer : Option Slot) (u w : WorldView) (e : Entry)
     (stepped : Stepped u w number command offer e)
     (v busy : View WorldView) (idle : IsIdle v number) (some : 1 ≤ v.room)
-    (entered : part_of u.journal v.number ≡ v.part) (sized : u.numbers ≡ numbers_of v.limits)
-    (same : SameSeat v busy) where
+    (finds : Finds v u) (sized : u.numbers ≡ numbers_of v.limits)
+    (same : SameSeat v busy) (won : busy.gate_steps ≡ v.gate_steps + 1) where
   abbrev after : View WorldView
   after = gave_back ghosts u w busy
 
@@ -99,7 +103,7 @@ module _ (number : ℕ) (command : Cmd) (offer : Option Slot) (u w : WorldView) 
       ∙ subst (λ n. part_of (u.journal ++ e ∷ []) n ≡ part_of u.journal n ++ e ∷ []) of
       (one_more e u.journal)
       ∙ ap (λ n. part_of u.journal n ++ e ∷ []) same.0
-      ∙ ap (λ p. p ++ e ∷ []) entered
+      ∙ ap (λ p. p ++ e ∷ []) finds.0
 
   room_after : after.room + 1 ≡ v.room
   room_after =
@@ -112,17 +116,21 @@ module _ (number : ℕ) (command : Cmd) (offer : Option Slot) (u w : WorldView) 
 
   -- and the command was done, where what it looked for is stated
   pub done_after : (t : TableId) (n : View WorldView) → n.part ≡ after.part → n.room ≡ after.room
-      → LookedFor (asks_of u.state number command) v.limits.blocks (search_of v) (search_of n) e
-      → SlotCalls (change_in u.state number command) u.state v.limits.blocks (search_of v) (search_of n) e
+      → n.seen ≡ after.seen → n.gate_steps ≡ after.gate_steps
+      → LookedFor (asks_of u.state number command) (looks_with_gate (change_of command)) v.limits.blocks
+      (search_of v) (search_of n) e
+      → SlotCalls (change_in u.state number command) (looks_with_gate (change_of command)) u.state
+      v.limits.blocks (search_of v) (search_of n) e
       → HasDone (caller_view_of (record { table = t; view = v }) number v.room)
       (caller_view_of (record { table = t; view = n }) number n.room) command e.reply
-  done_after t n part room looked_for slot_calls = record {
+  done_after t n part room seen steps looked_for slot_calls = record {
     entry = e;
     found = record {
       journal = u.journal;
       state = u.state;
       run = subst (λ (n : Numbers). Run n u.journal u.state) sized stepped.run;
-      part = ap (part_of u.journal) (sym idle.number) ∙ entered;
+      part = ap (part_of u.journal) (sym idle.number) ∙ finds.0;
+      goes_on = finds.1;
     };
     after = w.state;
     step = subst (λ (n : Numbers). Step n u.state e w.state) sized stepped.applied.step;
@@ -131,17 +139,21 @@ module _ (number : ℕ) (command : Cmd) (offer : Option Slot) (u w : WorldView) 
     reply_is = refl;
     part = part ∙ part_after;
     room = omega (arith, room, room_after);
+    seen = seen ∙ stepped.applied.journal;
+    gate_steps = omega (arith, steps, won);
     looked_for = looked_for;
     slot_calls = slot_calls;
   }
 
   -- so the gate may be left, and the call is then done
   pub leaves : busy.taken ≡ Some u
-      → SlotCalls (change_in u.state number command) u.state v.limits.blocks (search_of v) (search_of busy) e
+      → SlotCalls (change_in u.state number command) (looks_with_gate (change_of command)) u.state
+      v.limits.blocks (search_of v) (search_of busy) e
       → ((b : ℕ) → 0 < b → b < 257 → ghosts.kind w b ≡ changed busy.changes (ghosts.kind u) b)
       → ((x : ℕ) → ROWS ≤ x → ghosts.live w x ≡ true → (ghosts.live u x ≡ true) ⊎ Has x busy.held)
       → after.held ≡ []
-      → LookedFor (asks_of u.state number command) v.limits.blocks (search_of v) (search_of busy) e
+      → LookedFor (asks_of u.state number command) (looks_with_gate (change_of command)) v.limits.blocks
+      (search_of v) (search_of busy) e
       → Leaves number command u w e v busy
   leaves taken slot_calls kinds lives held looked_for = record {
     taken = taken;
@@ -151,9 +163,10 @@ module _ (number : ℕ) (command : Cmd) (offer : Option Slot) (u w : WorldView) 
       sized = stepped.applied.numbers ∙ sized ∙ sym (ap numbers_of same.1);
       lives = lives;
       goes_on = goes_on;
+      sound = stepped.sound;
     };
     idle = idle_after held;
-    done = λ t. done_after t after refl refl looked_for slot_calls;
+    done = λ t. done_after t after refl refl refl refl looked_for slot_calls;
   }
 
 -- ---- a turn, by the seat as it leaves the gate

@@ -1,5 +1,5 @@
 -- `hfree`: what its caller has once it left the gate, and once it let the slot go.
-use Rattle.hd_gate.proofs.Basics.{BLOCKS, Change, Cmd, Entered, Entry, Follows, Frees, Handle, HasAs, HasDone, Id, IfSome, IsIdle, Kind, Known, LookedFor, None, Numbers, Option, ROWS, ReleasesFreed, ReleasesOne, SearchView, Slot, SlotCalls, Some, StepOf, Stepped, TableId, Turned, View, WorldView, [], ap, arith, asks_of, block_of, caller_view_of, cases_eq, change_in, change_of, cond, eq-eqb, freed_in, gave_back, get, ghosts, handles_of, inl, inr, is_some, kind_in_use, kind_number, kind_word, not, option_map, refl, search_of, subst, sym, took, true, use_of, without, ℕ, ◌+◌, ◌-◌, ◌/◌, ◌||◌, ◌∙◌, ◌∷◌, ◌≡◌, ◌≢◌, ◌≤◌}
+use Rattle.hd_gate.proofs.Basics.{BLOCKS, Change, Cmd, Entered, Entry, Follows, Frees, Handle, HasAs, HasDone, Id, IfSome, IsIdle, Kind, Known, LookedFor, None, Numbers, Option, ROWS, ReleasesFreed, ReleasesOne, SearchView, Slot, SlotCalls, Some, StepOf, Stepped, TableId, Turned, View, WorldView, [], ap, arith, asks_of, block_of, caller_view_of, cases_eq, change_in, change_of, cond, eq-eqb, freed_in, gave_back, get, ghosts, handles_of, inl, inr, is_some, kind_in_use, kind_number, kind_word, looks_with_gate, not, option_map, refl, search_of, subst, sym, took, true, use_of, without, ℕ, ◌+◌, ◌-◌, ◌/◌, ◌||◌, ◌∙◌, ◌∷◌, ◌≡◌, ◌≢◌, ◌≤◌}
 use lib.ListN.{get_elem?}
 use Rattle.hd_gate.proofs.StepLiveSlots.{in_state, is_free, LeavesSlots, IsFreed, FreesAt, frees_at}
 use Rattle.hd_gate.proofs.GateLeave.{well_formed, idle_of, goes_on, done_after, held_stays, held_ends}
@@ -12,16 +12,17 @@ module _ (number : ℕ) (command : Cmd) (is_frees : change_of command ≡ Frees)
   frees = in_state u.state number command Frees (λ e. cc) is_frees
 
   abbrev busy : View WorldView
-  busy = took u v
+  busy = took ghosts u v
 
   abbrev left : View WorldView
   left = gave_back ghosts u w busy
 
   looks_for_none : (old new : SearchView)
-      → LookedFor (asks_of u.state number command) v.limits.blocks old new e
+      → LookedFor (asks_of u.state number command) (looks_with_gate (change_of command)) v.limits.blocks old new e
   looks_for_none old new =
       let is = is_free u.state number command frees in
-      subst (λ (c : Cmd). LookedFor (asks_of u.state number c) v.limits.blocks old new e) (sym is.1) tt
+      subst (λ (c : Cmd). LookedFor (asks_of u.state number c) (looks_with_gate (change_of command))
+      v.limits.blocks old new e) (sym is.1) tt
 
   abbrev seat : TableId → View WorldView → Known WorldView
   seat t view = record { table = t; view = view }
@@ -39,18 +40,22 @@ module _ (number : ℕ) (command : Cmd) (is_frees : change_of command ≡ Frees)
     kinds = λ b _ _. ap (λ m. kind_word (get m b)) blocks;
     sized = stepped.applied.numbers ∙ entered.sized;
     lives = λ x _ on. inl (lives x on);
-    goes_on = goes_on number command None u w e stepped v busy idle some_room entered.part entered.sized
-        (refl, refl, refl, refl, refl, refl);
+    goes_on = goes_on number command None u w e stepped v busy idle some_room
+        (entered.part, entered.goes_on) entered.sized
+        (refl, refl, refl, refl, refl, refl) refl;
+    sound = stepped.sound;
   }
 
-  done_at : (n : View WorldView) → n.part ≡ left.part → n.room ≡ left.room → (t : TableId)
+  done_at : (n : View WorldView) → n.part ≡ left.part → n.room ≡ left.room → n.seen ≡ left.seen
+      → n.gate_steps ≡ left.gate_steps → (t : TableId)
       → ReleasesOne u.state v.limits.blocks (search_of v) (search_of n) e
       → HasDone (caller_view_of (record { table = t; view = v }) number v.room)
       (caller_view_of (record { table = t; view = n }) number n.room) command e.reply
-  done_at n part room t releases =
-      done_after number command None u w e stepped v busy idle some_room entered.part entered.sized
-      (refl, refl, refl, refl, refl, refl) t n part room (looks_for_none _ _)
-      (subst (λ (c : Change). SlotCalls c u.state v.limits.blocks (search_of v) (search_of n) e)
+  done_at n part room seen steps t releases =
+      done_after number command None u w e stepped v busy idle some_room
+      (entered.part, entered.goes_on) entered.sized
+      (refl, refl, refl, refl, refl, refl) refl t n part room seen steps (looks_for_none _ _)
+      (subst (λ (c : Change). SlotCalls c (looks_with_gate (change_of command)) u.state v.limits.blocks (search_of v) (search_of n) e)
       (sym frees) releases)
 
   -- nothing was freed
@@ -67,7 +72,7 @@ module _ (number : ℕ) (command : Cmd) (is_frees : change_of command ≡ Frees)
               table = refl;
               limits = refl;
               idle = idle_of v left number idle refl refl refl refl held refl;
-              done = done_at left refl refl t
+              done = done_at left refl refl refl refl t
                   (record { done = λ says. absurd (refused says); refused = λ _. refl });
             });
       }
@@ -125,13 +130,15 @@ module _ (number : ℕ) (command : Cmd) (is_frees : change_of command ≡ Frees)
             (ap (λ (x : View WorldView). x.held) is.view ∙ gone)
             (ap (λ (x : View WorldView). x.has_gate) is.view);
         done = done_at n (ap (λ (x : View WorldView). x.part) is.view)
-            (ap (λ (x : View WorldView). x.room) is.view) t (record {
+            (ap (λ (x : View WorldView). x.room) is.view) (ap (λ (x : View WorldView). x.seen) is.view)
+            (ap (λ (x : View WorldView). x.gate_steps) is.view) t (record {
               done = λ _. record {
                 slot = slot;
                 kind = handle.kind;
                 freed = is_slot;
                 of_kind = used;
                 one = ap (λ (x : View WorldView). x.trace_number) is.view;
+                began_with_gate = ap (λ (x : View WorldView). x.began_with_gate) is.view;
                 steps = is.steps;
               };
               refused = λ apart. absurd (apart at.done);

@@ -2,6 +2,7 @@ pub mod Change
 pub mod Tied
 pub mod Alone
 pub mod Shared
+pub mod Laws
 pub mod Idle
 pub mod Turns
 pub mod Lending

@@ -2,15 +2,15 @@
 use Rattle.std.specs.Prelude.{◌≡◌, ℕ, ◌+◌, ◌<◌, ◌≤◌, List, [], length, slice_index, slice_index_or}
 use mathlib.Core.Option.{some}
 use lib.ListN.{get_elem?}
-use Rattle.hd_custody.specs.{Views.Named, declared.view.View.View}
-use Rattle.hd_model.specs.declared.data.Entry.{Entry}
+use Rattle.hd_custody.specs.{Rule.Ended, Views.Named, declared.view.View.View}
 use Rattle.hd_gate.specs.Shared.{CallerView, IsCallerOf}
 
--- a caller of the shared world s that has done nothing
+-- a caller of the shared world s that has done and seen nothing
 pub record IsNew (s : Named) (place given : ℕ) (p : CallerView) : Type 0 where
   pub is_of : IsCallerOf s p
   pub number : p.number ≡ place
   pub part : p.part ≡ []
+  pub seen : p.seen ≡ []
   pub room : p.room ≡ given
 
 -- the callers from number 1 on, each with its room
@@ -25,9 +25,10 @@ pub record IsFirst {W : Type 0} (begun v : View W) (seats spared : ℕ) : Type 0
   pub view : v ≡ record begun { made = seats; room = v.room }
   pub room : spared ≤ v.room
 
--- what has ended in the seat of caller 0: each part is that of the caller with its number, of the callers
--- from number 1 on
-pub record HasEnded (others : List CallerView) (ended : List (ℕ × List Entry)) : Type 0 where
-  pub each : (k : ℕ) (e : ℕ × List Entry) → get_elem? ended k ≡ some e
+-- what has ended in the seat of caller 0: each part, and what was seen, is that of the caller with its number,
+-- of the callers from number 1 on
+pub record HasEnded (others : List CallerView) (ended : List Ended) : Type 0 where
+  pub each : (k : ℕ) (e : Ended) → get_elem? ended k ≡ some e
       → (c : ℕ) × (c < length others) × (e.0 ≡ c + 1)
-      × ((d : CallerView) → e.1 ≡ (slice_index_or others c d).part)
+      × ((d : CallerView) → (e.1 ≡ (slice_index_or others c d).part) × (e.2
+      ≡ (slice_index_or others c d).seen))

@@ -3,16 +3,21 @@ use Rattle.std.specs.Prelude.{◌≡◌, ◌↔◌, ℕ, ◌+◌, ◌≤◌, Boo
 use Rattle.hd_model.specs.{declared.data.Entry.Entry, declared.data.Grown.Grown, declared.data.Kind.Kind, declared.data.Kind.TheVariants.Dependent, declared.held.Held.Ghosts, declared.data.Reply.Reply, declared.data.Slot.Slot, declared.limits.TheConstants.BLOCKS, declared.command.Cmd.Cmd, Kinds.kind_number, Run.Run, Valid.IsValid, Valid.takes_memory}
 use Rattle.hd_model.specs.declared.data.Grown.TheVariants.{Zero, One, Two, Back}
 use Rattle.hd_model.specs.State.{State, use_of, block_of}
-use Rattle.hd_world.specs.{Applied.Applied, World.WorldView, World.RanOut, Growth.kind_in_use}
+use Rattle.hd_world.specs.{Applied.Applied, StateHeap.IsOfJournal, World.WorldView, World.RanOut, Growth.kind_in_use}
 use Rattle.hd_custody.specs.{declared.view.View.View, Misses.WholeMiss}
 use Rattle.hd_custody.specs.Views.{Named, Known, numbers_of, granted, closed, Fresh, KindIs}
 use Rattle.hd_custody.specs.Calls.{slot_number, Allocates, Releases}
-use Rattle.hd_gate.specs.Shared.{SearchView, CallerView, HadRoom, HasDone}
+use Rattle.hd_gate.specs.Shared.{SearchView, CallerView, HadRoom, HasDone, having_seen}
 use Rattle.hd_gate.specs.Idle.{IsIdle}
 
 -- the last search of a seat
 abbrev pub search_of : {W : Type 0} → View W → SearchView
-search_of v = record { trace = v.trace; trace_number = v.trace_number; began_empty = v.began_empty }
+search_of v = record {
+  trace = v.trace;
+  trace_number = v.trace_number;
+  began_empty = v.began_empty;
+  began_with_gate = v.began_with_gate;
+}
 
 -- a seat, as what its caller is to others
 abbrev pub caller_view_of : {W : Type 0} → Known W → ℕ → ℕ → CallerView
@@ -22,6 +27,8 @@ caller_view_of seat number room = record {
   number = number;
   part = seat.view.part;
   room = room;
+  seen = seat.view.seen;
+  gate_steps = seat.view.gate_steps;
   search = search_of seat.view;
 }
 
@@ -42,35 +49,39 @@ pub record Turned (old new : Known WorldView) (caller : ℕ) (command : Cmd) (an
   pub done : HasDone (caller_view_of old caller old.view.room) (caller_view_of new caller new.view.room)
       command answer
 
--- it found no memory: it is idle again, and its caller is as it was
+-- it found no memory: it is idle again, and its caller is as it was, but for what it has seen
 pub record Stayed (old new : Known WorldView) (caller : ℕ) (command : Cmd) : Type 0 where
   pub idle : IsIdle new.view caller
-  pub party : caller_view_of new caller new.view.room ≡ caller_view_of old caller old.view.room
+  pub party : caller_view_of new caller new.view.room
+      ≡ having_seen new.view.seen (caller_view_of old caller old.view.room)
   pub memory : IsTrue (takes_memory command)
-  pub fits : HadRoom (caller_view_of old caller old.view.room) command
+  pub fits : HadRoom (caller_view_of old caller old.view.room) (caller_view_of new caller new.view.room) command
 
--- a command of a caller took one step, from the world u, whose journal is a run to its state, to the world w
+-- a command of a caller took one step, from the world u, whose journal is a run to its state, to the world w,
+-- which is that of its journal
 pub record Stepped (u w : WorldView) (caller : ℕ) (command : Cmd) (offer : Option Slot) (e : Entry) : Type 0
   where
     pub applied : Applied u caller command offer w e
     pub run : Run u.numbers u.journal u.state
+    pub sound : IsOfJournal w
 
 -- it ran out of memory, and the world is as it was
 pub record WantsMemory (u w : WorldView) (command : Cmd) : Type 0 where
   pub out : RanOut u.numbers u.state command u w
   pub run : Run u.numbers u.journal u.state
 
--- a slot of kind dependent was looked for: the one found is free in the world under the gate, and none was
--- found only after a whole miss
-pub record Looked {W : Type 0} (m : Ghosts W) (blocks : ℕ) (o : Option Slot) (v w : View W) : Type 0 where
-  pub done : Allocates (kind_number Dependent) blocks (slot_number o) v w
-  pub none : IsNone o ↔ WholeMiss (kind_number Dependent) blocks w.trace
+-- a slot of the kind was looked for: the one found is free in the world under the gate, where the seat has that,
+-- and none was found only after a whole miss
+pub record Looked {W : Type 0} (m : Ghosts W) (kind : Kind) (blocks : ℕ) (o : Option Slot) (v w : View W) :
+    Type 0 where
+  pub done : Allocates (kind_number kind) blocks (slot_number o) v w
+  pub none : IsNone o ↔ WholeMiss (kind_number kind) blocks w.trace
   pub fresh : IfSome o (λ slot. Fresh m v slot.0)
-  pub of_kind : IfSome o (λ slot. KindIs m v (block_of slot) (kind_number Dependent + 1))
+  pub of_kind : IfSome o (λ slot. KindIs m v (block_of slot) (kind_number kind + 1))
 
--- it was looked for where it is needed
+-- one of kind dependent was looked for where it is needed
 abbrev pub LooksWhere : {W : Type 0} → Ghosts W → Bool → ℕ → Option Slot → View W → View W → Type 0
-LooksWhere m true blocks o v w = Looked m blocks o v w
+LooksWhere m true blocks o v w = Looked m Dependent blocks o v w
 LooksWhere m false blocks o v w = (o ≡ None) × (w ≡ v)
 
 -- the seat once the words know by which blocks the table grew for the kind with number k

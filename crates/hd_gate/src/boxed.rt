@@ -36,6 +36,8 @@ impl Held for Boxed {
     ghost live = { ⟦<World as Held>⟧.live };
 
     ghost kind = { ⟦<World as Held>⟧.kind };
+
+    ghost sound = { ⟦<World as Held>⟧.sound };
 }
 
 impl Boxed {

@@ -6,6 +6,7 @@ mod alone;
 mod boxed;
 mod callers;
 mod change;
+mod laws;
 mod opening;
 mod shared;
 mod step;
@@ -13,4 +14,5 @@ mod turns;
 
 pub use alone::Alone;
 pub use callers::{Caller, Callers};
+pub use laws::a_free_gate_has_the_world_of_its_journal;
 pub use shared::{Closed, Shared};

@@ -85,6 +85,7 @@ pub(crate) fn join_all(custody: &Custody<Boxed>, mut list: Vec<Caller>) -> Seat<
     ensures all { (result.view.made ≡ custody.now.numbers.callers)
         × (length result.view.ended + 1 ≡ custody.now.numbers.callers) }
     ensures part { (d : CallerView) → result.view.part ≡ (slice_index_or list.items 0 d).part }
+    ensures seen { (d : CallerView) → result.view.seen ≡ (slice_index_or list.items 0 d).seen }
     ensures ended { HasEnded (drop 1 list.items) result.view.ended }
 {
     let Caller {

@@ -1,7 +1,8 @@
 //! A world behind a gate, for callers in threads.
 ghost use Rattle.std.specs.Prelude.{◌≡◌, ◌<◌, ◌≤◌, [], length, sum, IsTrue, IfOk, OnErr};
 ghost use Rattle.hd_model.specs.{State.start_of, Run.Run, Valid.IsValid, Valid.takes_memory};
-ghost use Rattle.hd_gate.specs.Shared.{IsCallerOf, AreAll, Begin, HasParts, IsSameCaller, HasDone, HadRoom};
+ghost use Rattle.hd_world.specs.StateHeap.{IsOfJournal};
+ghost use Rattle.hd_gate.specs.Shared.{IsCallerOf, AreAll, Begin, HasParts, IsSameCaller, HasDone, HadRoom, having_seen};
 
 use crate::boxed::Boxed;
 use crate::callers::{Caller, Callers};
@@ -100,8 +101,10 @@ impl Shared {
         ensures done { IfOk result (HasDone caller.old caller.new cmd) }
         // Out of memory comes for commands that may take it, and not where the heap was full.
         ensures memory { OnErr result (IsTrue (takes_memory cmd)) }
-        ensures fits { OnErr result (HadRoom caller.old cmd) }
-        ensures unchanged { OnErr result (caller.new ≡ caller.old) }
+        ensures fits { OnErr result (HadRoom caller.old caller.new cmd) }
+        // The caller is then as it was, but for what it has seen.
+        ensures unchanged { OnErr result (caller.new
+            ≡ having_seen caller.new.seen caller.old) }
     {
         let number = caller.number;
         let room = *caller.room;
@@ -114,12 +117,14 @@ impl Shared {
         }
     }
 
-    /// Ends with the world, in which the callers have done exactly what each was asked.
+    /// Ends with the world, in which the callers have done exactly what each was asked. Its journal
+    /// begins with what each has seen.
     pub fn close(self, callers: Callers) -> Closed
         requires { AreAll self callers }
         ensures numbers { result.numbers ≡ self.numbers }
         ensures parts { HasParts callers result.journal }
         ensures run { Run result.numbers result.journal result.state }
+        ensures sound { IsOfJournal result }
     {
         let Shared { custody } = self;
         let Callers { list } = callers;

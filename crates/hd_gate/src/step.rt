@@ -19,7 +19,11 @@ pub(crate) fn step(
     // The journal states that it is a run to the world's state.
     let _journal = world.journal();
     match world.apply_uncounted(caller, cmd, offer) {
-        Ok(entry) => Ok(entry),
+        Ok(entry) => {
+            // And it states that state and heap are those of the journal.
+            let _after = world.journal();
+            Ok(entry)
+        }
         Err(Memory) => Err(Memory),
     }
 }

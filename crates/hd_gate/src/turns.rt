@@ -5,7 +5,7 @@ ghost use Rattle.hd_custody.specs.Counts.{Has, HasAs};
 ghost use Rattle.hd_custody.specs.Views.{GrowsByBlocks, MayGrant, handle_block, extra_block};
 ghost use Rattle.hd_gate.specs.Change.{change_of};
 ghost use Rattle.hd_gate.specs.declared.change.Change.TheVariants.{Takes, Adds, Frees, GivesBack, Keeps};
-ghost use Rattle.hd_gate.specs.Turns.{MayTurn, Turned, Stayed, Stepped, LooksWhere, with_grown, without_gathered, freed_in, ReleasesFreed};
+ghost use Rattle.hd_gate.specs.Turns.{MayTurn, Turned, Stayed, Stepped, Looked, LooksWhere, with_grown, without_gathered, freed_in, ReleasesFreed};
 ghost use Rattle.hd_world.specs.World.{MayApply};
 
 use crate::boxed::Boxed;
@@ -71,12 +71,23 @@ fn make<R: Wait>(
     requires takes { change_of cmd ≡ Takes kind }
     ensures { Turned seat.old seat.new number cmd result }
 {
-    let offer = custody.allocate(seat, kind);
-    let mut world = custody.enter(rt, seat);
-    let entry = step_surely(&mut world, number, cmd, offer);
+    let offer = look_before(custody, seat, kind);
+    let mut found = custody.enter(rt, seat);
+    let entry = step_surely(&mut found, number, cmd, offer);
     grant_blocks(custody, seat, kind, entry.grown);
-    custody.leave(seat, world);
+    custody.leave(seat, found);
     entry.reply
+}
+
+// Looks for a slot of a kind before the gate is taken.
+fn look_before(custody: &Custody<Boxed>, seat: &mut Seat<Boxed>, kind: Kind) -> Option<Slot>
+    requires seat { seat.old.table ≡ custody.now.table }
+    requires gate { seat.old.view.has_gate ≡ false }
+    ensures table { seat.new.table ≡ seat.old.table }
+    ensures looked { let held = ⟦<Boxed as Held>⟧ in let blocks = custody.now.blocks in
+        Looked held kind blocks result seat.old.view seat.new.view }
+{
+    custody.allocate(seat, kind)
 }
 
 // `cadd`: whether it needs a slot is asked with the gate. Where it does, one is looked for then;

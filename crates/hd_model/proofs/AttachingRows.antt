@@ -124,9 +124,9 @@ module _ (s : State) (handles : FinMap nat_cmp (Handle Id)) (weak : FinMap nat_c
 
     -- what is resurrected without the row is resurrected with it, or reached by it
     kept_was : (reach : Id → Bool) → ((y : Id) → (reach y ≡ true) → IsReached (scene_of s) n y)
-        → ((y : Id) → IsReached (scene_of s) n y → reach y ≡ true)
-        → IsKept (scene_of less) n x → IsKept (scene_of s) n x
-    kept_was reach to back (start, from) =
+        → ((y : Id) → IsReached (scene_of s) n y → reach y ≡ true) → (y : Id)
+        → IsKept (scene_of less) n y → IsKept (scene_of s) n y
+    kept_was reach to back y (start, from) =
         ⊎_elim
         (λ (reached : IsReached (scene_of less) n start).
         (start, (inl (reached_was start reached), chain_was from.1)))
@@ -148,17 +148,61 @@ module _ (s : State) (handles : FinMap nat_cmp (Handle Id)) (weak : FinMap nat_c
         (cases_Bool (reach start)))
         from.0
 
-    -- over a collection of each, the object stays in both or in none
+    -- where the row's target is not kept, all that is kept is kept without the row
+    kept_beside : (IsKept (scene_of s) n x → ⊥) → (y : Id) → IsKept (scene_of s) n y
+        → IsKept (scene_of less) n y
+    kept_beside never y (start, from) =
+        ⊎_elim
+        (λ chain. (
+          start,
+          (
+            ⊎_elim
+                (λ (reached : IsReached (scene_of s) n start). inl (reached_beside reached))
+                (λ (v : IsToBeFinalized (scene_of s) n start). inr (record {
+                  object = v.object;
+                  is_stored = v.is_stored;
+                  registered = v.registered;
+                  young = v.young;
+                  lost = λ reached. v.lost (reached_was start reached);
+                }))
+                from.0,
+            chain,
+          ),
+        ))
+        (λ there. absurd (never (start, (from.0, chain_was there)))) (chain_or from.1)
+      where
+        reached_beside : IsReached (scene_of s) n start → IsReached (scene_of less) n start
+        reached_beside (r, h) =
+            ⊎_elim (λ chain. (r, (root_less r h.0, chain)))
+            (λ there. absurd (never (x, (inl (r, (h.0, chain_was there)), Leads.here)))) (chain_or h.1)
+
+    -- over a collection of each, an object that is kept there where it is here stays in both or in none
+    alike : (y : Id) → (IsKept (scene_of s) n y → IsKept (scene_of less) n y) → (t u : State) (r q : Report)
+        → IsWhole (scene_of s) → IsWhole (scene_of less)
+        → Collects (λ (z : Id). z.0) n (scene_of s) (scene_of t) r
+        → Collects (λ (z : Id). z.0) n (scene_of less) (scene_of u) q
+        → (IsSome (get t.objects y.0) → IsSome (get u.objects y.0))
+        × (IsSome (get u.objects y.0) → IsSome (get t.objects y.0))
+    alike y to t u r q w v c e = (
+      λ stays. still_object (λ (z : Id). z.0) n (scene_of less) (scene_of u) q v e y
+          ((e.kept_is y).1 (to ((c.kept_is y).0
+          (kept_since (λ (z : Id). z.0) n (scene_of s) (scene_of t) r w c y stays)))),
+      λ stays. still_object (λ (z : Id). z.0) n (scene_of s) (scene_of t) r w c y
+          ((c.kept_is y).1 (kept_was c.reach (λ z. (c.reach_is z).0) (λ z. (c.reach_is z).1) y
+          ((e.kept_is y).0 (kept_since (λ (z : Id). z.0) n (scene_of less) (scene_of u) q v e y stays)))),
+    )
+
     pub stays_alike : (t u : State) (r q : Report) → IsWhole (scene_of s) → IsWhole (scene_of less)
         → Collects (λ (y : Id). y.0) n (scene_of s) (scene_of t) r
         → Collects (λ (y : Id). y.0) n (scene_of less) (scene_of u) q
         → (IsSome (get t.objects x.0) → IsSome (get u.objects x.0))
         × (IsSome (get u.objects x.0) → IsSome (get t.objects x.0))
-    stays_alike t u r q w v c e = (
-      λ stays. still_object (λ (y : Id). y.0) n (scene_of less) (scene_of u) q v e x
-          ((e.kept_is x).1 (kept_less ((c.kept_is x).0
-          (kept_since (λ (y : Id). y.0) n (scene_of s) (scene_of t) r w c x stays)))),
-      λ stays. still_object (λ (y : Id). y.0) n (scene_of s) (scene_of t) r w c x
-          ((c.kept_is x).1 (kept_was c.reach (λ y. (c.reach_is y).0) (λ y. (c.reach_is y).1)
-          ((e.kept_is x).0 (kept_since (λ (y : Id). y.0) n (scene_of less) (scene_of u) q v e x stays)))),
-    )
+    stays_alike = alike x kept_less
+
+    pub others_alike : (IsKept (scene_of s) n x → ⊥) → (y : Id) (t u : State) (r q : Report)
+        → IsWhole (scene_of s) → IsWhole (scene_of less)
+        → Collects (λ (z : Id). z.0) n (scene_of s) (scene_of t) r
+        → Collects (λ (z : Id). z.0) n (scene_of less) (scene_of u) q
+        → (IsSome (get t.objects y.0) → IsSome (get u.objects y.0))
+        × (IsSome (get u.objects y.0) → IsSome (get t.objects y.0))
+    others_alike never y = alike y (kept_beside never y)

@@ -7,7 +7,7 @@ use Rattle.hd_model.proofs.WellFormedWrites.{register_keeps, object_keeps, handl
 use Rattle.hd_model.specs.declared.data.Kind.TheVariants as kind
 
 -- a chain from what has a property that edges keep leads to what has it
-led_within : (s : State) (S P : Id → Type 0) → ((x : Id) → S x → P x)
+pub led_within : (s : State) (S P : Id → Type 0) → ((x : Id) → S x → P x)
     → ((x y : Id) (object : Object Id) (i : ℕ) → P x → get s.objects x.0 ≡ Some object
     → field_of object i ≡ Some y → P y)
     → ((x y : Id) (slot : ℕ) (h : Handle Id) → P x → row_of s slot ≡ Some h → h.kind ≡ kind.Dependent
@@ -20,7 +20,7 @@ led_within s S P starts fields seconds (by_dependent {x} {y} chain slot h e is t
     seconds x y slot h (led_within s S P starts fields seconds chain) e is target second
 
 -- what an empty map has
-none_there : {X : Type 0} (P : ℕ → X → Type 0) (k : ℕ) (x : X)
+pub none_there : {X : Type 0} (P : ℕ → X → Type 0) (k : ℕ) (x : X)
     → get (empty {X = X} {R = nat_cmp}) k ≡ Some x → P k x
 none_there P k x e = absurd (none-some x (sym (get-empty nat_cmp k) ∙ e))
 
@@ -101,7 +101,7 @@ with_two = with_object calm (id_of 2) (object_with [] 0 false)
 abbrev with_four : State
 with_four = with_object with_two (id_of 4) (object_with [] 0 false)
 
-abbrev leading : Object Id
+abbrev pub leading : Object Id
 leading = object_with (Some (id_of 4) ∷ []) 0 true
 
 abbrev with_three : State
@@ -134,10 +134,10 @@ with_objects_is = object_keeps few with_three with_three_is (id_of 5) (object_wi
     (omega arith) (omega arith) (omega arith) (omega arith)
 
 -- what is found in the busy state
-at_five : get busy.objects 5 ≡ Some (object_with [] 0 false)
+pub at_five : get busy.objects 5 ≡ Some (object_with [] 0 false)
 at_five = get_inserted with_three.objects 5 (object_with [] 0 false)
 
-at_three : get busy.objects 3 ≡ Some leading
+pub at_three : get busy.objects 3 ≡ Some leading
 at_three =
     get_beside with_three.objects 5 (object_with [] 0 false) 3 (λ e. omega arith)
     ∙ get_inserted with_four.objects 3 leading
@@ -152,7 +152,7 @@ at_two =
     ∙ get_beside with_two.objects 4 (object_with [] 0 false) 2 (λ e. omega arith)
     ∙ get_inserted calm.objects 2 (object_with [] 0 false)
 
-at_one : get busy.objects 1 ≡ Some (object_with [] 1 false)
+pub at_one : get busy.objects 1 ≡ Some (object_with [] 1 false)
 at_one =
     get_beside with_three.objects 5 (object_with [] 0 false) 1 (λ e. omega arith)
     ∙ get_beside with_four.objects 3 leading 1 (λ e. omega arith)
@@ -160,7 +160,7 @@ at_one =
     ∙ get_beside calm.objects 2 (object_with [] 0 false) 1 (λ e. omega arith)
     ∙ get_inserted counted.objects 1 (object_with [] 1 false)
 
-all_objects : (P : ℕ → Object Id → Type 0) → P 1 (object_with [] 1 false) → P 2 (object_with [] 0 false)
+pub all_objects : (P : ℕ → Object Id → Type 0) → P 1 (object_with [] 1 false) → P 2 (object_with [] 0 false)
     → P 4 (object_with [] 0 false) → P 3 leading → P 5 (object_with [] 0 false) → (k : ℕ) (o : Object Id)
     → get busy.objects k ≡ Some o → P k o
 all_objects P one two four three five =
@@ -192,11 +192,11 @@ with_80_is : IsWellFormed few with_80
 with_80_is = handle_keeps few with_128 with_128_is (slot_of 80) (weak_to kind.Short 1)
     (get-empty nat_cmp 80) (ap is_some at_one) tt block_one refl (λ e. refl)
 
-busy_is : IsWellFormed few busy
+pub busy_is : IsWellFormed few busy
 busy_is = handle_keeps few with_80 with_80_is (slot_of 192) attaching (get-empty nat_cmp 192)
     (ap is_some at_one) (ap is_some at_five) block_three refl (λ e. absurd (none-some (id_of 1) (sym e)))
 
-all_handles : (P : ℕ → Handle Id → Type 0) → P 65 (weak_to kind.Short 1) → P 129 (weak_to kind.Long 1)
+pub all_handles : (P : ℕ → Handle Id → Type 0) → P 65 (weak_to kind.Short 1) → P 129 (weak_to kind.Long 1)
     → P 64 (weak_to kind.Short 4) → P 128 (weak_to kind.Long 4) → P 80 (weak_to kind.Short 1)
     → P 192 attaching → (slot : ℕ) (h : Handle Id) → get busy.handles slot ≡ Some h → P slot h
 all_handles P a b c d e f =
@@ -208,7 +208,7 @@ all_handles P a b c d e f =
     (insert_all with_blocks.handles 65 P (weak_to kind.Short 1) a (none_there P))))))
 
 -- its weak table is empty, so its rows are its handles
-row_is : (slot : ℕ) (h : Handle Id) → row_of busy slot ≡ Some h → get busy.handles slot ≡ Some h
+pub row_is : (slot : ℕ) (h : Handle Id) → row_of busy slot ≡ Some h → get busy.handles slot ≡ Some h
 row_is slot h e =
     ⊎_elim (λ live. live) (λ weak. absurd (none-some weak.1.0 (sym (get-empty nat_cmp slot) ∙ weak.1.1.0)))
     (row_cases busy slot h e)
@@ -236,21 +236,21 @@ free_193 = none_from (get busy.handles 193) (λ h.
     all_handles (λ k _. k ≡ 193 → ⊥) (λ e. omega arith) (λ e. omega arith) (λ e. omega arith)
     (λ e. omega arith) (λ e. omega arith) (λ e. omega arith) 193 g e refl)
 
-entered_is : IsWellFormed few entered
+pub entered_is : IsWellFormed few entered
 entered_is =
     weak_keeps few busy busy_is (slot_of 193) (Some entry_of_one)
     (λ x is. subst (λ (y : WeakEntry Id). Names busy (Some y.key) × Names busy y.value)
     (same_Some entry_of_one x is) (ap is_some at_one, ap is_some at_five))
     (λ x is q d at same. absurd (none-some (Some d) (sym (get-empty nat_cmp q) ∙ at))) block_three free_193
 
-held_193 : get entered.weak 193 ≡ Some (Some entry_of_one)
+pub held_193 : get entered.weak 193 ≡ Some (Some entry_of_one)
 held_193 = get_inserted busy.weak 193 (Some entry_of_one)
 
 -- what is in use in it: 1 and 5
 abbrev Few : Id → Type 0
 Few x = (x.0 ≡ 1) ⊎ (x.0 ≡ 5)
 
-number_is : (k : ℕ) (x : Id) → Some (id_of k) ≡ Some x → x.0 ≡ k
+pub number_is : (k : ℕ) (x : Id) → Some (id_of k) ≡ Some x → x.0 ≡ k
 number_is k x e = ap (λ (y : Id). y.0) (sym (same_Some (id_of k) x e))
 
 few_named : (x : Id) → None ≡ Some x → Few x
@@ -301,7 +301,7 @@ out : (k : ℕ) → k ≢ 1 → k ≢ 5 → IsInUse 0 busy (id_of k) → ⊥
 out k a b used = ⊎_elim a b (in_use_few used)
 
 -- what is resurrected in it, and what that leads to: 3 and 4
-abbrev Led : Id → Type 0
+abbrev pub Led : Id → Type 0
 Led x = (x.0 ≡ 3) ⊎ (x.0 ≡ 4)
 
 led_start : (x : Id) → IsResurrected 0 busy x → Led x
@@ -314,7 +314,7 @@ led_from_leading : (i : ℕ) (y : Id) → field_of leading i ≡ Some y → Led 
 led_from_leading zero y e = inr (number_is 4 y e)
 led_from_leading (suc i) y e = absurd (none-some y e)
 
-led_fields : (x y : Id) (object : Object Id) (i : ℕ) → Led x → get busy.objects x.0 ≡ Some object
+pub led_fields : (x y : Id) (object : Object Id) (i : ℕ) → Led x → get busy.objects x.0 ≡ Some object
     → field_of object i ≡ Some y → Led y
 led_fields x y object i led is_stored e =
     all_objects (λ k o. field_of o i ≡ Some y → Led y) (λ f. absurd (none-some y f))

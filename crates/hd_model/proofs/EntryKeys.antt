@@ -1,8 +1,9 @@
 -- An entry of the weak table over a collection, and a state with the entry taken out.
-use Rattle.hd_model.proofs.Basics.{EntriesFollowKeys, EntriesKeepNoKey, EntriesUseNoKey, Handle, Id, IsSome, IsWellFormed, None, Numbers, Option, Slot, Some, State, WeakEntry, ap, attaches, cases_Bool, cases_eq, cond-false, cond-true, get, inl, inr, insert, is_some, none-some, option_map, option_or, refl, role, row_of, same_Some, scene_of, subst, swept, sym, true, weak_handle, with_weak, ℕ, ⊎_elim, ◌∙◌, ◌≡◌, ◌≢◌, ◌⊎◌}
+use Rattle.hd_model.proofs.Basics.{EntriesFollowKeys, EntriesKeepNoKey, EntriesUseNoKey, Handle, Id, IsSome, IsWellFormed, None, Numbers, Option, Slot, Some, State, WeakEntry, ap, attaches, cases_Bool, cases_eq, cond-false, cond-true, false, get, inl, inr, insert, is_some, none-some, option_map, option_or, refl, role, row_of, same_Some, scene_of, subst, swept, sym, true, true≢false, weak_handle, with_weak, ℕ, ⊎_elim, ◌∙◌, ◌≡◌, ◌≢◌, ◌⊎◌}
 use Rattle.hd_model.proofs.{ReadAfterWrite.get_inserted, ReadAfterWrite.get_beside, WellFormedWrites.weak_keeps, WholeScenes.whole_scene, SceneCollection.keeps_edge, SceneCollection.still_object, Reports.kept_since, Reports.lost_since}
 use Rattle.hd_model.proofs.WeakSlots.{handle_row, weak_row, row_cases, weak_attaches}
-use Rattle.hd_model.proofs.AttachingRows.{use_less, use_was, stays_alike}
+use Rattle.hd_model.proofs.AttachingRows.{use_less, use_was, stays_alike, others_alike}
+use Rattle.hd_model.specs.WeakEntryLaws.{ValuesGoWithKeys}
 
 pub entries_follow_keys : EntriesFollowKeys
 entries_follow_keys m n s t r slot x h held =
@@ -81,4 +82,15 @@ entries_keep_no_key m n s t u r q slot x h without held =
     (own_or_left s slot x held) n t u r q (whole_scene m s h.well_formed)
     (whole_scene m (with_weak s slot None) (taken_out m s h.well_formed slot
     (ap is_some held))) h.collects.scene
+    without.scene
+
+pub values_go_with_keys : ValuesGoWithKeys
+values_go_with_keys m n s t u r q slot x y h without held none =
+    let w = whole_scene m s h.well_formed in
+    let c = h.collects.scene in
+    let lost : c.kept x.key ≡ false =
+    lost_since (λ (z : Id). z.0) n (scene_of s) (scene_of t) r w c x.key none (cases_Bool (c.kept x.key)) in
+    others_alike s s.handles (insert s.weak slot.0 None) x.key (none_new s slot x held)
+    (own_or_left s slot x held) n (λ kept. true≢false (sym ((c.kept_is x.key).1 kept) ∙ lost)) y t u r q w
+    (whole_scene m (with_weak s slot None) (taken_out m s h.well_formed slot (ap is_some held))) c
     without.scene

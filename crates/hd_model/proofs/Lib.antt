@@ -60,6 +60,7 @@ pub mod StateReadBack
 pub mod HandleParts
 pub mod AttachedValues
 pub mod WeakSlotUse
+pub mod EntryRoom
 pub mod LeastGrowth
 pub mod Serials
 pub mod SoloRuns
@@ -71,6 +72,8 @@ pub mod ObjectReadBack
 pub mod HeapLimit
 pub mod StepExistence
 pub mod AnchorLaws
+pub mod RootChains
+pub mod AnchorSamples
 pub mod FreePlaces
 pub mod RunExamples
 pub mod CollectionExamples

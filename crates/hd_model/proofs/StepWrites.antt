@@ -67,7 +67,7 @@ module _ (n : Numbers) (s : State) (w : IsWellFormed n s) (e : Entry) where
       write_cases s.objects other.0 (λ o. ObjectChange s e id c o) object id.0
       (λ same. here (same_id id other same)) object_stays
 
-  object_change : (c : Cmd) (t : State) (id : Id) → Effect n s e c t
+  pub object_change : (c : Cmd) (t : State) (id : Id) → Effect n s e c t
       → ObjectChange s e id c (get t.objects id.0)
   object_change c t id (makes_object {d = d} {fields = fields} {fin = fin} small p) =
       object_written _ id (next_identity s e.caller) _

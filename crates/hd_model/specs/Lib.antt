@@ -40,6 +40,8 @@ pub mod Judged
 pub mod Laws
 pub mod UserLaws
 pub mod WeakLaws
+pub mod WeakEntryLaws
 pub mod AnchorLaws
+pub mod AnchorSamples
 pub mod Constants
 pub mod Generated

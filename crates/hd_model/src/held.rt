@@ -20,4 +20,7 @@ pub trait Held: Drop {
     /// The kind word of a block, by its number: 0 where it has no use, one more than the number of
     /// the kind where it has handles of one, and 8 where it has extra data.
     ghost kind: { Self → ℕ → ℕ };
+
+    /// What is so of it whenever nobody has it. An implementer may set it to what always holds.
+    ghost sound: { Self → Type 0 };
 }

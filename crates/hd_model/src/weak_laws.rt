@@ -3,6 +3,8 @@ ghost use Rattle.hd_model.specs.WeakLaws.{RemoveReturnsWhetherAttached, NullKeys
 ghost use Rattle.hd_model.specs.WeakLaws.{EntriesFollowKeys, EntriesUseNoKey, EntriesKeepNoKey};
 ghost use Rattle.hd_model.specs.WeakLaws.{WeakSlotsAreNotLive, WeakSlotsStayHeld};
 ghost use Rattle.hd_model.specs.WeakLaws.{TextsLeaveTheWeakTableOut};
+ghost use Rattle.hd_model.specs.WeakEntryLaws.{IdleSlotsAreTakenFirst, FullTablesLackBlocks};
+ghost use Rattle.hd_model.specs.WeakEntryLaws.{ValuesGoWithKeys};
 
 /// In every run a `cfind` of a key returns the value of the last earlier done `cadd` of that key
 /// after which no done `cremove` of it comes, and `Absent` exactly where there is none.
@@ -41,6 +43,24 @@ pub fn entries_use_no_key()
 /// An entry never keeps its key: whether that stays is the same with the entry taken out.
 pub fn entries_keep_no_key()
     ensures { EntriesKeepNoKey }
+{}
+
+/// In the collection that takes the key of an entry, each object stays exactly where it stays with
+/// the entry taken out: what the entry alone kept, as its value may be, is removed with the key.
+pub fn values_go_with_keys()
+    ensures { ValuesGoWithKeys }
+{}
+
+/// A done `cadd` while the weak table has a slot without an entry gets the least such slot, and the
+/// table does not grow.
+pub fn idle_slots_are_taken_first()
+    ensures { IdleSlotsAreTakenFirst }
+{}
+
+/// A command is refused for a full table only where fewer blocks are unused than it needs, and a
+/// `cadd` only where each slot of the weak table has an entry.
+pub fn full_tables_lack_blocks()
+    ensures { FullTablesLackBlocks }
 {}
 
 /// A register with a slot that is the weak table's, say since its handle was freed, is refused as

@@ -24,6 +24,8 @@ impl Held for Pages {
     ghost live = { λ _ _. false };
 
     ghost kind = { λ t b. cond (b == 0) 0 (cond (nat_lt t.granted b) 0 3) };
+
+    ghost sound = { λ _. Unit {0} };
 }
 
 impl Pages {

@@ -179,6 +179,24 @@ fn the_least_of_two_anchors_at_equal_length_begins_the_chain(rt: HostRuntime) ->
     assert_chains(&rt, rt.alloc(), &objects, &edges, &[], &chains)
 }
 
+// From the anchor a search in depth meets a longer chain first, by the first field and by the last.
+#[test]
+fn a_search_in_depth_would_return_a_longer_chain(rt: HostRuntime) -> Result<(), Fail> {
+    let objects = [(1, 3), (2, 1), (3, 1), (4, 1), (5, 1), (6, 1), (7, 0)];
+    let edges = [
+        (0, 0, 1),
+        (0, 1, 2),
+        (0, 2, 3),
+        (1, 0, 4),
+        (2, 0, 6),
+        (3, 0, 5),
+        (4, 0, 6),
+        (5, 0, 6),
+    ];
+    let chains: [Chain; 1] = [(&[0], 6, &[0, 2, 6])];
+    assert_chains(&rt, rt.alloc(), &objects, &edges, &[], &chains)
+}
+
 #[test]
 fn a_cycle_is_passed_once(rt: HostRuntime) -> Result<(), Fail> {
     let objects = [(1, 2), (2, 2), (3, 0)];

@@ -1,9 +1,9 @@
 -- The input of an audit is cut in one way, and is not refused.
-use Rattle.hd_run.proofs.Basics.{Cmd, IsErr, List, Ok, [], ap, arith, drop, false, get_or, length, length-append, refl, subst, sym, true, ℕ, ◌++◌, ◌∙◌, ◌∷◌, ◌≡◌, ◌≤◌}
+use Rattle.hd_run.proofs.Basics.{Cmd, IsErr, List, Ok, [], ap, drop, false, get_or, refl, subst, sym, true, ℕ, ◌++◌, ◌∙◌, ◌∷◌, ◌≡◌}
 use Rattle.std.specs.List.{concat}
 use Rattle.std.proofs.lemmas.Bool.{true≢false}
+use Rattle.std.proofs.lemmas.List.{append_cancel_left}
 use Rattle.std.proofs.lemmas.List.Elements.{All-head, All-tail}
-use Rattle.std.proofs.lemmas.List.Folds.{concat-append}
 use Rattle.hd_model.specs.{Grammar.script_of, Judged.cut_lines}
 use Rattle.hd_audit.proofs.LineCuts.{lines_again}
 use Rattle.hd_script.specs.AuditInput.{IsAuditInput, IsDivided, IsNoAuditInput, NoneDivides, in_all, in_script, is_dividing, undivided}
@@ -34,7 +34,7 @@ none_has [] more x none is =
 none_has (a ∷ xs) more x none is =
     none_has xs more x (All-tail (λ line. is_dividing line ≡ false) a (xs ++ x ∷ more) none) is
 
-one_script : {bytes script text other rest : List ℕ} → IsDivided bytes script text
+pub one_script : {bytes script text other rest : List ℕ} → IsDivided bytes script text
     → IsDivided bytes other rest → script ≡ other
 one_script {script = script} {text = text} {other = other} {rest = rest} one two =
     sym (lines_again script)
@@ -42,6 +42,17 @@ one_script {script = script} {text = text} {other = other} {rest = rest} one two
     (one_divider (cut_lines script) (cut_lines other) (cut_lines text) (cut_lines rest) one.line two.line
     one.first two.first one.divides two.divides (sym one.lines ∙ two.lines))
     ∙ lines_again other
+
+pub one_text : {bytes script text other rest : List ℕ} → IsDivided bytes script text
+    → IsDivided bytes other rest → text ≡ rest
+one_text {script = script} {text = text} {other = other} {rest = rest} one two =
+    let same : cut_lines script ≡ cut_lines other = ap cut_lines (one_script one two) in
+    let after : one.line ∷ cut_lines text ≡ two.line ∷ cut_lines rest =
+    append_cancel_left (cut_lines script) (one.line ∷ cut_lines text) (two.line ∷ cut_lines rest)
+    (sym one.lines ∙ two.lines ∙ ap (λ (l : List (List ℕ)). l ++ two.line ∷ cut_lines rest) (sym same)) in
+    sym (lines_again text)
+    ∙ ap (λ (l : List (List ℕ)). concat (drop 1 l)) after
+    ∙ lines_again rest
 
 -- ---- an input of an audit
 
@@ -57,18 +68,3 @@ module _ {bytes : List ℕ} {lists : List (List Cmd)} {text : List ℕ} (input :
         none_has _ _ input.divided.line (subst NoneDivides input.divided.lines none) input.divided.divides
     accepted _ (undivided none right) =
         none_has _ _ input.divided.line (subst NoneDivides input.divided.lines none) input.divided.divides
-
-    -- its text is no longer than it
-    pub text_within : length text ≤ length bytes
-    text_within =
-        let d = input.divided in
-        let whole : bytes ≡ concat (cut_lines input.script) ++ (d.line ++ concat (cut_lines text)) =
-        sym (lines_again bytes) ∙ ap (λ (l : List (List ℕ)). concat l) d.lines
-        ∙ concat-append (cut_lines input.script) (d.line ∷ cut_lines text) in
-        omega (
-          arith,
-          ap length whole,
-          length-append (concat (cut_lines input.script)) (d.line ++ concat (cut_lines text)),
-          length-append d.line (concat (cut_lines text)),
-          ap length (lines_again text),
-        )

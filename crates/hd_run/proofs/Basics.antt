@@ -22,7 +22,7 @@ pub use Rattle.clap.specs.Walk.{Row, Rule, Text, one_of, rows_of, rule_of}
 pub use Rattle.clap.specs.Words.{found_of, kind_of}
 pub use Rattle.clap.specs.declared.builder.command.Command.{Command}
 pub use Rattle.clap.specs.declared.parser.matches.ArgMatches.{ArgMatches}
-pub use Rattle.hd_gate.specs.Shared.{AreAll, Begin, CallerView, HasDone, HasParts, IsSameCaller}
+pub use Rattle.hd_gate.specs.Shared.{AreAll, Begin, CallerView, HasDone, HasParts, IsSameCaller, having_seen}
 pub use Rattle.hd_io.specs.Counts.{Rose}
 pub use Rattle.hd_io.specs.Sink.{SinkView, Took, WriteBrokeOff}
 pub use Rattle.hd_io.specs.Source.{GaveCount, SourceView}

@@ -17,3 +17,4 @@ mod WorkCauses
 mod ThreadClaims
 mod RootLines
 mod StillEnds
+mod JudgedRuns

@@ -1,5 +1,5 @@
 -- How a caller goes through its list.
-use Rattle.hd_run.proofs.Basics.{CallerView, Cmd, Entry, HasDone, HasPlayed, IsSameCaller, IsTrue, List, MayWantMemory, Reply, [], ap, arith, commands_of, drop, drop_all, drop_more, get_or, length, length-drop, map-append, subst, sym, take, take-append-drop, take_more, takes_memory, ℕ, ◌++◌, ◌+◌, ◌<◌, ◌∙◌, ◌∷◌, ◌≡◌, ◌≤◌}
+use Rattle.hd_run.proofs.Basics.{CallerView, Cmd, Entry, HasDone, HasPlayed, IsSameCaller, IsTrue, List, MayWantMemory, Reply, [], ap, arith, commands_of, drop, drop_all, drop_more, get_or, having_seen, length, length-drop, map-append, subst, sym, take, take-append-drop, take_more, takes_memory, ℕ, ◌++◌, ◌+◌, ◌<◌, ◌∙◌, ◌∷◌, ◌≡◌, ◌≤◌}
 
 -- a caller that began as this one has done this number of commands of its list
 pub record IsAt (list : List Cmd) (begun p : CallerView) (i : ℕ) : Type 0 where
@@ -37,6 +37,17 @@ module _ (list : List Cmd) (begun : CallerView) where
     room = omega (arith, length-drop i list, at.room);
     wants = subst MayWantMemory (sym (drop_more list i cmd lt ∙ ap (λ c. c ∷ drop (i + 1) list) here)) wants;
   }
+
+  -- which changed nothing but what it has seen
+  pub sees : (p q : CallerView) (journal : List Entry) → q ≡ having_seen journal p → HasPlayed list begun p
+      → HasPlayed list begun q
+  sees p q journal is h = subst (HasPlayed list begun) (sym is) (record {
+    same = record { table = h.same.table; numbers = h.same.numbers; number = h.same.number };
+    left = h.left;
+    parts = h.parts;
+    room = h.room;
+    wants = h.wants;
+  })
 
   -- it came to the end of its list
   pub ends : (p : CallerView) (i : ℕ) → length list ≤ i → IsAt list begun p i → HasPlayed list begun p

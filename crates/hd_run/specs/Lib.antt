@@ -11,3 +11,4 @@ pub mod Audit
 pub mod AuditClaims
 pub mod Laws
 pub mod Still
+pub mod PrintedRuns

@@ -14,6 +14,7 @@ mod laws;
 mod limits;
 mod mode;
 mod outcome;
+mod printed;
 mod report;
 mod request;
 mod root_list;
@@ -36,6 +37,7 @@ use hd_model::limits::{BLOCKS, HEAP, MOST_ROUNDS};
 use hd_script::{Scripts, generate};
 pub use laws::{limits_are_these, parts_follow_the_turns};
 pub use outcome::{Kept, Outcome};
+pub use printed::{printed_runs_are_judged_runs, whole_runs_are_judged_runs};
 use std::alloc::Global;
 use std::sync::Wait;
 use std::thread::Threads;
@@ -43,7 +45,8 @@ pub use still::still_ends_never_fail;
 
 /// The program: reads its words, the program's name first, and does what they say, in the mode that
 /// they name: `solo`, `run`, `load`, `roots` or `audit`. It may start threads and wait for them, so
-/// what it promises is promised where it returns.
+/// what it promises is promised where it returns. What it printed of a whole run in full lines it
+/// never calls no run: [`printed_runs_are_judged_runs`].
 pub fn top<R: Threads + Wait + Sync, S: Source, K: Sink, P: Pace>(
     rt: &R,
     alloc: Global,

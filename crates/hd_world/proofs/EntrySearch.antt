@@ -1,5 +1,5 @@
 -- What a search of the weak table of a store finds is what the machine finds in its state.
-use Rattle.hd_world.proofs.StoreWords.{Addr, Bool, FinMap, Handle, HasKey, Heap, Id, IfSome, IsIdle, IsLeastIdle, IsNamed, IsNone, IsSome, IsStored, IsTied, IsWeakTable, List, Machine, None, Option, Parts, Row, SearchSteps, Slot, Some, WeakEntry, [], ap, arith, bucket_of, cond, entries, entries_beside, entries_in, entry_named, entry_value, extra_of, false, filter, get, id_at, idle_found, idle_slot, is_idle, is_in_bucket, is_some, key_found, key_none, length, machine_of, map, named_in, nat_cmp, option_and_then, option_map, refl, same_Some, secondary_of, slot_of_key, subst, suc, sym, true, true≢false, value_at, weak_by_id, where_least, where_none, ℕ, ◌+◌, ◌↔◌, ◌∙◌, ◌∷◌, ◌≡◌, ◌≤◌}
+use Rattle.hd_world.proofs.StoreWords.{Addr, Bool, FinMap, Handle, HasKey, Heap, Id, IfSome, IsIdle, IsLeastIdle, IsNamed, IsNone, IsSome, IsStored, IsTied, IsWeakTable, List, LooksAt, Machine, None, Option, Parts, Row, SearchSteps, Slot, Some, WeakEntry, [], ap, arith, bucket_of, cond, entries, entries_beside, entries_in, entry_named, entry_value, extra_of, false, filter, get, id_at, idle_found, idle_slot, is_idle, is_in_bucket, is_some, key_found, key_none, length, machine_of, map, named_in, nat_cmp, option_and_then, option_map, refl, same_Some, secondary_of, slot_of_key, subst, suc, sym, true, true≢false, value_at, weak_by_id, where_least, where_none, ℕ, ◌+◌, ◌↔◌, ◌∙◌, ◌∷◌, ◌≡◌, ◌≤◌}
 use Rattle.hd_seg.specs.{declared.row.Extra.TheVariants.Secondary, Row.row_of}
 use Rattle.hd_world.proofs.IdentityReadings.{no_some, is_some-map, named-is}
 use Rattle.hd_world.proofs.{NamedAddresses.objects_named, EntryReadings.weak-get, RootIdentities.entries-mapped}
@@ -184,12 +184,14 @@ entries_weak h rows held = entries-mapped (λ s. entry_named (id_at h) (get rows
 
 -- the steps of a search, in the words of the machine
 pub search-steps : (f : Parts) (m : Machine) → machine_of f ≡ m → (key : Id) (before after : ℕ)
-    → before ≤ after → after ≤ before + (entries_in f.weak.held (bucket_of key) + 1)
+    → (r : Option Slot) → r ≡ slot_of_key m.state key
+    → LooksAt r (entries_in f.weak.held (bucket_of key)) before after
     → SearchSteps m.state key before after
-search-steps f m view key before after counted most =
+search-steps f m view key before after r is looks =
     let many : entries_in f.weak.held (bucket_of key) ≡ entries_beside m.state key =
     as-many (id_at f.heap) f.table.rows (bucket_of key) (entries f.weak.held)
     ∙ ap (λ es. length (filter (λ e. among (id_at f.heap) f.table.rows (bucket_of key) e) es))
     (sym (entries_weak f.heap f.table.rows f.weak.held))
     ∙ ap (λ (n : Machine). entries_beside n.state key) view in
-    record { counted = counted; most = omega (arith, many, most) }
+    subst (λ n. LooksAt (slot_of_key m.state key) n before after) many
+    (subst (λ o. LooksAt o (entries_in f.weak.held (bucket_of key)) before after) is looks)

@@ -29,7 +29,8 @@ row-vacant rows held slot none =
 -- that
 abbrev pub HasPut : Parts → Machine → Slot → Option (WeakEntry Id) → Table → WeakTable → Type 0
 HasPut f m slot e t w = IsStored (record f { table = t; weak = w })
-    × (machine_of (record f { table = t; weak = w }) ≡ record m { state = with_weak m.state slot e })
+    × (machine_of (record f { table = t; weak = w })
+    ≡ record m { state = with_weak m.state slot e; table = t })
 
 module _ (f : Parts) (m : Machine) (view : machine_of f ≡ m) (stored : IsStored f) (slot : Slot)
     (target value : Option Addr) (key : Option Id) (key_is : option_map (id_at f.heap) target ≡ key)
@@ -103,14 +104,19 @@ module _ (f : Parts) (m : Machine) (view : machine_of f ≡ m) (stored : IsStore
       ])
 
   pub machine-attached : machine_of with_attached
-      ≡ record m { state = with_weak m.state slot (entry_named (id_at f.heap) (Some row) key) }
+      ≡ record m {
+        state = with_weak m.state slot (entry_named (id_at f.heap) (Some row) key);
+        table = with_row f.table slot.0 row;
+      }
   machine-attached =
       (λ i. record (machine_of f) {
         state = record (state_of f) { handles = rows_by_id f.heap (handles_kept i); weak = weak_attached i };
+        table = with_row f.table slot.0 row;
       })
-      ∙ ap (λ (n : Machine).
-      record n { state = with_weak n.state slot (entry_named (id_at f.heap) (Some row) key) })
-      view
+      ∙ ap (λ (n : Machine). record n {
+        state = with_weak n.state slot (entry_named (id_at f.heap) (Some row) key);
+        table = with_row f.table slot.0 row;
+      }) view
 
   -- what the store has, and what the machine sees, once the row and the key are there
   pub attached : (t : Table) (w : WeakTable) (e : Option (WeakEntry Id)) → t ≡ with_row f.table slot.0 row
@@ -121,7 +127,7 @@ module _ (f : Parts) (m : Machine) (view : machine_of f ≡ m) (stored : IsStore
       λ i. record f { table = sym table i; weak = sym weak i } in (
         subst IsStored same stored-attached,
         ap machine_of (sym same) ∙ machine-attached
-            ∙ ap (λ o. record m { state = with_weak m.state slot o }) entry,
+            ∙ (λ i. record m { state = with_weak m.state slot (entry i); table = sym table i }),
       )
 
 -- in a slot with neither key nor value

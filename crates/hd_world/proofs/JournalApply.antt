@@ -9,8 +9,7 @@ pub steps_placed : (s : State) (p : FinMap nat_cmp ℕ) (ages : List ℕ) (e : E
     → TakesSteps s ages e before after → TakesSteps (with_places s p) ages e before after
 steps_placed s p ages e before after is = record {
   others = is.others;
-  searches = λ key found.
-      let did = is.searches key found in record { counted = did.counted; most = did.most };
+  searches = is.searches;
   collects = is.collects;
 }
 

@@ -54,7 +54,7 @@ there_before (Some x) f y is = refl
 
 -- m0 is the store before, m1 once the table has grown, m2 once the age is lowered
 pub made_may : (m0 m1 m2 : Machine) (k : Kind) (g : Grown) (slot : Slot) (caller t : ℕ) (given : Make)
-    (row : Row) → m1 ≡ record m0 { state = with_growth m0.state k g }
+    (row : Row) → m1 ≡ record m0 { state = with_growth m0.state k g; table = m1.table }
     → m2 ≡ record m1 {
       ages = lowered_by_new m1.state m1.ages (Some slot) given (named_in m1.names row.target);
     } → IsMadeRow m0 caller given t row → MayBeStored m2 slot (kind_of given) row

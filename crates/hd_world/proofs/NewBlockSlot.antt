@@ -53,7 +53,7 @@ module _ (old new : Machine) (kind : Kind) (slot : Slot) (handles : HasHandles o
       ∙ get_inserted old.state.blocks block (handles_of kind)
 
   pub placed_one : is_paired kind ≡ false
-      → new ≡ record old { state = with_growth old.state kind (One block) }
+      → new ≡ record old { state = with_growth old.state kind (One block); table = new.table }
       → given_of old.state + blocks_needed kind ≤ old.numbers.blocks
       → IsPlace old new kind None slot (One block)
   placed_one single store room = record {
@@ -68,7 +68,7 @@ module _ (old new : Machine) (kind : Kind) (slot : Slot) (handles : HasHandles o
   }
 
   pub placed_two : (other : ℕ) → is_paired kind ≡ true → IsLeastUnused old.numbers old.state (block + 1) other
-      → new ≡ record old { state = with_growth old.state kind (Two block other) }
+      → new ≡ record old { state = with_growth old.state kind (Two block other); table = new.table }
       → given_of old.state + blocks_needed kind ≤ old.numbers.blocks
       → IsPlace old new kind None slot (Two block other)
   placed_two other double next store room = record {

@@ -1,7 +1,7 @@
--- The state of a store is that of its heap, and what keeps its pinned address is kept at it.
-use Rattle.hd_world.proofs.StoreWords.{AreAddresses, Cmd, Entry, FinMap, Id, IsFreePlace, IsOfHeap, IsOverHeap, IsPinned, IsStored, IsStoredAt, KeepsPlaces, Machine, MatchOption, None, Numbers, Parts, Some, State, ap, cases_eq, cond, empty, false, get, get_beside, get_inserted, inl, inr, insert, is_collect, is_pinned, machine_of, names_of, nat_cmp, nothing_at, objects_by_id, pinned_decides, pinned_target, refl, rows_by_id, same_Some, subst, sym, true, true≢false, weak_by_id, with_places, ℕ, ◌∙◌, ◌≡◌, ◌⊎◌}
+-- The state of a store is that of its heap and its table, and what keeps its pinned address is kept at it.
+use Rattle.hd_world.proofs.StoreWords.{AreAddresses, Cmd, Entry, FinMap, Id, IsFreePlace, IsOfHeap, IsOfTable, IsOverHeap, IsPinned, IsStored, IsStoredAt, KeepsPlaces, Machine, MatchOption, None, Numbers, Parts, Some, State, ap, cases_eq, cond, empty, false, get, get_beside, get_inserted, inl, inr, insert, is_collect, is_pinned, machine_of, names_of, nat_cmp, nothing_at, objects_by_id, pinned_decides, pinned_target, refl, rows_by_id, same_Some, subst, sym, true, true≢false, weak_by_id, with_places, ℕ, ◌∙◌, ◌≡◌, ◌⊎◌}
 use Rattle.hd_model.proofs.Effects.{Effect, replies_place, collects, effect}
-use Rattle.hd_world.proofs.{IdentityReadings.names-get, AddressSteps.returns-address}
+use Rattle.hd_world.proofs.{IdentityReadings.names-get, EntryReadings.row-reads, AddressSteps.returns-address}
 use Rattle.hd_model.specs.declared.data.Reply.TheVariants as reply
 use Rattle.hd_model.specs.declared.command.Cmd.TheVariants as cmd
 
@@ -16,6 +16,7 @@ module _ (f : Parts) (stored : IsStored f) where
       places = λ x place is. absurd (nothing_at x place is);
       cards = stored.cards;
     };
+    table = record { rows = λ slot. sym (row-reads f stored.whole.paired stored.tied slot); uses = refl };
   }
 
 pub over-heap : (f : Parts) (m : Machine) → machine_of f ≡ m → IsStored f → IsOverHeap m
@@ -31,6 +32,11 @@ of-heap m p over are = record {
       sym (names-get m.heap place) ∙ ap (λ names. get names place) (sym over.names) ∙ are x place is;
   cards = over.heap.cards;
 }
+
+-- no pinned address is in the table
+pub of-table : (m : Machine) (p : FinMap nat_cmp ℕ) → IsOverHeap m
+    → IsOfTable (with_places m.state p) m.heap m.table
+of-table m p over = record { rows = over.table.rows; uses = over.table.uses }
 
 -- what keeps its pinned address over a step: what is pinned, and all over a step of no collection
 module _ (n : Numbers) (s : State) (e : Entry) (x a : ℕ) where

@@ -1,5 +1,5 @@
 -- A collection of a store's parts is one of its state, and leaves a store.
-use Rattle.hd_world.proofs.StoreWords.{Addr, AreAddresses, BlockUse, Bool, Collected, Collects, CollectsState, FinMap, Handle, HasCollected, Heap, Id, IsCompactStore, IsPinned, IsSome, IsStored, IsTied, List, Machine, None, Option, Parts, Placed, Report, Scene, Some, WeakTable, [], ap, arith, callers_of, cleared, cond, counts_named, drop, entry_named, false, get, get-retain_keys, has_object, id_at, id_in, is_none, is_pinned, is_some, kept_key, kept_places, length, length-map, machine_of, map, names_of, nat_cmp, nat_cmp-IsAntisymmetric, objects_by_id, one_dependent, one_extra, option_map, pinned_decides, pins, pins_renamed, refl, rename_handle, rest_of, row_at, rows_by_id, rows_of, same_Some, scene_of, state_of, subst, sum_by, swept, sym, take, true, true≢false, values, weak_by_id, with_places, ℕ, ◌++◌, ◌∙◌, ◌∷◌, ◌≡◌, ◌≤◌}
+use Rattle.hd_world.proofs.StoreWords.{Addr, AreAddresses, BlockUse, Bool, Collected, Collects, CollectsState, FinMap, Handle, HasCollected, Heap, Id, IsCompactStore, IsPinned, IsSome, IsStored, IsTied, List, Machine, None, Option, Parts, Placed, Report, Scene, Some, Table, WeakTable, [], ap, arith, attaches, callers_of, cleared, cond, counts_named, drop, entry_named, false, get, get-retain_keys, has_object, id_at, id_in, is_none, is_pinned, is_some, kept_key, kept_places, length, live_at, not, length-map, machine_of, map, names_of, nat_cmp, nat_cmp-IsAntisymmetric, objects_by_id, one_dependent, one_extra, option_map, pinned_decides, pins, pins_renamed, refl, rename_handle, rest_of, row_at, rows_by_id, rows_of, same_Some, scene_of, state_of, subst, sum_by, swept, sym, take, true, true≢false, values, weak_by_id, with_places, ℕ, ◌++◌, ◌∙◌, ◌∷◌, ◌≡◌, ◌≤◌}
 use Rattle.hd_model.specs.Compact.{IsCompact}
 use Rattle.hd_gc.specs.Ready.{parts, Parts as Lent}
 use Rattle.hd_world.proofs.EntryReadings.{handles-get, handle-get, handle-row, weak-get, tied-agrees}
@@ -114,35 +114,87 @@ module _ (f : Parts) (stored : IsStored f) where
     regions = compact.regions;
   }
 
-module _ {f : Parts} {l : Lent} {w : WeakTable} {n : ℕ} {report : Report} {before after : ℕ}
-    (s : IsSwept f l w n report before after) where
+key_left : (t : Table) (slot : ℕ) (row : Handle Addr) (key : Option Id) → get t.rows slot ≡ Some row
+    → kept_key t slot key ≡ cond (is_none row.target) None key
+key_left t slot row key is =
+    ap (λ (r : Handle Addr). cond (is_none r.target) None key) (row-known t slot row is)
+
+no_key : (b : Bool) (o : Option Id) → o ≡ cond b o o
+no_key true o = refl
+no_key false o = refl
+
+-- the row of an entry that a collection leaves, before the weak table is swept
+module _ {f : Parts} {l : Lent} (w : WeakTable) {n : ℕ} {report : Report} {before after : ℕ}
+    (stored : IsStored f) (done : Collected (lent_of f) l n report before after) where
   -- the collection by identity, with the rows of the weak table among the handles
-  by_rows : Collects (λ (x : Id). x.0) n (scene_by_id f s.stored.identities)
-      (scene_by_id (left_parts f l w) s.done.ready.identities) report
-  by_rows =
-      s.done.collects (scene_by_id f s.stored.identities)
-      (scene_by_id (left_parts f l w) s.done.ready.identities)
-      (parts-read f s.stored.identities) (parts-read (left_parts f l w) s.done.ready.identities)
+  rows_collected : Collects (λ (x : Id). x.0) n (scene_by_id f stored.identities)
+      (scene_by_id (left_parts f l w) done.ready.identities) report
+  rows_collected =
+      done.collects (scene_by_id f stored.identities) (scene_by_id (left_parts f l w) done.ready.identities)
+      (parts-read f stored.identities) (parts-read (left_parts f l w) done.ready.identities)
 
   -- the row of an entry after it
+  row_left : (slot : ℕ) (key : Option Id) (was : IsTied f.heap f.table.rows slot key) → (row : Handle Addr)
+      × ((get l.table.rows slot ≡ Some row)
+      × IsLeft (id_at l.heap) rows_collected.reach rows_collected.kept row key
+      (option_map (id_at f.heap) was.value))
+  row_left slot key was =
+      let read : option_map (rename_handle (id_at l.heap)) (get l.table.rows slot)
+      ≡ Some (cleared rows_collected.reach rows_collected.kept
+      (attaching key (option_map (id_at f.heap) was.value))) =
+      rows_collected.handles slot
+      ∙ ap (λ o. option_map (cleared rows_collected.reach rows_collected.kept)
+      (option_map (rename_handle (id_at f.heap)) o)) was.row
+      ∙ ap (λ k. Some (cleared rows_collected.reach rows_collected.kept
+      (attaching k (option_map (id_at f.heap) was.value)))) was.key_is in
+      let (row, there) = unread (id_at l.heap) (get l.table.rows slot) _ read in
+      (row, (there.0, left-row (id_at l.heap) rows_collected.reach rows_collected.kept row key _ there.1))
+
+  -- where no dependent handle lost its target, each entry has its key
+  module _ (none : report.dep ≡ 0) where
+    key_kept : (slot : ℕ) (key : Id) → get f.weak.held slot ≡ Some (Some key) → rows_collected.kept key ≡ true
+    key_kept slot key is = by (rows_collected.kept key) refl
+      where
+        by : (b : Bool) → rows_collected.kept key ≡ b → rows_collected.kept key ≡ true
+        by true kept = kept
+        by false lost =
+            let was = stored.tied slot (Some key) is in
+            let at = rows_collected.report_is.dep.all slot (record {
+              handle = attaching (Some key) (option_map (id_at f.heap) was.value);
+              is_stored = ap (option_map (rename_handle (id_at f.heap))) was.row
+                  ∙ ap (λ k. Some (attaching k (option_map (id_at f.heap) was.value))) was.key_is;
+              role_is = refl;
+              loses = ap not lost;
+            }) in
+            absurd (omega (arith, at.1, rows_collected.report_is.dep.number, none))
+
+    pub unswept : (slot : ℕ) → get f.weak.held slot
+        ≡ option_map (kept_key l.table slot) (get f.weak.held slot)
+    unswept slot = by (get f.weak.held slot) refl
+      where
+        by : (o : Option (Option Id)) → get f.weak.held slot ≡ o → o ≡ option_map (kept_key l.table slot) o
+        by None is = refl
+        by (Some None) is = ap Some (no_key (is_none (live_at l.table slot).target) None)
+        by (Some (Some key)) is =
+            let was = stored.tied slot (Some key) is in
+            let (row, at) = row_left slot (Some key) was in
+            ap Some (sym (key_left l.table slot row (Some key) at.0
+            ∙ ap (λ (r : Handle Addr). cond (is_none r.target) None (Some key)) at.1.row_is
+            ∙ swept-key (id_at l.heap) rows_collected.reach rows_collected.kept at.1.target (Some key)
+            at.1.key_is
+            ∙ at.1.key_is
+            ∙ ap (λ b. cond (not b) None (Some key)) (key_kept slot key is)))
+
+module _ {f : Parts} {l : Lent} {w : WeakTable} {n : ℕ} {report : Report} {before after : ℕ}
+    (s : IsSwept f l w n report before after) where
+  abbrev by_rows : Collects (λ (x : Id). x.0) n (scene_by_id f s.stored.identities)
+      (scene_by_id (left_parts f l w) s.done.ready.identities) report
+  by_rows = rows_collected w s.stored s.done
+
   left_row : (slot : ℕ) (key : Option Id) (was : IsTied f.heap f.table.rows slot key) → (row : Handle Addr)
       × ((get l.table.rows slot ≡ Some row)
       × IsLeft (id_at l.heap) by_rows.reach by_rows.kept row key (option_map (id_at f.heap) was.value))
-  left_row slot key was =
-      let read : option_map (rename_handle (id_at l.heap)) (get l.table.rows slot)
-      ≡ Some (cleared by_rows.reach by_rows.kept (attaching key (option_map (id_at f.heap) was.value))) =
-      by_rows.handles slot
-      ∙ ap (λ o. option_map (cleared by_rows.reach by_rows.kept)
-      (option_map (rename_handle (id_at f.heap)) o)) was.row
-      ∙ ap (λ k. Some (cleared by_rows.reach by_rows.kept
-      (attaching k (option_map (id_at f.heap) was.value)))) was.key_is in
-      let (row, there) = unread (id_at l.heap) (get l.table.rows slot) _ read in
-      (row, (there.0, left-row (id_at l.heap) by_rows.reach by_rows.kept row key _ there.1))
-
-  key_left : (slot : ℕ) (row : Handle Addr) (key : Option Id) → get l.table.rows slot ≡ Some row
-      → kept_key l.table slot key ≡ cond (is_none row.target) None key
-  key_left slot row key is =
-      ap (λ (r : Handle Addr). cond (is_none r.target) None key) (row-known l.table slot row is)
+  left_row = row_left w s.stored s.done
 
   left_tied : (slot : ℕ) (key : Option Id) → get w.held slot ≡ Some key → IsTied l.heap l.table.rows slot key
   left_tied slot key is = by (get f.weak.held slot) refl
@@ -159,7 +211,7 @@ module _ {f : Parts} {l : Lent} {w : WeakTable} {n : ℕ} {report : Report} {bef
             row = at.0 ∙ ap Some at.1.row_is;
             key_is = sym (swept-key (id_at l.heap) by_rows.reach by_rows.kept at.1.target old at.1.key_is)
                 ∙ ap (λ (r : Handle Addr). cond (is_none r.target) None old) (sym at.1.row_is)
-                ∙ sym (key_left slot row old at.0) ∙ kept;
+                ∙ sym (key_left l.table slot row old at.0) ∙ kept;
           }
 
   weak_left : (slot : ℕ) → get (state_of (left_parts f l w)).weak slot
@@ -183,7 +235,7 @@ module _ {f : Parts} {l : Lent} {w : WeakTable} {n : ℕ} {report : Report} {bef
           let was = s.stored.tied slot key e in
           let (row, at) = left_row slot key was in
           (λ i. option_map (entry_named (id_at l.heap) (at.0 i)) (option_map (kept_key l.table slot) (e i)))
-          ∙ ap (λ k. Some (entry_named (id_at l.heap) (Some row) k)) (key_left slot row key at.0)
+          ∙ ap (λ k. Some (entry_named (id_at l.heap) (Some row) k)) (key_left l.table slot row key at.0)
           ∙ ap Some (swept-entry (id_at l.heap) by_rows.reach by_rows.kept row key _ at.1)
           ∙ ap (λ o. Some (swept by_rows.kept (entry_named (id_at f.heap) o key))) (sym was.row)
           ∙ (λ i. option_map (swept by_rows.kept)

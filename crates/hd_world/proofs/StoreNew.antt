@@ -243,6 +243,7 @@ module _ (f : Parts) (k : Heap) (at : Addr) (id : Id) (count : ℕ) (fin : Bool)
     names = names-add f.heap k at.0 (new_object id count fin) adds i;
     ages = f.ages;
     heap = without_spare k;
+    table = f.table;
   }
 
 -- an object with a caller's next serial

@@ -1,5 +1,5 @@
 -- Rows of a store that change: what the machine sees, and that the store keeps what it keeps.
-use Rattle.hd_world.proofs.StoreWords.{Addr, Back, BlockUse, Bool, Err, Extra, FinMap, Grown, Handle, HasUses, Heap, Id, IfOk, IfSome, IsGrowth, IsNamed, IsSome, IsStored, IsTied, Kind, List, Machine, MayBeStored, None, Ok, OnErr, One, Option, Parts, Result, Row, Slot, Some, T, Table, Two, WeakTable, Zero, age_of, ap, arith, attaches, block_of, blocks_needed, cases_eq, clump_of, cond, count, entry_named, eq_by_cmp, extra_data, extra_of, false, fits, generation_at, get, get-remove, get_beside, get_inserted, get_left, grown_by, handle_at, handle_named, handle_of, handles_of, id_at, inl, inr, insert, is_kind, is_none, is_object, is_paired, is_single, is_some, kind_at, kind_in, kind_in_use, length, length-set, live_at, lowered, lowered_below, machine_of, nat_cmp, nat_cmp_total, not, nothing, object_at, object_named, one_dependent, one_extra, option_map, refl, remove, rename_handle, role, role_of, rows_by_id, same_Some, secondary, secondary_of, share, state_of, strength, subst, sum-insert, sum-remove, sum_by, sym, true, true≢false, unheld, unwrap_or, use_of, values, with_handle, with_row, without_block, without_handle, without_row, ℕ, ◌*◌, ◌+◌, ◌/◌, ◌∙◌, ◌≡◌, ◌≤◌}
+use Rattle.hd_world.proofs.StoreWords.{Addr, Back, BlockUse, Bool, Err, Extra, FinMap, Grown, Handle, HasUses, Heap, Id, IfOk, IfSome, IsGrowth, IsNamed, IsSome, IsStored, IsTied, Kind, List, Machine, MayBeStored, None, Ok, OnErr, One, Option, Parts, Result, Row, Slot, Some, T, Table, Two, WeakTable, Zero, age_of, ap, arith, attaches, block_of, blocks_needed, cases_eq, clump_of, cond, count, entry_named, eq_by_cmp, extra_data, extra_of, false, fits, generation_at, get, get-remove, get_beside, get_inserted, get_left, grown_by, handle_at, handle_named, handle_of, handles_of, id_at, inl, inr, insert, is_kind, is_none, is_object, is_paired, is_single, is_some, kind_at, kind_in, kind_in_use, length, length-set, live_at, lowered, lowered_below, machine_of, nat_cmp, nat_cmp_total, not, nothing, object_at, object_named, one_dependent, one_extra, option_map, refl, remove, rename_handle, role, role_of, rows_by_id, same_Some, secondary, secondary_of, share, state_of, strength, subst, sum-insert, sum-remove, sum_by, sym, true, true≢false, unheld, unwrap_or, use_of, values, with_growth, with_handle, with_row, without_block, without_handle, without_row, ℕ, ◌*◌, ◌+◌, ◌/◌, ◌∙◌, ◌≡◌, ◌≤◌}
 use Rattle.hd_seg.specs.declared.row.Full.{Full}
 use Rattle.hd_model.proofs.KindExtras.{fits_dependent}
 use Rattle.hd_world.proofs.EntryMaps.{same_numbers}
@@ -190,7 +190,10 @@ rows-end h rows slot =
 module _ (f : Parts) (m : Machine) (view : machine_of f ≡ m) where
   machine-put : (slot : Slot) (kind : Kind) (row : Row) → get f.weak.held slot.0 ≡ None
       → machine_of (with_table f (with_row f.table slot.0 (handle_of kind row)))
-      ≡ record m { state = with_handle m.state slot (handle_named m kind row) }
+      ≡ record m {
+        state = with_handle m.state slot (handle_named m kind row);
+        table = with_row f.table slot.0 (handle_of kind row);
+      }
   machine-put slot kind row free =
       (λ i. record (machine_of f) {
         state = record (state_of f) {
@@ -201,11 +204,16 @@ module _ (f : Parts) (m : Machine) (view : machine_of f ≡ m) where
               (rename_handle g (handle_of kind row))) (sym (names-are f.heap))) i;
           weak = weak-put f.heap f.table.rows f.weak.held slot.0 (handle_of kind row) free i;
         };
+        table = with_row f.table slot.0 (handle_of kind row);
       })
-      ∙ ap (λ (n : Machine). record n { state = with_handle n.state slot (handle_named n kind row) }) view
+      ∙ ap (λ (n : Machine). record n {
+        state = with_handle n.state slot (handle_named n kind row);
+        table = with_row f.table slot.0 (handle_of kind row);
+      }) view
 
   pub machine-end : (slot : Slot) → get f.weak.held slot.0 ≡ None → machine_of
-      (with_table f (without_row f.table slot.0)) ≡ record m { state = without_handle m.state slot }
+      (with_table f (without_row f.table slot.0))
+      ≡ record m { state = without_handle m.state slot; table = without_row f.table slot.0 }
   machine-end slot free =
       (λ i.
       record (machine_of f) {
@@ -214,8 +222,12 @@ module _ (f : Parts) (m : Machine) (view : machine_of f ≡ m) where
               ∙ rows-end f.heap (unheld f.table.rows f.weak.held) slot.0) i;
           weak = weak-end f.heap f.table.rows f.weak.held slot.0 free i;
         };
+        table = without_row f.table slot.0;
       })
-      ∙ ap (λ (n : Machine). record n { state = without_handle n.state slot }) view
+      ∙ ap (λ (n : Machine). record n {
+        state = without_handle n.state slot;
+        table = without_row f.table slot.0;
+      }) view
 
 -- only a dependent row has a secondary
 attaching : (k : Kind) (e : Extra Addr) (x : Addr) → fits k e ≡ true → secondary_of e ≡ Some x
@@ -263,10 +275,10 @@ pub row-put : (f : Parts) (m : Machine) → machine_of f ≡ m → IsStored f
     → get f.weak.held slot.0 ≡ None → MayBeStored m slot kind row → (t : Table)
     → t ≡ with_row f.table slot.0 (handle_of kind row)
     → IsStored (with_table f t) × (machine_of (with_table f t)
-    ≡ record m { state = with_handle m.state slot (handle_named m kind row) })
+    ≡ record m { state = with_handle m.state slot (handle_named m kind row); table = t })
 row-put f m view stored slot kind row free may t is =
     subst (λ u. IsStored (with_table f u) × (machine_of (with_table f u)
-    ≡ record m { state = with_handle m.state slot (handle_named m kind row) })) (sym is) (
+    ≡ record m { state = with_handle m.state slot (handle_named m kind row); table = u })) (sym is) (
       stored-put f slot.0 (handle_of kind row) stored (may-store f m view stored slot kind row may) free,
       machine-put f m view slot kind row free,
     )
@@ -419,6 +431,25 @@ stored-grown f t k stored (Ok g) grows after kept =
 stored-grown f t k stored (Err e) grows after kept =
     stored-same f t stored (ap (λ (s : Table). s.rows) kept) (ap (λ (s : Table). s.blocks) kept)
     (subst HasGoodUses (sym kept) stored.uses)
+
+-- the machine sees the blocks in use
+grown_seen : (f : Parts) (m : Machine) → machine_of f ≡ m → (k : Kind) (g : Grown) → IsGrowth f.table k g
+    → machine_of (with_table f (grown_by f.table k g))
+    ≡ record m { state = with_growth m.state k g; table = grown_by f.table k g }
+grown_seen f m view k Zero grows = elim grows [ ]
+grown_seen f m view k (One b) grows = ap (λ (n : Machine).
+    record n { state = with_growth n.state k (One b); table = grown_by f.table k (One b) }) view
+grown_seen f m view k (Two b d) grows = ap (λ (n : Machine).
+    record n { state = with_growth n.state k (Two b d); table = grown_by f.table k (Two b d) }) view
+grown_seen f m view k (Back b) grows = elim grows [ ]
+
+pub machine-grown : (f : Parts) (m : Machine) → machine_of f ≡ m → (t : Table) (k : Kind)
+    → (r : Result Grown Full) → IfOk r (IsGrowth f.table k) → IfOk r (λ g. t ≡ grown_by f.table k g)
+    → IfOk r (λ g. machine_of (with_table f t) ≡ record m { state = with_growth m.state k g; table = t })
+machine-grown f m view t k (Ok g) grows after =
+    subst (λ u. machine_of (with_table f u) ≡ record m { state = with_growth m.state k g; table = u })
+    (sym after) (grown_seen f m view k g grows)
+machine-grown f m view t k (Err e) grows after = tt
 
 -- a block that has lost its kind
 back_within : (m : FinMap nat_cmp BlockUse) (k most : ℕ) → ((b : ℕ) → IsSome (get m b) → (1 ≤ b) × (b ≤ most))

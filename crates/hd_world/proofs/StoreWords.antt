@@ -15,7 +15,7 @@ pub use Rattle.std.specs.List.{range_with_len, slice_get}
 pub use Rattle.std.specs.Option.{option_map_or, option_or, option_to_list}
 pub use Rattle.std.specs.Ordering.{eq_by_cmp, is_lt, nat_cmp}
 pub use Rattle.std.specs.Prelude.{AllPairs, Contains, IfSome, IsNone, IsSome, MatchOption, MatchResult, OnErr, filter, if◌then◌else◌, is_none, is_some, max, option_and_then, option_map, slice_index, sum_by, unwrap_or, ◌%◌, ◌↔◌}
-pub use Rattle.hd_cwt.specs.WeakTable.{HasKey, IsIdle, IsLeastIdle, IsWeakTable, WeakTable, bucket_of, entries_in, is_in_bucket, kept_key}
+pub use Rattle.hd_cwt.specs.WeakTable.{HasKey, IsIdle, IsLeastIdle, IsWeakTable, LooksAt, WeakTable, bucket_of, entries_in, is_in_bucket, kept_key}
 pub use Rattle.hd_gc.specs.Collected.{Collected}
 pub use Rattle.hd_heap.proofs.HeapValues.{not_there, same_address}
 pub use Rattle.hd_heap.specs.Calls.{IsMade, empty_heap, is_younger, new_object, with_field}
@@ -78,7 +78,7 @@ pub use Rattle.hd_world.specs.Objects.{IsObjectRefused, object_named}
 pub use Rattle.hd_world.specs.Placed.{IsTrueRun, same_places}
 pub use Rattle.hd_world.specs.Places.{AreAddresses, HasCollected, HasNames, HasPlace, KeepsNames, KeepsPlaces, Moves, kept_places}
 pub use Rattle.hd_world.specs.Reading.{IsNamed, entry_named, name_in, named_in, read_object, unheld}
-pub use Rattle.hd_world.specs.StateHeap.{IsCompactStore, IsOfHeap, IsStoredAt, LeavesHeap}
+pub use Rattle.hd_world.specs.StateHeap.{IsCompactStore, IsOfHeap, IsOfTable, IsStoredAt, LeavesHeap}
 pub use Rattle.hd_world.specs.Store.{IsOverHeap, Machine, machine_of, without_spare}
 pub use Rattle.hd_world.specs.StoreParts.{parts}
 pub use Rattle.hd_world.specs.Stored.{HasUses, IsStored, IsTied, Parts, callers_of, numbers_of, one_dependent, one_extra, scene_of_parts, state_of}

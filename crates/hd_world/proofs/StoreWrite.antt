@@ -186,6 +186,7 @@ module _ (f : Parts) (k : Heap) (at : Addr) (old new : Placed) (w : Writes f.hea
         names = names-replace h k at.0 old new w.replaces i;
         ages = f.ages;
         heap = without_spare k;
+        table = f.table;
       }
 
 -- the machine sees the object at an address changed

@@ -27,11 +27,11 @@ abbrev pub done_of : Result Done Refusal → Done
 done_of (Ok done) = done
 done_of (Err refused) = record { reply = reply.Refused refused; slot = None; grown = Zero }
 
--- a command came to an outcome and left such ages; what the heap has beside the state is not said
+-- a command came to an outcome and left such ages; what heap and table have beside the state is not said
 abbrev pub ComesToAged : Outcome → List ℕ → Machine → Machine → Result Done Refusal → Type 0
 ComesToAged wanted ages old new result =
     (done_of result ≡ record { reply = wanted.reply; slot = wanted.slot; grown = Zero })
-    × (new ≡ record old { state = wanted.after; ages = ages; heap = new.heap })
+    × (new ≡ record old { state = wanted.after; ages = ages; heap = new.heap; table = new.table })
 
 abbrev pub ComesTo : Outcome → Machine → Machine → Result Done Refusal → Type 0
 ComesTo wanted old new result = ComesToAged wanted old.ages old new result

@@ -11,7 +11,7 @@ use Rattle.hd_world.specs.{Reading.named_in, Reading.IsNamed, Store.Machine, Han
 pub record IsPlace (old new : Machine) (kind : Kind) (offer : Option Slot)
     (slot : Slot) (grown : Grown) : Type 0 where
   pub may : MayGive old.numbers old.state kind grown slot
-  pub store : new ≡ record old { state = with_growth old.state kind grown }
+  pub store : new ≡ record old { state = with_growth old.state kind grown; table = new.table }
   pub free : IsFree new.state kind slot
   pub low : 1 ≤ block_of slot
   pub high : block_of slot ≤ old.numbers.blocks

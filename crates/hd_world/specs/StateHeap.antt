@@ -1,12 +1,12 @@
--- The heap under a state: which object is at which address, what keeps its address over a command, and how a
--- collection leaves the heap.
+-- The heap and the table under a state: which object is at which address, which handle is in which row, what
+-- keeps its address over a command, and how a collection leaves the heap.
 use Rattle.std.specs.Prelude.{◌≡◌, ◌↔◌, ℕ, ◌+◌, ◌/◌, ◌≤◌, true, false, Some, option_map}
 use Rattle.std.specs.FinMap.{FinMap, get, len}
 use Rattle.std.specs.Ordering.{nat_cmp}
-use Rattle.hd_model.specs.{declared.data.Id.Id, declared.data.Entry.Entry, declared.data.Report.Report, declared.limits.TheConstants.LEFT, declared.limits.TheConstants.OPEN, State.Handle, State.State, Step.pinned_target, Reach.IsPinned, Ages.HasSoundCards, Text.is_collect, Counting.Counts}
+use Rattle.hd_model.specs.{declared.data.Id.Id, declared.data.Entry.Entry, declared.data.Report.Report, declared.limits.TheConstants.LEFT, declared.limits.TheConstants.OPEN, State.Handle, State.State, State.rename_handle, State.row_of, Table.Table, Table.row_at, Step.pinned_target, Reach.IsPinned, Ages.HasSoundCards, Text.is_collect, Counting.Counts, Aging.AgedRun}
 use Rattle.hd_model.specs.declared.data.Reply.TheVariants as reply
 use Rattle.hd_model.specs.declared.command.Cmd.TheVariants as cmd
-use Rattle.hd_model.specs.Heap.{Placed, Heap, object_at, is_carded, is_set, used_of, HasIdentities}
+use Rattle.hd_model.specs.Heap.{Placed, Heap, object_at, id_at, is_carded, is_set, used_of, HasIdentities}
 use Rattle.hd_plan.specs.Commit.{NeedsCard}
 use Rattle.hd_world.specs.{Reading.objects_by_id, World.WorldView}
 
@@ -22,6 +22,20 @@ pub record IsOfHeap (s : State) (h : Heap) : Type 0 where
   pub identities : HasIdentities h
   pub places : (x place : ℕ) → get s.places x ≡ Some place → IsStoredAt h (record { 0 = x }) place
   pub cards : HasSoundCards (object_at h) (is_carded h)
+
+-- a state is that of a table: with each address read as the identity there, the row of a slot is its handle,
+-- or the dependent handle by which the weak table attaches a value to a key, which is null in an idle slot; a
+-- slot with none of these has no row; and each block has the use that the state says
+pub record IsOfTable (s : State) (h : Heap) (t : Table) : Type 0 where
+  pub rows : (slot : ℕ) → option_map (rename_handle (id_at h)) (row_at t slot) ≡ row_of s slot
+  pub uses : t.uses ≡ s.blocks
+
+-- what is so of every world: its journal is a run that leads to its state and leaves its ages, and the heap
+-- and the table are those of the state to which the journal leads
+pub record IsOfJournal (w : WorldView) : Type 0 where
+  pub aged : AgedRun w.numbers w.journal w.state w.ages
+  pub heap : IsOfHeap w.state w.heap
+  pub table : IsOfTable w.state w.heap w.table
 
 -- `addr` returns the address of what the handle pins (GCHandle.AddrOfPinnedObject); over an entry an object
 -- keeps its address where a handle pins it, and each object does where the entry is of no collection

@@ -1,13 +1,13 @@
 -- What a collection of a store costs, and a search of the weak table, in the words of the machine.
 use Rattle.std.specs.Prelude.{◌≡◌, ℕ, ◌+◌, ◌*◌, ◌≤◌, Bool, false, List, length, filter, sum_by, Option, Some, None, option_map, option_and_then}
 use Rattle.std.specs.FinMap.{get, keys, entries}
-use Rattle.hd_model.specs.{declared.data.Id.Id, declared.data.Entry.Entry, declared.data.Report.Report, declared.data.Kind.Kind, Kinds.all_kinds, Kinds.is_kind, Ages.visits, declared.class.Class.Class, declared.command.Cmd.Cmd, Class.class_of, Text.is_collect}
+use Rattle.hd_model.specs.{declared.data.Id.Id, declared.data.Entry.Entry, declared.data.Report.Report, declared.data.Kind.Kind, Kinds.all_kinds, Kinds.is_kind, Ages.visits, declared.class.Class.Class, declared.command.Cmd.Cmd, Class.class_of, Text.is_collect, Command.slot_of_key}
 use Rattle.hd_model.specs.declared.data.Reply.TheVariants as reply
 use Rattle.hd_model.specs.declared.command.Cmd.TheVariants as cmd
 use Rattle.hd_model.specs.declared.data.Kind.TheVariants as kind
 use Rattle.hd_model.specs.declared.class.Class.TheVariants as class
 use Rattle.hd_model.specs.State.{State, WeakEntry, BlockUse, handles_of, extra_data, register_of}
-use Rattle.hd_cwt.specs.WeakTable.{bucket_of, is_in_bucket}
+use Rattle.hd_cwt.specs.WeakTable.{LooksAt, bucket_of, is_in_bucket}
 use Rattle.hd_scan.specs.Tasks.{task_kind, root_tasks, short_tasks, long_tasks}
 
 -- whether a block has handles of a kind
@@ -63,10 +63,10 @@ entries_beside s key =
     length (filter (λ (e : ℕ × Option (WeakEntry Id)).
     is_in_bucket (bucket_of key) (option_map (λ (x : WeakEntry Id). x.key) e.1)) (entries s.weak))
 
--- the steps of a search for a key: each is an entry of its bucket, and there is at most one more
-pub record SearchSteps (s : State) (key : Id) (before after : ℕ) : Type 0 where
-  pub counted : before ≤ after
-  pub most : after ≤ before + (entries_beside s key + 1)
+-- the steps of a search for a key: each entry of its bucket where the key has none, and else one at least and
+-- at most these
+abbrev pub SearchSteps : State → Id → (before after : ℕ) → Type 0
+SearchSteps s key before after = LooksAt (slot_of_key s key) (entries_beside s key) before after
 
 -- the steps of an entry, from the state and the ages before it: a collection takes those of its
 -- generation, a command that looks a key up those of one search, and no other command takes any

@@ -3,22 +3,23 @@ use Rattle.std.specs.Prelude.{◌≡◌, ◌≢◌, ℕ, ◌+◌, ◌<◌, ◌�
 use Rattle.std.specs.Option.{option_map_or}
 use Rattle.std.specs.Coded.{Coded, code_by, coded×, coded_ℕ, coded_list}
 use Rattle.hd_model.specs.declared.limits.TheConstants.{HEAP, BLOCKS, CALLERS}
-use Rattle.hd_model.specs.{declared.data.Entry.Entry, declared.data.Slot.Slot, declared.data.Kind.Kind, declared.command.Cmd.Cmd, declared.class.Class.Class, declared.data.Grown.TheVariants.Zero, declared.data.Grown.TheVariants.Back, Class.class_of, Kinds.kind_of, Touched.touched_by, Step.blocks_needed, Valid.IsValid, Valid.takes_memory, Heap.Heap}
+use Rattle.hd_model.specs.{declared.data.Entry.Entry, declared.data.Slot.Slot, declared.data.Kind.Kind, declared.command.Cmd.Cmd, declared.class.Class.Class, declared.data.Grown.TheVariants.Zero, declared.data.Grown.TheVariants.Back, Class.class_of, Kinds.kind_of, Touched.touched_by, Step.blocks_needed, Valid.IsValid, Valid.takes_memory, Heap.Heap, Table.Table}
 use Rattle.hd_model.specs.declared.data.Refusal.TheVariants as refusal
 use Rattle.hd_model.specs.declared.data.Reply.TheVariants as reply
 use Rattle.hd_model.specs.declared.class.Class.TheVariants as class
 use Rattle.hd_model.specs.State.{Numbers, State, given_of, total_size, block_of, first_slot, IsFree, IsAllFree}
 use Rattle.hd_model.specs.declared.data.Kind.TheVariants as kinds
 use Rattle.hd_model.specs.Command.{Adding, is_refused, in_idle, in_new, adding_of}
-use Rattle.hd_model.specs.Code.{numbers_code, state_code, entry_code, heap_code}
+use Rattle.hd_model.specs.Code.{numbers_code, state_code, entry_code, heap_code, table_code}
 
 -- a world: its numbers, its state, the ages of the clumps, the heap by address without its free regions, the
--- journal that led there, and for how many more entries there is room
+-- table by slot, the journal that led there, and for how many more entries there is room
 pub record WorldView : Type 0 where
   pub numbers : Numbers
   pub state : State
   pub ages : List ℕ
   pub heap : Heap
+  pub table : Table
   pub journal : List Entry
   pub spare : ℕ
 
@@ -30,17 +31,18 @@ pub record HasLimits (n : Numbers) : Type 0 where
 
 abbrev pub world_view_code : Coded WorldView
 world_view_code =
-    code_by (Numbers × (State × (List ℕ × (Heap × (List Entry × ℕ)))))
-    (coded× numbers_code (coded× state_code
-    (coded× (coded_list coded_ℕ) (coded× heap_code (coded× (coded_list entry_code) coded_ℕ)))))
-    (λ w. (w.numbers, (w.state, (w.ages, (w.heap, (w.journal, w.spare))))))
+    code_by (Numbers × (State × (List ℕ × (Heap × (Table × (List Entry × ℕ))))))
+    (coded× numbers_code (coded× state_code (coded× (coded_list coded_ℕ)
+    (coded× heap_code (coded× table_code (coded× (coded_list entry_code) coded_ℕ))))))
+    (λ w. (w.numbers, (w.state, (w.ages, (w.heap, (w.table, (w.journal, w.spare)))))))
     (λ p. record {
       numbers = p.0;
       state = p.1.0;
       ages = p.1.1.0;
       heap = p.1.1.1.0;
-      journal = p.1.1.1.1.0;
-      spare = p.1.1.1.1.1;
+      table = p.1.1.1.1.0;
+      journal = p.1.1.1.1.1.0;
+      spare = p.1.1.1.1.1.1;
     })
     (λ _. refl)
 

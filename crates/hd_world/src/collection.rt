@@ -1,13 +1,17 @@
 // `collect`: a collection of a store, which leaves each pinned object at its address.
-ghost use Rattle.std.specs.Prelude.{◌≡◌, ◌<◌, ◌≤◌, MatchResult};
+ghost use Rattle.std.specs.Prelude.{◌≡◌, ℕ, ◌<◌, ◌≤◌, MatchResult, option_map};
+ghost use Rattle.std.specs.FinMap.{get};
+ghost use Rattle.hd_cwt.specs.WeakTable.{kept_key};
 ghost use Rattle.hd_model.specs.declared.command.Cmd.TheVariants as cmds;
 ghost use Rattle.hd_world.specs.{declared.done.CallerCommand.CallerCommand, Commands.entry_of, Places.HasCollected, Places.KeepsPlaces, Visited.CollectedSteps, Visited.TakesSteps};
 
 use crate::done::Done;
 use crate::store::Store;
+use hd_cwt::Cwt;
 use hd_gc::collect;
 use hd_model::limits::OLDEST;
 use hd_model::{Memory, Reply, Report, Steps};
+use hd_seg::Seg;
 use std::sync::ledger::Ledger;
 
 impl Store {
@@ -36,8 +40,22 @@ impl Store {
             n,
             steps,
         )?;
-        self.weak.sweep(&self.table);
+        sweep_lost(&mut self.weak, &self.table, report.dep);
         Ok(report)
+    }
+}
+
+// The entries whose key a collection took leave the weak table. Where it cleared no dependent
+// handle there is none.
+fn sweep_lost(weak: &mut Cwt, table: &Seg, cleared: u32)
+    requires { cleared ≡ 0 → (slot : ℕ) → get weak.old.held slot ≡
+        option_map (kept_key table.now slot) (get weak.old.held slot) }
+    ensures blocks { weak.new.blocks ≡ weak.old.blocks }
+    ensures each { (slot : ℕ) → get weak.new.held slot ≡
+        option_map (kept_key table.now slot) (get weak.old.held slot) }
+{
+    if cleared > 0 {
+        weak.sweep(table);
     }
 }
 

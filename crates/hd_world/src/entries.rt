@@ -55,7 +55,8 @@ impl Store {
         requires new { HasNoEntry self.old key }
         requires may { MayHaveEntry self.old slot key value }
         ensures { let entry = Some (entry_at self.old.names key value) in
-            self.new ≡ record self.old { state = with_weak self.old.state slot entry } }
+            let after = with_weak self.old.state slot entry in
+            self.new ≡ record self.old { state = after; table = self.new.table } }
     {
         let id = self.id(key);
         // For the proof: a slot that is held is one of the blocks'.
@@ -72,7 +73,8 @@ impl Store {
         requires new { HasNoEntry self.old key }
         requires may { MayHaveEntry self.old slot key value }
         ensures { let entry = Some (entry_at self.old.names key value) in
-            self.new ≡ record self.old { state = with_weak self.old.state slot entry } }
+            let after = with_weak self.old.state slot entry in
+            self.new ≡ record self.old { state = after; table = self.new.table } }
     {
         // For the proof: each row is in a block of its kind.
         let _given = self.table.given();
@@ -88,14 +90,13 @@ impl Store {
     }
 
     /// Takes the entry out of its slot, which the weak table holds on.
-    pub(crate) fn clear_entry(&mut self, slot: Slot, key: Addr)
-        requires known { IsSome (get self.old.names key.0) }
-        requires slot { slot_of_key self.old.state (name_in self.old.names key) ≡ Some slot }
-        ensures { self.new ≡ record self.old { state = with_weak self.old.state slot None } }
+    pub(crate) fn clear_entry(&mut self, slot: Slot)
+        requires { IsSome (get self.old.state.weak slot.0) }
+        ensures { let after = with_weak self.old.state slot None in
+            self.new ≡ record self.old { state = after; table = self.new.table } }
     {
-        let id = self.id(key);
         self.table.set_row(slot, None);
         self.table.set_extra(slot, Extra::Secondary(None));
-        self.weak.remove(id);
+        self.weak.clear(slot);
     }
 }

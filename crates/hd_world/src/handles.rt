@@ -62,7 +62,7 @@ impl Store {
         requires free { IsFree self.old.state kind slot }
         requires may { MayBeStored self.old slot kind row }
         ensures { let after = with_handle self.old.state slot (handle_named self.old kind row) in
-            self.new ≡ record self.old { state = after } }
+            self.new ≡ record self.old { state = after; table = self.new.table } }
     {
         self.table.put_row(slot, row);
     }
@@ -73,7 +73,7 @@ impl Store {
             ≡ Some kind }
         requires may { MayBeStored self.old slot kind row }
         ensures { let after = with_handle self.old.state slot (handle_named self.old kind row) in
-            self.new ≡ record self.old { state = after } }
+            self.new ≡ record self.old { state = after; table = self.new.table } }
     {
         self.table.set_row(slot, row.target);
         self.table.set_extra(slot, row.extra);
@@ -82,7 +82,8 @@ impl Store {
     /// Takes the handle out of a live slot.
     pub(crate) fn take_row(&mut self, slot: Slot)
         requires { IsSome (handle_at self.old.state slot) }
-        ensures { self.new ≡ record self.old { state = without_handle self.old.state slot } }
+        ensures { let after = without_handle self.old.state slot in
+            self.new ≡ record self.old { state = after; table = self.new.table } }
     {
         self.table.take_row(slot);
     }
@@ -91,8 +92,8 @@ impl Store {
     /// where it has some. After a refusal nothing is changed.
     pub(crate) fn give_blocks(&mut self, kind: Kind) -> Result<Grown, Full>
         ensures grown { IfOk result (GrowsBy self.old.numbers self.old.state kind) }
-        ensures after { IfOk result (λ grown.
-            self.new ≡ record self.old { state = with_growth self.old.state kind grown }) }
+        ensures after { IfOk result (λ grown. let after = with_growth self.old.state kind grown in
+            self.new ≡ record self.old { state = after; table = self.new.table }) }
         ensures room { OnOk result
             (given_of self.old.state + blocks_needed kind ≤ self.old.numbers.blocks) }
         ensures full { OnErr result
@@ -108,7 +109,8 @@ impl Store {
     pub(crate) fn take_back(&mut self, kind: Kind, block: u32)
         requires single { is_paired kind ≡ false }
         requires free { IsAllFree self.old.state kind block }
-        ensures { self.new ≡ record self.old { state = without_use self.old.state block } }
+        ensures { let after = without_use self.old.state block in
+            self.new ≡ record self.old { state = after; table = self.new.table } }
     {
         self.table.take_back(block);
     }

@@ -110,7 +110,7 @@ pub(crate) fn remove_entry<L: Ledger>(
     let at = object_in(store, caller, k)?;
     match store.slot_of_key(at, steps) {
         Some(slot) => {
-            store.clear_entry(slot, at);
+            store.clear_entry(slot);
             Ok(Done::of(Reply::Done))
         }
         None => Ok(Done::of(Reply::Absent)),
@@ -134,5 +134,9 @@ pub(crate) fn needs_slot<L: Ledger>(
     let Some(key) = store.register(caller, k) else {
         return false;
     };
-    store.slot_of_key(key, steps).is_none() && store.idle_slot().is_none()
+    // With an idle slot none is needed, and the key is not searched for.
+    if store.idle_slot().is_some() {
+        return false;
+    }
+    store.slot_of_key(key, steps).is_none()
 }

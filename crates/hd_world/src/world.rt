@@ -1,8 +1,8 @@
 ghost use Rattle.std.specs.Prelude.{◌≡◌, ◌+◌, ◌<◌, ◌≤◌, ◌^◌, [], length, IsTrue, IfOk, OnErr, MatchResult};
 ghost use Rattle.std.specs.FinMap.{len};
 ghost use Rattle.hd_model.specs.State.{Numbers, start_of, use_of, block_of};
-ghost use Rattle.hd_model.specs.{Run.Run, Aging.AgedRun, Valid.IsValid, Valid.takes_memory, RootText.roots_of, Text.collections_of, Text.is_collect};
-ghost use Rattle.hd_world.specs.{Growth.kind_in_use, Placed.Placed, Placed.Placed-prop, Applied.Applied, StateHeap.IsOfHeap, Visited.TakesSteps};
+ghost use Rattle.hd_model.specs.{Run.Run, Valid.IsValid, Valid.takes_memory, RootText.roots_of, Text.collections_of, Text.is_collect};
+ghost use Rattle.hd_world.specs.{Growth.kind_in_use, Placed.Placed, Placed.Placed-prop, Applied.Applied, StateHeap.IsOfJournal, Visited.TakesSteps};
 ghost use Rattle.hd_world.specs.World.{HasLimits, IsOffer, needs_slot, FitsHeap, MayApply, RanOut};
 
 use crate::done::CallerCommand;
@@ -16,9 +16,9 @@ use std::sync::ledger::{Blank, Ledger};
 use std::thread::Threads;
 
 /// A world of objects and handles, seen as its numbers, its state, the ages of its clumps, its
-/// heap, its journal, and for how many more entries there is room. The journal is a run of the
-/// machine that leads to the state and leaves the ages. A world is made by `open` alone, and its
-/// journal grows by `apply` alone.
+/// heap, its table, its journal, and for how many more entries there is room. The journal is a run
+/// of the machine that leads to the state and leaves the ages. A world is made by `open` alone, and
+/// its journal grows by `apply` alone.
 #[derive(Drop)]
 pub struct World {
     store: Store,
@@ -40,6 +40,7 @@ impl Model for World {
       state = with_places w.store.state w.placed.0;
       ages = w.store.ages;
       heap = w.store.heap;
+      table = w.store.table;
       journal = w.journal.entries;
       spare = w.journal.spare;
     } };
@@ -51,6 +52,7 @@ impl Held for World {
     ghost use Rattle.std.specs.Prelude.{is_some, ◌||◌};
     ghost use Rattle.std.specs.FinMap.{get};
     ghost use Rattle.hd_model.specs.{State.use_of, Table.kind_word};
+    ghost use Rattle.hd_world.specs.StateHeap.{IsOfJournal};
 
     ghost numbers = { λ w. w.numbers };
 
@@ -62,6 +64,8 @@ impl Held for World {
         is_some (get w.state.handles slot) || is_some (get w.state.weak slot) };
 
     ghost kind = { λ w block. kind_word (use_of w.state block) };
+
+    ghost sound = { λ w. IsOfJournal w };
 }
 
 impl World {
@@ -167,8 +171,7 @@ impl World {
         ensures entries { result.now.entries ≡ self.now.journal }
         ensures spare { result.now.spare ≡ self.now.spare }
         ensures run { Run self.now.numbers self.now.journal self.now.state }
-        ensures ages { AgedRun self.now.numbers self.now.journal self.now.state self.now.ages }
-        ensures heap { IsOfHeap self.now.state self.now.heap }
+        ensures sound { IsOfJournal self.now }
         ensures limits { HasLimits self.now.numbers }
     {
         // Read for the proof alone: the store is one over its heap.

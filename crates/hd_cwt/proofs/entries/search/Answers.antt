@@ -1,5 +1,5 @@
 use Rattle.hd_cwt.proofs.Basics.{Some, arith, entry_at, refl, rules, ◌≢◌}
-use Rattle.hd_cwt.proofs.KeySearch.{low, nowhere, onward, start}
+use Rattle.hd_cwt.proofs.KeySearch.{looked_all, low, nowhere, onward, start}
 use Rattle.hd_cwt.proofs.entries.search.Goals as goal
 
 pub loop-at-init : goal.loop-at-init
@@ -19,3 +19,6 @@ loop-at-preserved g c =
 
 pub returns-clause-none : goal.returns-clause-none
 returns-clause-none g c = nowhere c.loop-at.invariant c.loop-at-test.false c.requires.within.0
+
+pub returns-clause-steps : goal.returns-clause-steps
+returns-clause-steps g c = looked_all c.loop-at.invariant c.loop-at-test.false c.requires.within.0

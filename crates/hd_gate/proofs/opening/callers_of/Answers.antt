@@ -1,5 +1,5 @@
 use Rattle.hd_gate.proofs.Basics.{IsNew, caller_view_of, padded_value, refl, slice_index, ◌∙◌}
-use Rattle.hd_gate.proofs.CallerOpen.{are_all, begin, limits_are, first_part}
+use Rattle.hd_gate.proofs.CallerOpen.{are_all, begin, limits_are, first_part, first_seen}
 use Rattle.hd_gate.proofs.opening.callers_of.Goals as goal
 
 new_one : (c : goal.In-Ok) → IsNew c.args.custody.now 0 (slice_index c.args.rooms.now 0)
@@ -15,6 +15,7 @@ new_one c =
       };
       number = refl;
       part = first_part begun v numbers c.requires.starts _ _ c.in_ok-list.ensures.first;
+      seen = first_seen begun v numbers c.requires.starts _ _ c.in_ok-list.ensures.first;
       room = c.new-room.ensures;
     }
 

@@ -29,14 +29,17 @@ loop-caller-preserved c =
         inv.count,
         count,
         ap length ended,
-        length-append v.ended ((w.number, w.part) ∷ []),
+        length-append v.ended ((w.number, w.part, w.seen) ∷ []),
       );
       rest = rest_less all xs ys x popped inv.rest;
       ended = subst (HasEnded all) (sym ended)
-          (one_more_ended all v.ended (w.number, w.part) (length ys) inv.ended
+          (one_more_ended all v.ended (w.number, w.part, w.seen) (length ys) inv.ended
           (omega (arith, inv.count, count, fewer, c.requires.all.count))
           (c.caller.invariant.0.number
           ∙ ap (λ (p : CallerView). p.number) (c.caller.view_is ∙ last x ∙ moved x)
           ∙ c.requires.all.in_order (length ys + 1) x (omega (arith, inv.count, count, c.requires.all.count)))
-          (λ d. ap (λ (p : CallerView). p.part) (c.caller.view_is ∙ last d)));
+          (λ d. (
+            ap (λ (p : CallerView). p.part) (c.caller.view_is ∙ last d),
+            ap (λ (p : CallerView). p.seen) (c.caller.view_is ∙ last d),
+          )));
     }

@@ -27,6 +27,7 @@ loop-number-preserved c =
       };
       number = refl;
       part = refl;
+      seen = refl;
       room = c.new.ensures;
     }) in
     let left : sum (drop n rooms) + slice_index rooms 0 ≡ slice_index rooms n + last =

@@ -19,7 +19,7 @@ all g c =
 left : (g : Over) (c : After-leave g) → c.leave.new.seat ≡ record {
   table = c.args.seat.now.table;
   view = gave_back ghosts c.enter-world.result c.step_surely-entry.new.world
-      (took c.enter-world.result c.args.seat.now.view);
+      (took ghosts c.enter-world.result c.args.seat.now.view);
 }
 left g c =
     let busy = c.enter-world.ensures.view in
@@ -37,7 +37,7 @@ pub leave-requires-clause-follows : goal.leave-requires-clause-follows
 leave-requires-clause-follows g c =
     let u = c.enter-world.result in
     may_leave_with c.args.seat.now.table c.enter-world.new.seat u c.step_surely-entry.new.world
-    (took u c.args.seat.now.view) c.enter-world.ensures.view refl
+    (took ghosts u c.args.seat.now.view) c.enter-world.ensures.view refl
     (all g (goal.at.leave-requires-clause-follows g c).After-step_surely-entry).follows
 
 pub release_freed-requires-clause-slot : goal.release_freed-requires-clause-slot
@@ -58,7 +58,7 @@ returns g c =
     let n = c.release_freed.new.seat.view in
     let left = left g at.After-leave in
     let away : ReleasesFreed seat.view.limits.blocks (freed_in w.state e.slot)
-    (gave_back ghosts c.enter-world.result w (took c.enter-world.result seat.view)) n =
+    (gave_back ghosts c.enter-world.result w (took ghosts c.enter-world.result seat.view)) n =
     subst (λ (s : Known WorldView).
     ReleasesFreed seat.view.limits.blocks (freed_in w.state e.slot) s.view n) left
     (subst (λ b. ReleasesFreed b (freed_in w.state e.slot) c.leave.new.seat.view n) c.requires.turn.blocks

@@ -16,7 +16,7 @@ pub leave-requires-clause-follows : goal.leave-requires-clause-follows
 leave-requires-clause-follows g c =
     let u = c.enter-world.result in
     let v = c.args.seat.now.view in
-    may_leave_with c.args.seat.now.table c.enter-world.new.seat u c.step-done.new.self (took u v)
+    may_leave_with c.args.seat.now.table c.enter-world.new.seat u c.step-done.new.self (took ghosts u v)
     c.enter-world.ensures.view refl
     (plain_follows c.args.number c.args.cmd u c.step-done.new.self
     (kept u c.args.number c.args.cmd c.requires.keeps) v c.requires.turn.idle

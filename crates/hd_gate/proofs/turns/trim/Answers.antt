@@ -1,4 +1,4 @@
-use Rattle.hd_gate.proofs.Basics.{IsOffer, Known, Option, Slot, Stepped, TableId, View, WorldView, ap, gathered, kind_number, subst, sym, took, without_gathered, ◌<◌, ◌∙◌, ◌≡◌, ◌≤◌}
+use Rattle.hd_gate.proofs.Basics.{IsOffer, Known, Option, Slot, Stepped, TableId, View, WorldView, ap, gathered, ghosts, kind_number, subst, sym, took, without_gathered, ◌<◌, ◌∙◌, ◌≡◌, ◌≤◌}
 use Rattle.hd_gate.proofs.GateLeave.{may_step, Leaves, may_leave, turned}
 use Rattle.hd_gate.proofs.BlockTrim.{may_offer, trim_leaves, may_withdraw}
 use Rattle.hd_gate.proofs.turns.trim.Given.{Over}
@@ -32,19 +32,19 @@ withdraw-requires-clause-all g c =
 -- the seat under the gate, and what it may leave with
 busy : (g : Over) (c : After-withdraw g) → c.withdraw.new.seat ≡ record {
   table = c.args.seat.now.table;
-  view = without_gathered c.gather-block.result (took c.enter-world.result c.gather-block.new.seat.view);
+  view = without_gathered c.gather-block.result (took ghosts c.enter-world.result c.gather-block.new.seat.view);
 }
 busy g c = c.withdraw.ensures
     ∙ ap (λ (s : Known WorldView). record s { view = without_gathered c.gather-block.result s.view })
     c.enter-world.ensures.view
     ∙ ap (λ (t : TableId). record {
       table = t;
-      view = without_gathered c.gather-block.result (took c.enter-world.result c.gather-block.new.seat.view);
+      view = without_gathered c.gather-block.result (took ghosts c.enter-world.result c.gather-block.new.seat.view);
     }) c.gather-block.ensures.table
 
 all : (g : Over) (c : After-withdraw g) → Leaves c.args.number c.args.cmd c.enter-world.result
     c.step_surely-entry.new.world c.step_surely-entry.result c.args.seat.now.view
-    (without_gathered c.gather-block.result (took c.enter-world.result c.gather-block.new.seat.view))
+    (without_gathered c.gather-block.result (took ghosts c.enter-world.result c.gather-block.new.seat.view))
 all g c =
     let u = c.enter-world.result in
     let w = c.step_surely-entry.new.world in

@@ -1,5 +1,5 @@
-use Rattle.hd_run.proofs.Basics.{CallerView, HasPlayed, Some, ap, arith, get_or, get_or_from_slice_get, length, list_of, refl, slice_get, subst, sym, ℕ, ◌<◌, ◌≡◌}
-use Rattle.hd_run.proofs.PlaySteps.{goes_on, stops}
+use Rattle.hd_run.proofs.Basics.{Some, ap, arith, get_or, get_or_from_slice_get, length, list_of, refl, slice_get, subst, sym, ℕ, ◌<◌, ◌≡◌}
+use Rattle.hd_run.proofs.PlaySteps.{goes_on, sees, stops}
 use Rattle.hd_run.proofs.threads.play.Given.{Over}
 use Rattle.hd_run.proofs.threads.play.Goals.{After-call}
 use Rattle.hd_run.proofs.threads.play.Goals as goal
@@ -24,7 +24,8 @@ pub returns-in-Err : goal.returns-in-Err
 returns-in-Err g c =
     let w = (goal.at.returns-in-Err g c).After-call in
     let list = list_of c.args.scripts.now c.args.caller.now.number in
-    subst (λ (p : CallerView). HasPlayed list c.args.caller.now p) (sym c.in-Err.ensures.unchanged)
+    sees list c.args.caller.now c.commands.caller c.call.new.caller c.call.new.caller.seen
+    c.in-Err.ensures.unchanged
     (stops list c.args.caller.now c.commands.caller c.commands.i c.cmd.result (within g w) (here g w)
     c.commands.invariant.at c.in-Err.ensures.memory)
 

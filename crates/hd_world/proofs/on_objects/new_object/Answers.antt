@@ -54,7 +54,14 @@ returns-in-Ok-clause-done c =
       c.of.ensures
           ∙ ap (λ i. replied (reply_with (reply.Object i) c.args.store.now.state)) id
           ∙ ap (λ b. replied (if b then full at else made at)) (sym (has_room at)),
-      λ i. record { numbers = numbers i; state = state i; names = new.names; ages = ages i; heap = new.heap },
+      λ i. record {
+        numbers = numbers i;
+        state = state i;
+        names = new.names;
+        ages = ages i;
+        heap = new.heap;
+        table = new.table;
+      },
     )
 
 pub returns-in-Ok-clause-names : goal.returns-in-Ok-clause-names

@@ -22,6 +22,8 @@ returns-in-Err-clause-fits g c =
     let seat = c.caller.inside.seat in
     let number = c.caller.inside.number in
     let room = padded_value c.caller.inside.room in
-    let p = caller_view_of seat number seat.view.room in
-    subst (λ (q : CallerView). HadRoom q c.args.cmd) c.caller.view_is
-    (room_with p p room room c.args.cmd c.in-Err.ensures.fits)
+    let old = caller_view_of seat number seat.view.room in
+    let new = caller_view_of c.turn.new.seat number c.turn.new.seat.view.room in
+    subst (λ (q : CallerView). HadRoom q (caller_view_of c.turn.new.seat number room) c.args.cmd)
+    c.caller.view_is
+    (room_with old new room room c.args.cmd c.in-Err.ensures.fits)

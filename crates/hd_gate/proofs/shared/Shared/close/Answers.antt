@@ -12,4 +12,4 @@ returns-clause-parts c =
     (has_parts c.callers.inside.list.items c.join_all-first.result.view closed c.close.ensures.world
     (ensured.all.0 ∙ callers ∙ sym c.requires.count
     ∙ ap (λ (l : List CallerView). Rattle.std.proofs.Common.length l)
-    (sym c.callers.view_is)) ensured.part ensured.ended))
+    (sym c.callers.view_is)) ensured.part ensured.seen ensured.ended))

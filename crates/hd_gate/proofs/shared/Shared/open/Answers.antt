@@ -1,4 +1,5 @@
-use Rattle.hd_gate.proofs.Basics.{Handle, Id, Option, State, WorldView, ap, get, get-empty, is_live, is_some, kind_word, nat_cmp, start_of, use_of, ◌||◌, ◌∙◌}
+use Rattle.hd_gate.proofs.Basics.{Handle, Id, Option, State, WorldView, ap, get, get-empty, is_live, is_some, kind_word, nat_cmp, start_of, subst, sym, use_of, ◌||◌, ◌∙◌}
+use Rattle.hd_world.specs.StateHeap.{IsOfJournal}
 use Rattle.hd_gate.proofs.shared.Shared.open.Goals as goal
 
 pub open-requires-clause-unused : goal.open-requires-clause-unused
@@ -9,4 +10,5 @@ open-requires-clause-unused c =
           (get-empty nat_cmp x) ∙ ap is_some (get-empty nat_cmp x);
       no_kinds = λ b. ap (λ (s : State). kind_word (use_of s b)) state ∙ ap kind_word (get-empty nat_cmp b);
       no_entries = ap (λ (w : WorldView). w.journal) c.in_ok-boxed.ensures ∙ c.requires.start.1;
+      sound = subst IsOfJournal (sym c.in_ok-boxed.ensures) c.journal-journal.ensures.sound;
     }

@@ -2,7 +2,7 @@ use Rattle.hd_world.proofs.StoreWords.{Addr, Collected, CollectedSteps, Err, Has
 use Rattle.std.specs.Result.{IsErr}
 use Rattle.hd_gc.specs.Ready.{Parts as Lent, parts as lent_parts}
 use Rattle.hd_world.proofs.ChainVisits.{steps-collected}
-use Rattle.hd_world.proofs.StoreCollect.{IsSwept, IsUncollected, left_parts, lent_of, lent, as_long, stored-left, has-collected, stored-out, machine-out}
+use Rattle.hd_world.proofs.StoreCollect.{IsSwept, IsUncollected, left_parts, lent_of, lent, as_long, stored-left, has-collected, stored-out, machine-out, unswept}
 use Rattle.hd_world.proofs.store.Store.collect.Given.{Over}
 use Rattle.hd_world.proofs.store.Store.collect.Goals as goal
 
@@ -49,10 +49,20 @@ returns-in_err-report g c =
     )
 
 -- or not
-swept : (g : Over) (c : goal.After-sweep g)
+pub sweep_lost-requires : goal.sweep_lost-requires
+sweep_lost-requires g c =
+    let f = parts c.self.inside in
+    let l = lent_parts c.collect.new.heap c.collect.new.seg c.collect.new.ages c.collect.new.fin
+    c.collect.new.roots in
+    unswept c.self.inside.weak c.self.invariant
+    (subst
+    (λ roots. Collected (lent_of (record f { roots = roots })) l c.args.n c.in_ok-report.report
+    c.args.steps.now c.collect.new.steps) c.deref_mut.ensures.value c.in_ok-report.ensures)
+
+swept : (g : Over) (c : goal.After-sweep_lost g)
     → IsSwept (parts c.self.inside) (lent_parts c.collect.new.heap c.collect.new.seg c.collect.new.ages
-    c.collect.new.fin c.collect.new.roots) c.sweep.new.self c.args.n c.in_ok-report.report c.args.steps.now
-    c.collect.new.steps
+    c.collect.new.fin c.collect.new.roots) c.sweep_lost.new.weak c.args.n c.in_ok-report.report
+    c.args.steps.now c.collect.new.steps
 swept g c = record {
   stored = c.self.invariant;
   done = subst
@@ -60,21 +70,21 @@ swept g c = record {
       c.collect.new.heap c.collect.new.seg c.collect.new.ages c.collect.new.fin c.collect.new.roots) c.args.n
       c.in_ok-report.report c.args.steps.now c.collect.new.steps) c.deref_mut.ensures.value
       c.in_ok-report.ensures;
-  blocks = c.sweep.ensures.blocks;
-  each = c.sweep.ensures.each;
+  blocks = c.sweep_lost.ensures.blocks;
+  each = c.sweep_lost.ensures.each;
 }
 
 pub invariant_of-self-2 : goal.invariant_of-self-2
 invariant_of-self-2 g c =
     let l = lent_parts c.collect.new.heap c.collect.new.seg c.collect.new.ages c.collect.new.fin
     c.collect.new.roots in
-    back c.self.inside l c.sweep.new.self IsStored (as_long (swept g c)) (stored-left (swept g c))
+    back c.self.inside l c.sweep_lost.new.weak IsStored (as_long (swept g c)) (stored-left (swept g c))
 
 pub returns : goal.returns
 returns g c =
     let l = lent_parts c.collect.new.heap c.collect.new.seg c.collect.new.ages c.collect.new.fin
     c.collect.new.roots in (
-      back c.self.inside l c.sweep.new.self
+      back c.self.inside l c.sweep_lost.new.weak
           (λ f. HasCollected c.args.self.now (machine_of f) c.args.n c.in_ok-report.report)
           (as_long (swept g c)) (has-collected (swept g c) c.args.self.now c.self.view_is),
       subst (λ (m : Machine). CollectedSteps m.state m.ages c.args.n c.args.steps.now c.collect.new.steps)

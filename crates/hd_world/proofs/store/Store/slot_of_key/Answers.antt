@@ -17,4 +17,6 @@ pub returns-clause-steps : goal.returns-clause-steps
 returns-clause-steps g c =
     subst (λ k. SearchSteps c.args.self.now.state k c.args.steps.now c.find.new.steps) c.id.ensures
     (search-steps (parts c.self.inside) c.args.self.now c.self.view_is c.id.result c.args.steps.now
-    c.find.new.steps c.find.ensures.counted c.find.ensures.steps)
+    c.find.new.steps c.find.result (found-is (parts c.self.inside) c.args.self.now c.self.view_is
+    c.find.ensures.table c.id.result c.find.result c.find.ensures.found c.find.ensures.none)
+    c.find.ensures.steps)

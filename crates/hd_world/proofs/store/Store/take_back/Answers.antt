@@ -1,4 +1,4 @@
-use Rattle.hd_world.proofs.StoreWords.{Machine, Some, ap, arith, handles_of, kind_at, machine_of, parts, subst, use_of, without_use, ◌*◌, ◌∙◌, ◌≡◌}
+use Rattle.hd_world.proofs.StoreWords.{Machine, Some, ap, arith, handles_of, kind_at, machine_of, parts, subst, sym, use_of, without_block, without_use, ◌*◌, ◌≡◌}
 use Rattle.hd_world.proofs.StoreRows.{with_table, stored-back, block-single, vacant-row}
 use Rattle.hd_world.proofs.store.Store.take_back.Goals as goal
 use Rattle.hd_model.specs.declared.limits.TheConstants.{ROWS}
@@ -22,5 +22,9 @@ invariant_of-self c = stored-back (parts c.self.inside) c.take_back.new.self
 
 pub returns : goal.returns
 returns c =
-    ap (λ t. machine_of (with_table (parts c.self.inside) t)) c.take_back.ensures
-    ∙ ap (λ (m : Machine). record m { state = without_use m.state c.args.block }) c.self.view_is
+    let f = parts c.self.inside in
+    let m = c.args.self.now in
+    let t = without_block f.table (kind_at f.table c.args.block) c.args.block in
+    subst (λ u. machine_of (with_table f u)
+    ≡ record m { state = without_use m.state c.args.block; table = u }) (sym c.take_back.ensures)
+    (ap (λ (n : Machine). record n { state = without_use n.state c.args.block; table = t }) c.self.view_is)

@@ -1,4 +1,4 @@
-use Rattle.hd_world.proofs.StoreWords.{IsStored, ap, machine_of, parts, subst, sym, ◌∙◌}
+use Rattle.hd_world.proofs.StoreWords.{IsStored, machine_of, parts, subst, sym, without_handle, ◌≡◌}
 use Rattle.hd_world.proofs.StoreRows.{with_table, stored-end, machine-end, live-row, live-free}
 use Rattle.hd_world.proofs.store.Store.take_row.Goals as goal
 
@@ -12,6 +12,8 @@ invariant_of-self c = subst (λ t. IsStored (with_table (parts c.self.inside) t)
 
 pub returns : goal.returns
 returns c =
-    ap (λ t. machine_of (with_table (parts c.self.inside) t)) c.take_row.ensures
-    ∙ machine-end (parts c.self.inside) c.args.self.now c.self.view_is c.args.slot
-    (live-free (parts c.self.inside) c.args.self.now c.self.view_is c.args.slot c.requires)
+    let m = c.args.self.now in
+    subst (λ t. machine_of (with_table (parts c.self.inside) t)
+    ≡ record m { state = without_handle m.state c.args.slot; table = t }) (sym c.take_row.ensures)
+    (machine-end (parts c.self.inside) m c.self.view_is c.args.slot
+    (live-free (parts c.self.inside) m c.self.view_is c.args.slot c.requires))

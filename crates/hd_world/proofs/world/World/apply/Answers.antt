@@ -51,6 +51,7 @@ seen m j p = record {
   state = with_places m.state p;
   ages = m.ages;
   heap = m.heap;
+  table = m.table;
   journal = j.entries;
   spare = j.spare;
 }

@@ -1,8 +1,8 @@
 use Rattle.hd_custody.proofs.Basics.{[], false, ◌≡◌}
-use Rattle.hd_custody.proofs.tests.wake_each.Given as goal
+use Rattle.hd_custody.proofs.tests.take_turns.Given as goal
 
-abbrev pub invariant-loop-round : goal.invariant-loop-round
-invariant-loop-round g l = record {
+abbrev pub invariant-loop-turn : goal.invariant-loop-turn
+invariant-loop-turn g l = record {
   table : l.seat.table ≡ l.fn.seat.table;
   gate : l.seat.view.has_gate ≡ false;
   held : l.seat.view.held ≡ [];
