@@ -308,10 +308,13 @@ class Script:
             self.objects[register] = None
 
     def burst(self, kind):
-        """All callers begin with many handles of one kind, and then free them, which is more than the cache has room for."""
+        """All callers begin with many handles of one kind, and free them after collections, by which the others have theirs: in all
+        they are more than the cache has room for."""
         self.new(0, 1)
         for register in range(HANDLES):
             self.make(register, kind, 0)
+        for _ in range(3):
+            self.say("collect", 0)
         for register in range(HANDLES):
             self.say("hfree", f"h{register}")
             self.handles[register] = None
