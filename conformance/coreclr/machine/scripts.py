@@ -17,16 +17,16 @@ THEMES = {
     "counted": {"kinds": ["ref", "ref", "ref", "strong", "long"], "hnew": 14, "hup": 4, "hdown": 8, "many": 1},
     "finalization": {"kinds": ["short", "long", "dep", "strong", "ref"], "hnew": 12, "suppress": 4, "reregister": 5, "final": 9,
                      "hdep": 3, "hsec": 3, "chain": 1, "fin": 0.6},
-    "attached": {"kinds": ["dep", "short", "long", "strong"], "hnew": 6, "cadd": 14, "cfind": 8, "cremove": 3, "hdep": 2, "hsec": 2,
-                 "final": 3, "chain": 2, "fin": 0.2},
+    "attached": {"kinds": ["dep", "short", "long", "strong"], "hnew": 6, "cadd": 14, "cfind": 8, "cremove": 3, "hdep": 2,
+                 "hsec": 2, "final": 3, "chain": 2, "fin": 0.2},
     "everything": {"kinds": KINDS, "hnew": 14, "hdep": 3, "hsec": 3, "hvar": 5, "hup": 2, "hdown": 3, "suppress": 2,
                    "reregister": 2, "final": 4, "chain": 1, "many": 1, "hput": 2, "hpick": 2, "cadd": 2, "cfind": 2, "cremove": 1,
                    "fin": 0.25},
 }
 # What a full line says besides, and callers in threads: they make and free handles more often.
 JUDGED = {"addr": 2, "gcroot": 2, "trim": 0.5}
-IN_THREADS = {**JUDGED, "hnew": 20, "hfree": 10, "churn": 1.5, "hput": 2, "hpick": 2, "cadd": 2, "cfind": 2, "cremove": 1, "collect": 3,
-              "many": 0.3, "old": 0.3}
+IN_THREADS = {**JUDGED, "hnew": 20, "hfree": 10, "churn": 1.5, "hput": 2, "hpick": 2, "cadd": 2, "cfind": 2, "cremove": 1,
+              "collect": 3, "many": 0.3, "old": 0.3}
 
 
 class Token:
@@ -308,8 +308,8 @@ class Script:
             self.objects[register] = None
 
     def burst(self, kind):
-        """All callers begin with many handles of one kind, and free them after collections, by which the others have theirs: in all
-        they are more than the cache has room for."""
+        """All callers begin with many handles of one kind, and free them after collections, by which the others have theirs: in
+        all they are more than the cache has room for."""
         self.new(0, 1)
         for register in range(HANDLES):
             self.make(register, kind, 0)
@@ -341,4 +341,5 @@ def judged_script(seed, number, in_threads):
     """The same, with commands that a judge can tell, for callers in turn or for 2 to 16 in threads."""
     rng = random.Random(f"{seed}/{number}/judged/{in_threads}")
     threads = rng.choice([2, 3, 4, 8, 16]) if in_threads else 0
-    return Script(rng, rng.choice([60, 120, 240]) * threads or rng.choice([100, 300, 600]), True, threads).text()
+    each = rng.choice([60, 120, 240])
+    return Script(rng, each * threads if threads else rng.choice([100, 300, 600]), True, threads).text()

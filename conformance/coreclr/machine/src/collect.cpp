@@ -57,7 +57,8 @@ void Machine::collection_begins(int generation) {
         fprintf(stderr, "coreclr: a collection that was not asked for\n");
         exit(6);
     }
-    if (collector_ != nullptr && generation != wanted_) cut(*collector_, "a collection of an older generation than was asked for");
+    if (collector_ != nullptr && generation != wanted_)
+        cut(*collector_, "a collection of an older generation than was asked for");
 }
 
 void Machine::threads_go_on() {
@@ -120,8 +121,8 @@ void Machine::report() {
     size_t cleared[4] = {0, 0, 0, 0};
     for (Handle* each : with_target_)
         if (ObjectFromHandle(each->raw) == nullptr) cleared[role_of(*each)]++;
-    report_ = "kept " + std::to_string(kept) + " removed " + std::to_string(removed) + " short " + std::to_string(cleared[SHORT]) +
-              " long " + std::to_string(cleared[LONG]) + " dep " + std::to_string(cleared[ATTACHES]) + " revived " +
-              std::to_string(queued);
+    report_ = "kept " + std::to_string(kept) + " removed " + std::to_string(removed) + " short " +
+              std::to_string(cleared[SHORT]) + " long " + std::to_string(cleared[LONG]) + " dep " +
+              std::to_string(cleared[ATTACHES]) + " revived " + std::to_string(queued);
     if (cleared[HOLDS] != 0) report_ += " held " + std::to_string(cleared[HOLDS]);
 }

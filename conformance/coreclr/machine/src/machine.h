@@ -117,7 +117,7 @@ private:
     std::deque<uint64_t> queue_;
     std::map<uint64_t, Object*> taken_;
 
-    // The caller that collects, of which generations, and what is seen of it. Who has the lock collects, or suspends for `gcroot`.
+    // The caller that collects, of which generations, and what is seen of it. Who has the lock collects, or searches.
     std::mutex suspends_;
     Caller* collector_ = nullptr;
     int wanted_ = -1;

@@ -1,5 +1,5 @@
-// The weak table by CoreCLR's dependent handles, as .NET's ConditionalWeakTable has it: one for each of its slots, whose target is
-// the key and whose secondary is the value. Which key it has is what CoreCLR's table says. The handle of an idle slot stays.
+// The weak table by CoreCLR's dependent handles, as .NET's ConditionalWeakTable has it: one for each of its slots, whose target
+// is the key and whose secondary is the value. Which key it has is what CoreCLR's table says. The handle of an idle slot stays.
 #include "machine.h"
 
 Attached* Machine::attached_to(Object* key) {
