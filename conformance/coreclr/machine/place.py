@@ -34,7 +34,7 @@ def hdt(words):
     return os.path.abspath(program)
 
 
-def run(words, text):
+def run(words, text, seconds=None):
     """What a program writes to its two outputs, and its status."""
-    done = subprocess.run(words, input=text.encode(), capture_output=True)
+    done = subprocess.run(words, input=text.encode(), capture_output=True, timeout=seconds)
     return done.stdout.decode(errors="replace"), done.stderr.decode(errors="replace"), done.returncode

@@ -17,38 +17,51 @@ THEMES = {
     "counted": {"kinds": ["ref", "ref", "ref", "strong", "long"], "hnew": 14, "hup": 4, "hdown": 8, "many": 1},
     "finalization": {"kinds": ["short", "long", "dep", "strong", "ref"], "hnew": 12, "suppress": 4, "reregister": 5, "final": 9,
                      "hdep": 3, "hsec": 3, "chain": 1, "fin": 0.6},
+    "attached": {"kinds": ["dep", "short", "long", "strong"], "hnew": 6, "cadd": 14, "cfind": 8, "cremove": 3, "hdep": 2,
+                 "hsec": 2, "final": 3, "chain": 2, "fin": 0.2},
     "everything": {"kinds": KINDS, "hnew": 14, "hdep": 3, "hsec": 3, "hvar": 5, "hup": 2, "hdown": 3, "suppress": 2,
-                   "reregister": 2, "final": 4, "chain": 1, "many": 1, "hput": 2, "hpick": 2, "fin": 0.25},
+                   "reregister": 2, "final": 4, "chain": 1, "many": 1, "hput": 2, "hpick": 2, "cadd": 2, "cfind": 2, "cremove": 1,
+                   "fin": 0.25},
 }
+# What a full line says besides, and callers in threads: they make and free handles more often.
+JUDGED = {"addr": 2, "gcroot": 2, "trim": 0.5}
+IN_THREADS = {**JUDGED, "hnew": 20, "hfree": 10, "churn": 1.5, "hput": 2, "hpick": 2, "cadd": 2, "cfind": 2, "cremove": 1,
+              "collect": 3, "many": 0.3, "old": 0.3}
 
 
 class Token:
-    """A handle: its kind, and whether it was freed. Registers and the board may share one."""
+    """A handle: its kind, and whether it was freed. Registers and the board may share one, and in threads who knows which."""
 
-    def __init__(self, kind):
-        self.kind, self.freed = kind, False
+    def __init__(self, kind, shared=False):
+        self.kind, self.freed, self.shared = kind, False, shared
 
 
 class Script:
-    def __init__(self, rng, length):
-        self.rng, self.length = rng, length
+    """With `judged` it has commands whose answers are no single text, and with `threads` it is for callers in threads: none frees
+    a handle that was on the board."""
+
+    def __init__(self, rng, length, judged=False, threads=0):
+        self.rng, self.length, self.threads = rng, length, threads
         self.theme = rng.choice(sorted(THEMES))
         self.words = dict(THEMES[self.theme])
         self.kinds = self.words.pop("kinds")
         self.fin = self.words.pop("fin", 0.1)
-        self.weights = {**COMMON, **self.words}
+        self.weights = {**COMMON, **self.words, **(IN_THREADS if threads else JUDGED if judged else {})}
         self.only_full = rng.random() < 0.1
         self.lines, self.commands = [], 0
         self.statics, self.board = [None] * SHARED, [None] * SHARED
 
     def text(self):
-        callers = self.rng.choice([1, 1, 1, 2, 3])
+        callers = self.threads or self.rng.choice([1, 1, 1, 2, 3])
+        burst = self.rng.choice(self.kinds) if self.threads and self.rng.random() < 0.5 else None
         for caller in range(callers):
             if callers > 1:
                 self.lines.append(f"caller {caller}")
             # What a register has: None for null, else how many fields the object in it has, or -1 where that is not known.
             self.objects, self.handles = [None] * OBJECTS, [None] * HANDLES
             until = self.length * (caller + 1) // callers
+            if burst:
+                self.burst(burst)
             while self.commands < until:
                 step = self.rng.choices(list(self.weights), list(self.weights.values()))[0]
                 getattr(self, "step_" + step)()
@@ -191,7 +204,7 @@ class Script:
 
     def step_hfree(self):
         handle = self.handle()
-        if handle is not None:
+        if handle is not None and not (self.handles[handle] and self.handles[handle].shared):
             self.say("hfree", f"h{handle}")
             if self.handles[handle] is not None:
                 self.handles[handle].freed = True
@@ -202,15 +215,59 @@ class Script:
         if handle is not None:
             self.say("hput", at, f"h{handle}")
             self.board[at] = self.handles[handle]
+            if self.handles[handle] and self.threads:
+                self.handles[handle].shared = True
 
     def step_hpick(self):
+        if self.threads:
+            register = self.rng.randrange(HANDLES)
+            self.say("hpick", f"h{register}", self.rng.randrange(SHARED))
+            self.handles[register] = Token(self.rng.choice(self.kinds), shared=True)
+            return
         usable = [at for at in range(SHARED) if self.board[at] is not None and not self.board[at].freed]
         if usable:
             at, register = self.rng.choice(usable), self.rng.randrange(HANDLES)
             self.say("hpick", f"h{register}", at)
             self.handles[register] = self.board[at]
 
+    # What a full line says besides.
+
+    def step_addr(self):
+        handle = self.handle(["pinned", "pinned", "var"])
+        if handle is not None:
+            self.say("addr", f"h{handle}")
+
+    def step_gcroot(self):
+        self.say("gcroot", f"r{self.some()}")
+
+    def step_trim(self):
+        self.say("trim", self.rng.choice(STRENGTHS))
+
+    # The weak table.
+
+    def step_cadd(self):
+        self.say("cadd", f"r{self.some()}", f"r{self.some()}")
+
+    def step_cfind(self):
+        into = self.any()
+        self.say("cfind", f"r{into}", f"r{self.some()}")
+        self.objects[into] = -1
+
+    def step_cremove(self):
+        self.say("cremove", f"r{self.some()}")
+
     # Several commands with one purpose.
+
+    def step_churn(self):
+        """Many handles of one kind are made, and most are freed at once, so that banks of the cache are filled and emptied."""
+        kind, free = self.rng.choice(self.kinds), [h for h in range(HANDLES) if self.handles[h] is None]
+        for _ in range(self.rng.randrange(1, 6)):
+            for register in free:
+                self.make(register, kind, self.some())
+            for register in free:
+                if self.rng.random() < 0.9:
+                    self.say("hfree", f"h{register}")
+                    self.handles[register] = None
 
     def step_list(self):
         """A list of objects, the first of which alone stays in a register."""
@@ -250,6 +307,18 @@ class Script:
             self.say("drop", f"r{register}")
             self.objects[register] = None
 
+    def burst(self, kind):
+        """All callers begin with many handles of one kind, and free them after collections, by which the others have theirs: in
+        all they are more than the cache has room for."""
+        self.new(0, 1)
+        for register in range(HANDLES):
+            self.make(register, kind, 0)
+        for _ in range(3):
+            self.say("collect", 0)
+        for register in range(HANDLES):
+            self.say("hfree", f"h{register}")
+            self.handles[register] = None
+
     def step_many(self):
         """Many handles of one kind, so that they take more than one clump or block."""
         if self.rng.random() < 0.25:
@@ -261,3 +330,16 @@ class Script:
 def script(seed, number, length):
     """The script of a number, of those of a seed."""
     return Script(random.Random(f"{seed}/{number}"), length).text()
+
+
+def heap_of(number):
+    """How many cells the heap has for it: mostly as many as hdt has where it is not told."""
+    return [30, 100, 300][number // 4 % 3] if number % 4 == 3 else 1000000
+
+
+def judged_script(seed, number, in_threads):
+    """The same, with commands that a judge can tell, for callers in turn or for 2 to 16 in threads."""
+    rng = random.Random(f"{seed}/{number}/judged/{in_threads}")
+    threads = rng.choice([2, 3, 4, 8, 16]) if in_threads else 0
+    each = rng.choice([60, 120, 240])
+    return Script(rng, each * threads if threads else rng.choice([100, 300, 600]), True, threads).text()

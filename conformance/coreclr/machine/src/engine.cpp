@@ -23,6 +23,7 @@ Program* the_program;
 std::atomic<Mutator*> mutators;
 std::atomic<Mutator*> suspender;
 thread_local Mutator* this_mutator;
+Thread* common_allocator = nullptr;
 
 // The generations to which a reference must be marked, and the table of marks. A byte of the table covers 2 KiB of the heap.
 struct Barrier {
@@ -55,7 +56,9 @@ HRESULT CLRConfig::GetConfigValue(ConfigStringInfo, TCHAR** value) {
 
 // Suspension: a thread is suspended where it is not cooperative, and it cannot become so while `suspender` is set.
 
-void GCToEEInterface::SuspendEE(SUSPEND_REASON) {
+namespace {
+
+void suspend_others() {
     g_theGCHeap->GetWaitForGCEvent()->Reset();
     g_theGCHeap->SetGCInProgress(TRUE);
     suspender.store(this_mutator);
@@ -64,11 +67,23 @@ void GCToEEInterface::SuspendEE(SUSPEND_REASON) {
         while (other != this_mutator && other->cooperative.load() != 0) sched_yield();
 }
 
-void GCToEEInterface::RestartEE(bool) {
+void let_others_go_on() {
     g_TrapReturningThreads = 0;
     suspender.store(nullptr);
     g_theGCHeap->SetGCInProgress(FALSE);
     g_theGCHeap->GetWaitForGCEvent()->Set();
+}
+
+}  // namespace
+
+void GCToEEInterface::SuspendEE(SUSPEND_REASON) {
+    suspend_others();
+    the_program->threads_are_suspended();
+}
+
+void GCToEEInterface::RestartEE(bool) {
+    the_program->threads_go_on();
+    let_others_go_on();
 }
 
 bool GCToEEInterface::IsPreemptiveGCDisabled(Thread* thread) { return mutator_of(thread)->cooperative.load() != 0; }
@@ -164,12 +179,14 @@ void start(Program* program, bool compact) {
     attach_thread();
 }
 
+void allocate_in_turn() { common_allocator = GetThread(); }
+
 HHANDLETABLE table() { return g_HandleTableMap.pBuckets[0]->pTable[0]; }
 
 void collect(int generation) { g_theGCHeap->GarbageCollect(generation, FALSE, collection_blocking); }
 
 Object* allocate(MethodTable* type, bool finalizable) {
-    gc_alloc_context* context = GCToEEInterface::GetAllocContext(GetThread());
+    gc_alloc_context* context = GCToEEInterface::GetAllocContext(common_allocator != nullptr ? common_allocator : GetThread());
     uint8_t* at = context->alloc_ptr;
     size_t size = type->GetBaseSize();
     Object* object = (Object*)at;
@@ -194,5 +211,11 @@ void store(Object** cell, Object* reference) {
 Cooperative::Cooperative() { GCToEEInterface::DisablePreemptiveGC(GetThread()); }
 
 Cooperative::~Cooperative() { GCToEEInterface::EnablePreemptiveGC(GetThread()); }
+
+Alone::Alone() { suspend_others(); }
+
+Alone::~Alone() { let_others_go_on(); }
+
+uint64_t cell_of(Object* object) { return ((uint8_t*)object - g_gc_lowest_address) / sizeof(Object*); }
 
 }  // namespace engine

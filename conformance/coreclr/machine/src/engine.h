@@ -36,12 +36,19 @@ public:
 
     // A collection of generations 0 to `generation` begins.
     virtual void collection_begins(int generation) {}
+
+    // All other threads are suspended for a collection; and the collection is done, and they are about to go on.
+    virtual void threads_are_suspended() {}
+    virtual void threads_go_on() {}
 };
 
 namespace engine {
 
 // Starts the collector, the handle table and this thread. `compact` forces compaction in each collection.
 void start(Program* program, bool compact);
+
+// From here on all threads allocate from one context, one at a time, which leaves no more holes in the heap than one thread does.
+void allocate_in_turn();
 
 // Makes the calling thread one that may work on the heap. Each thread that does has a `Cooperative` around its work.
 void attach_thread();
@@ -64,5 +71,16 @@ public:
     Cooperative();
     ~Cooperative();
 };
+
+// While one of these lives, all other threads are suspended, as they are for a collection. One thread at a time has one, and no
+// collection is asked for meanwhile.
+class Alone {
+public:
+    Alone();
+    ~Alone();
+};
+
+// The number of a cell of eight bytes, from the heap's first.
+uint64_t cell_of(Object* object);
 
 }  // namespace engine

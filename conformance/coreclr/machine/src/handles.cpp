@@ -39,28 +39,59 @@ std::string Machine::make_handle(Caller& caller, const Line& line) {
         fprintf(stderr, "coreclr: out of memory\n");
         exit(6);
     }
-    handles_.push_back(Handle{raw, kind, strength, 1, true});
-    caller.handles[line.at(1)] = &handles_.back();
+    take_ticket(caller);
+    caller.entry.raw = raw;
+    caller.entry.kind = kind;
+    caller.made.push_back(Handle{raw, kind, strength, 1, true});
+    caller.handles[line.at(1)] = &caller.made.back();
+    return "ok";
+}
+
+// The ticket is taken before the handle can be given again.
+std::string Machine::free_handle(Caller& caller, const Line& line) {
+    std::string refusal;
+    Handle* handle = usable(caller, line, 1, refusal);
+    take_ticket(caller);
+    if (handle == nullptr) return refusal;
+    handle->is_live = false;
+    caller.handles[line.at(1)] = nullptr;
+    caller.entry.raw = handle->raw;
+    caller.entry.kind = handle->kind;
+    caller.entry.is_freed = true;
+    HndDestroyHandle(engine::table(), handle->kind, handle->raw);
+    return "ok";
+}
+
+// The handle in a register that a word names, or null and why there is none.
+Handle* Machine::usable(Caller& caller, const Line& line, size_t word, std::string& refusal) {
+    Handle* handle = caller.handles[line.at(word)];
+    if (handle == nullptr) refusal = "empty";
+    if (handle == nullptr || handle->is_live) return handle;
+    cut(caller, "a slot that is used after it was freed");
+    refusal = "notlive";
+    return nullptr;
+}
+
+std::string Machine::on_board(Caller& caller, const Line& line) {
+    if (line.is("hput"))
+        board_[line.at(1)] = caller.handles[line.at(2)];
+    else
+        caller.handles[line.at(1)] = board_[line.at(2)];
     return "ok";
 }
 
 // The register that a command names comes second, but third where it also names an object register to load.
 std::string Machine::on_handles(Caller& caller, const Line& line) {
-    if (line.is("hput")) {
-        board_[line.at(1)] = caller.handles[line.at(2)];
-        return "ok";
-    }
-    if (line.is("hpick")) {
-        caller.handles[line.at(1)] = board_[line.at(2)];
-        return "ok";
-    }
-    Handle* handle = caller.handles[line.at(line.is("hget") || line.is("hdep") ? 2 : 1)];
-    if (handle == nullptr) return "empty";
-    if (!handle->is_live) {
-        cut("a slot that is used after it was freed");
-        return "notlive";
-    }
-    return on_live_handle(caller, *handle, line);
+    std::string refusal;
+    Handle* handle = usable(caller, line, line.is("hget") || line.is("hdep") ? 2 : 1, refusal);
+    return handle == nullptr ? refusal : on_live_handle(caller, *handle, line);
+}
+
+std::string Machine::address(const Handle& handle) const {
+    bool is_pinned = handle.kind == HNDTYPE_PINNED || (handle.kind == HNDTYPE_VARIABLE && handle.strength == VHT_PINNED);
+    if (!is_pinned) return "wrongkind";
+    Object* target = ObjectFromHandle(handle.raw);
+    return target == nullptr ? "nullref" : "addr " + std::to_string(engine::cell_of(target));
 }
 
 std::string Machine::on_live_handle(Caller& caller, Handle& handle, const Line& line) {
@@ -74,12 +105,7 @@ std::string Machine::on_live_handle(Caller& caller, Handle& handle, const Line& 
         if (is_dependent) SetDependentHandleSecondary(handle.raw, nullptr);
         return "ok";
     }
-    if (line.is("hfree")) {
-        HndDestroyHandle(engine::table(), handle.kind, handle.raw);
-        handle.is_live = false;
-        caller.handles[line.at(1)] = nullptr;
-        return "ok";
-    }
+    if (line.is("addr")) return address(handle);
     if (line.is("hvar")) {
         if (handle.kind != HNDTYPE_VARIABLE) return "wrongkind";
         handle.strength = look_up(STRENGTHS, line, 2);
@@ -101,9 +127,11 @@ std::string Machine::on_live_handle(Caller& caller, Handle& handle, const Line& 
 
 // CoreCLR asks by object: whether something outside counts on it. Here that is a ref-counted handle with a count above 0.
 bool Machine::is_counted(Object* object) {
-    for (const Handle& each : handles_) {
-        bool counts = each.is_live && each.kind == HNDTYPE_REFCOUNTED && each.count > 0;
-        if (counts && ObjectFromHandle(each.raw) == object) return true;
+    for (const Caller& caller : callers_) {
+        for (const Handle& each : caller.made) {
+            bool counts = each.is_live && each.kind == HNDTYPE_REFCOUNTED && each.count > 0;
+            if (counts && ObjectFromHandle(each.raw) == object) return true;
+        }
     }
     return false;
 }

@@ -20,7 +20,8 @@ int collections_in(const std::vector<Line>& lines) {
 // The clock runs from the first of several collections in a row to the last, since reading it takes time too.
 int race_collections(const std::string& text, int count, bool compact) {
     Script script = parse(text);
-    Machine machine(1, false);
+    Journal journal(script.callers[0].size());
+    Machine machine(1, false, journal, UINT64_MAX);
     engine::start(&machine, compact);
     int before = collections_in(script.callers[0]) - count;
     double since = 0, taken = 0;

@@ -13,7 +13,8 @@ const std::map<std::string, std::pair<size_t, size_t>> COMMANDS = {
     {"drop", {2, 2}},   {"sput", {3, 3}},     {"sget", {3, 3}},  {"gen", {2, 2}},   {"hnew", {4, 5}},  {"suppress", {2, 2}},
     {"final", {2, 2}},  {"reregister", {2, 2}}, {"hget", {3, 3}}, {"hset", {3, 3}},  {"hsec", {3, 3}},  {"collect", {2, 2}},
     {"hdep", {3, 3}},   {"hvar", {3, 3}},     {"hup", {2, 2}},   {"hdown", {2, 2}}, {"hfree", {2, 2}}, {"caller", {2, 2}},
-    {"hput", {3, 3}},   {"hpick", {3, 3}},
+    {"hput", {3, 3}},   {"hpick", {3, 3}},   {"cadd", {3, 3}},  {"cfind", {3, 3}}, {"cremove", {2, 2}}, {"addr", {2, 2}},
+    {"trim", {2, 2}},   {"gcroot", {2, 2}},
 };
 
 std::vector<std::string> words_of(std::string line) {
