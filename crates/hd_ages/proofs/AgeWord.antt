@@ -1,5 +1,5 @@
 -- Four ages in one word: what an operation does to them is tested on each word.
-use Rattle.hd_ages.proofs.Basics.{Bool, IsWord, [], age_in, ages_in, and_parts, ap, arith, bit_and, bit_at, bit_at-lt, bit_at_ones, bit_or, both_ways, cases_eq, cases_lt, cond, eqb-true, grown, inl, inr, is_word, le-leb, lt-leb, ltb-true, min, nat_le, not, not-true, or_cases, raised, refl, set, suc, sym, true, zero, ℕ, ⊎_elim, ◌%◌, ◌&&◌, ◌*◌, ◌+◌, ◌-◌, ◌/◌, ◌<◌, ◌==◌, ◌^◌, ◌||◌, ◌∙◌, ◌∷◌, ◌≡◌, ◌≤◌}
+use Rattle.hd_ages.proofs.Basics.{All, Bool, IsWord, [], age_in, ages_in, and_parts, ap, arith, bit_and, bit_at, bit_at-lt, bit_at_ones, bit_or, both_ways, cases_eq, cases_lt, cond, eq-eqb, eqb-true, get_or, grown, inl, inr, is_word, le-leb, leb-true, lt-leb, ltb-true, min, nat_le, not, not-true, or_cases, raised, refl, set, suc, sym, true, zero, ℕ, ⊎_elim, ◌%◌, ◌&&◌, ◌*◌, ◌+◌, ◌-◌, ◌/◌, ◌<◌, ◌==◌, ◌^◌, ◌||◌, ◌∙◌, ◌∷◌, ◌≡◌, ◌≤◌}
 use Rattle.hd_model.proofs.IdleCollection.{raised_older}
 
 -- the clumps of a block
@@ -96,6 +96,14 @@ some_grown :
 unfolding all_below
 some_grown = refl
 
+one_at_least : holds_of_words (λ w c. not (bit_and w 15 == 15) || nat_le 1 (age_in w c)) ≡ true
+unfolding all_below
+one_at_least = refl
+
+two_at_least : holds_of_words (λ w c. not (w / 16 == 15) || nat_le 2 (age_in w c)) ≡ true
+unfolding all_below
+two_at_least = refl
+
 -- from generation 1 on each age is raised that can be
 raised_up : (n g : ℕ) → g ≤ n → raised n g ≡ min (g + 1) 2
 raised_up n g le = ap (λ t. cond t g (min (g + 1) 2)) (lt-leb (suc n) g (omega arith))
@@ -167,8 +175,32 @@ module _ (w : ℕ) (is : IsWord w) where
   pub word-grown_some : IsWord (bit_or (bit_or w (bit_and w 15 * 16 % 256)) 15)
   word-grown_some = grown_some.word
 
+  each_age : (y : ℕ) → ((c : ℕ) → c < 4 → y ≤ age_in w c) → All (λ a. y ≤ a) (ages_in w)
+  each_age y each k d lt =
+      each_clump (λ c. y ≤ get_or (ages_in w) c d) (each 0 (omega arith)) (each 1 (omega arith))
+      (each 2 (omega arith)) (each 3 (omega arith)) k lt
+
+  at_least : (y : ℕ) (holds : ℕ → Bool)
+      → holds_of_words (λ w c. not (holds w) || nat_le y (age_in w c)) ≡ true → holds w ≡ true
+      → All (λ a. y ≤ a) (ages_in w)
+  at_least y holds all is_so = each_age y
+      (λ c lt. ⊎_elim (λ no. absurd (both_ways (holds w) (not-true (holds w) no) is_so))
+      (leb-true y (age_in w c))
+      (or_cases (not (holds w)) (nat_le y (age_in w c)) (of_words _ all w is c lt)))
+
+  pub least_none : All (λ a. 0 ≤ a) (ages_in w)
+  least_none = each_age 0 (λ c lt. omega arith)
+
+  pub least_one : bit_and w 15 ≡ 15 → All (λ a. 1 ≤ a) (ages_in w)
+  least_one e = at_least 1 (λ v. bit_and v 15 == 15) one_at_least (eq-eqb (bit_and w 15) 15 e)
+
+  pub least_two : w / 16 ≡ 15 → All (λ a. 2 ≤ a) (ages_in w)
+  least_two e = at_least 2 (λ v. v / 16 == 15) two_at_least (eq-eqb (w / 16) 15 e)
+
 pub ruleset dues = (due-none, due-one, due-all)
 
 pub ruleset lows = (ages-low_zero, word-low_zero, ages-low_one, word-low_one, ages-same)
 
 pub ruleset grows = (ages-grown_none, word-grown_none, ages-grown_some, word-grown_some)
+
+pub ruleset least = (least_none, least_one, least_two)

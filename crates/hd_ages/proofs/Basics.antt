@@ -1,15 +1,16 @@
 -- The names that most proofs of this crate cite, passed on from one place.
-pub use Rattle.std.proofs.Common.{All, Bool, List, None, Option, Some, [], ap, arith, bit_and, bit_or, cond, drop, false, filter, get_or, inl, inr, is_some, length, lit<, lit≤, map, min, not, refl, replicate, set, slice_get, subst, suc, sym, take, true, zero, ℕ, ⊎_elim, ◌%◌, ◌&&◌, ◌*◌, ◌++◌, ◌+◌, ◌-◌, ◌/◌, ◌<◌, ◌==◌, ◌^◌, ◌||◌, ◌∙◌, ◌∷◌, ◌≡◌, ◌≢◌, ◌≤◌, ◌⊎◌}
-pub use Rattle.std.proofs.lemmas.Bool.{and_parts, both_ways, cases_eq, cases_lt, cond_both, eq-eqb, eqb-true, le-leb, lt-leb, ltb-true, ne_eqb, not-true, or_cases}
-pub use Rattle.std.proofs.lemmas.List.{get_or-drop, get_or-take, get_or_read, length-set}
-pub use Rattle.std.proofs.lemmas.List.Elements.{All-set, Contains-append_cases, Contains-append_left, Contains-append_right, filter_agree}
+pub use Rattle.std.proofs.Common.{All, Bool, List, None, Option, Some, [], add-one, ap, append-nil, arith, bit_and, bit_or, cond, drop, false, filter, get_or, inl, inr, is_some, length, lit<, lit≤, map, min, not, refl, replicate, set, slice_get, subst, suc, sym, take, true, zero, ℕ, ⊎_elim, ◌%◌, ◌&&◌, ◌*◌, ◌++◌, ◌+◌, ◌-◌, ◌/◌, ◌<◌, ◌==◌, ◌^◌, ◌||◌, ◌∙◌, ◌∷◌, ◌≡◌, ◌≢◌, ◌≤◌, ◌⊎◌}
+pub use Rattle.std.proofs.Math.Seq.{drop-append-add, drop-append_seam, drop-length, take-add, take-append_seam, take-length}
+pub use Rattle.std.proofs.lemmas.Bool.{and_parts, both_ways, cases_eq, cases_lt, cond-false, cond_both, eq-eqb, eqb-true, le-leb, leb-true, lt-leb, ltb-true, ne_eqb, not-true, or_cases}
+pub use Rattle.std.proofs.lemmas.List.{drop-drop, get_or-drop, get_or-take, get_or_read, length-set, length-take, map-append}
+pub use Rattle.std.proofs.lemmas.List.Elements.{All-append, All-drop, All-map, All-replicate, All-set, All-take, All-weaker, Contains-append_cases, Contains-append_left, Contains-append_right, filter_agree}
 pub use Rattle.std.proofs.lemmas.Nat.Bits.{bit_at-lt, bit_at-zero, bit_at_above, bit_at_ones}
 pub use Rattle.std.specs.FinMap.{contains_key, get, len}
 pub use Rattle.std.specs.Int.{bit_at}
 pub use Rattle.std.specs.List.{range_with_len}
 pub use Rattle.std.specs.Option.{ForSome}
 pub use Rattle.std.specs.Prelude.{AllPairs, Contains, IfSome, IsSome, MatchOption, nat_le, option_map, slice_index}
-pub use Rattle.hd_ages.specs.Clumps.{IsSlotOf, ages_at, clump_at, with_ages}
+pub use Rattle.hd_ages.specs.Clumps.{IsSlotOf, ages_at, clump_at, grown_at, with_ages}
 pub use Rattle.hd_ages.specs.Rows.{IsDueRow}
 pub use Rattle.hd_ages.specs.Walk.{Advances, Ends, Gives, IsHandleBlock, IsOn, IsOver, after_first, blocks_after, blocks_from, clumps_by, clumps_to_come, due_in, due_slots, slots_in, slots_of, slots_to_come}
 pub use Rattle.hd_ages.specs.Word.{IsWord, age_in, ages_in, ages_of, is_word}

@@ -1,5 +1,5 @@
 -- The ages of all blocks, four to a block: that of a clump, and what becomes of those of one block.
-use Rattle.hd_ages.proofs.Basics.{All, Bool, CLUMP, CLUMPS, IsSlotOf, List, [], age_in, ages_at, ages_in, ages_of, ap, arith, bit_at, bit_at_above, cases_lt, clump_at, clump_of, clumps_of, cond, drop, false, filter, get_or, get_or-drop, get_or-take, inl, inr, length, lit<, lit≤, lowered, map, min, nat_le, range_with_len, refl, replicate, set, set_bits, suc, sym, take, true, with_ages, zero, ℕ, ◌*◌, ◌++◌, ◌+◌, ◌-◌, ◌<◌, ◌==◌, ◌^◌, ◌∙◌, ◌∷◌, ◌≡◌, ◌≤◌}
+use Rattle.hd_ages.proofs.Basics.{All, CLUMPS, IsSlotOf, List, [], age_in, ages_at, ages_in, ages_of, ap, arith, bit_at, cases_lt, clump_at, clump_of, clumps_of, cond, drop, filter, get_or, get_or-drop, get_or-take, inl, inr, length, lowered, map, min, nat_le, refl, replicate, set, set_bits, suc, sym, take, with_ages, zero, ℕ, ◌*◌, ◌++◌, ◌+◌, ◌-◌, ◌<◌, ◌^◌, ◌∙◌, ◌∷◌, ◌≡◌, ◌≤◌}
 use Rattle.hd_ages.proofs.{ClumpBits.set_by_bits, AgeWord.each_clump, AgeWord.age_small}
 
 pub length-ages_of : (ws : List ℕ) → length (ages_of ws) ≡ CLUMPS * length ws

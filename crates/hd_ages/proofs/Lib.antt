@@ -2,8 +2,10 @@ pub mod Basics
 pub mod AgeWord
 pub mod BlockAges
 pub mod AgeListLength
+pub mod MappedPrefixes
 pub mod ClumpBits
 pub mod ChainRest
+pub mod YoungestAge
 pub mod WalkSteps
 pub mod WalkSlots
 pub mod WalkFrame

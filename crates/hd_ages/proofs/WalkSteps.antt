@@ -1,5 +1,5 @@
 -- How a walk goes on: to the first block of its chain, to the next due clump, and to the next block.
-use Rattle.hd_ages.proofs.Basics.{Advances, BlockUse, Contains, DueRows, ForSome, IfSome, IsHandleBlock, IsOver, IsTable, Kind, List, None, Option, Slot, Some, Table, [], after_first, ap, arith, blocks_after, blocks_from, chain_of, clump_at, clumps_by, due_clumps, due_in, due_slots, extra_data, first_in, get, handles_of, has_handles, kind_at, kind_in, length, length-append, length-map, map, member_same, refl, set_bits, slice_get, slots_in, slots_of, subst, sym, true, ℕ, ◌++◌, ◌+◌, ◌<◌, ◌∙◌, ◌∷◌, ◌≡◌, ◌≤◌}
+use Rattle.hd_ages.proofs.Basics.{Advances, BlockUse, Contains, DueRows, ForSome, IfSome, IsHandleBlock, IsOver, IsTable, Kind, List, None, Option, Slot, Some, Table, [], after_first, ap, arith, blocks_after, blocks_from, chain_of, clump_at, clumps_by, due_clumps, due_in, extra_data, first_in, get, handles_of, has_handles, kind_at, kind_in, length, length-append, length-map, map, member_same, refl, set_bits, slice_get, slots_in, slots_of, subst, sym, true, ℕ, ◌++◌, ◌+◌, ◌∙◌, ◌∷◌, ◌≡◌, ◌≤◌}
 use Rattle.hd_ages.specs.Walk.{clumps_to_come, slots_to_come}
 use Rattle.hd_mask.proofs.SetBits.{set_bits-zero}
 use Rattle.hd_ages.proofs.ChainRest.{after_here, split_after, within_after, after_next}
@@ -15,11 +15,11 @@ module _ (t : Table) (is : IsTable t) where
   kind_here k b h = ap kind_in ((is.chained k b).0 h)
 
   -- a block with handles is in the chain of its kind
-  pub chained_here : (b : ℕ) → has_handles (get t.uses b) ≡ true → Contains (chain_of t (kind_at t b)) b
+  chained_here : (b : ℕ) → has_handles (get t.uses b) ≡ true → Contains (chain_of t (kind_at t b)) b
   chained_here b h = (is.chained (kind_at t b) b).1 (handles_kind (get t.uses b) h)
 
   -- what follows the first block of a chain, and the next one
-  pub first_after : (k : Kind) (b : ℕ) (rest : List ℕ) → chain_of t k ≡ b ∷ rest
+  first_after : (k : Kind) (b : ℕ) (rest : List ℕ) → chain_of t k ≡ b ∷ rest
       → blocks_after t (Some b) ≡ rest
   first_after k b rest e =
       let inside : Contains (chain_of t k) b =
@@ -27,7 +27,7 @@ module _ (t : Table) (is : IsTable t) where
       ap (λ kind. after_first b (chain_of t kind)) (kind_here k b inside)
       ∙ ap (after_first b) e ∙ after_here b b rest refl
 
-  pub next_after : (b : ℕ) → (c : ℕ) (rest : List ℕ) → blocks_after t (Some b) ≡ c ∷ rest
+  next_after : (b : ℕ) → (c : ℕ) (rest : List ℕ) → blocks_after t (Some b) ≡ c ∷ rest
       → blocks_after t (Some c) ≡ rest
   next_after b c rest e =
       let k : Kind = kind_at t b in
@@ -93,29 +93,20 @@ module _ (t : Table) (ages : List ℕ) where
       ∙ ap (λ rows. map (λ row. w.first + row) rows ++ slots_of t (clumps_to_come t ages w))
       (ap set_bits e ∙ set_bits-zero)
 
-  -- before the first of some blocks of a chain
-  at_block : (bs : List ℕ) (n : ℕ) (block : Option ℕ) (mask : ℕ) → block ≡ slice_get bs 0
-      → clumps_by block mask ≡ due_in ages n block
-      → ((b : ℕ) (rest : List ℕ) → bs ≡ b ∷ rest → blocks_after t (Some b) ≡ rest)
-      → clumps_by block mask ++ due_clumps ages n (blocks_after t block) ≡ due_clumps ages n bs
-  at_block [] n block mask first due after =
-      ap (λ xs. xs ++ due_clumps ages n (blocks_after t block)) due
-      ∙ ap (λ o. due_in ages n o ++ due_clumps ages n (blocks_after t o)) first
-  at_block (b ∷ rest) n block mask first due after =
-      ap (λ xs. xs ++ due_clumps ages n (blocks_after t block)) due
-      ∙ ap (λ o. due_in ages n o ++ due_clumps ages n (blocks_after t o)) first
-      ∙ ap (λ xs. due_in ages n (Some b) ++ due_clumps ages n xs) (after b rest refl)
+  -- before the clumps of a block
+  before_block : (n : ℕ) (block : Option ℕ) (mask : ℕ) → clumps_by block mask ≡ due_in ages n block
+      → clumps_by block mask ++ due_clumps ages n (blocks_after t block)
+      ≡ due_clumps ages n (blocks_from t block)
+  before_block n None mask due = refl
+  before_block n (Some b) mask due = ap (λ xs. xs ++ due_clumps ages n (blocks_after t (Some b))) due
 
-  pub clumps_at_start : IsTable t → (k : Kind) (w : DueRows) → w.block ≡ slice_get (chain_of t k) 0
-      → clumps_by w.block w.clumps ≡ due_in ages w.n w.block
-      → clumps_to_come t ages w ≡ due_clumps ages w.n (chain_of t k)
-  clumps_at_start is k w first due = clumps_are w
-      ∙ at_block (chain_of t k) w.n w.block w.clumps first due (first_after t is k)
+  pub clumps_at_start : (w : DueRows) → clumps_by w.block w.clumps ≡ due_in ages w.n w.block
+      → clumps_to_come t ages w ≡ due_clumps ages w.n (blocks_from t w.block)
+  clumps_at_start w due = clumps_are w ∙ before_block w.n w.block w.clumps due
 
-  pub slots_at_start : IsTable t → (k : Kind) (w : DueRows) → w.block ≡ slice_get (chain_of t k) 0
-      → clumps_by w.block w.clumps ≡ due_in ages w.n w.block → w.rows ≡ 0
-      → slots_to_come t ages w ≡ due_slots t ages w.n k
-  slots_at_start is k w first due none = between w none ∙ ap (slots_of t) (clumps_at_start is k w first due)
+  pub slots_at_start : (w : DueRows) → clumps_by w.block w.clumps ≡ due_in ages w.n w.block → w.rows ≡ 0
+      → slots_to_come t ages w ≡ slots_of t (due_clumps ages w.n (blocks_from t w.block))
+  slots_at_start w due none = between w none ∙ ap (slots_of t) (clumps_at_start w due)
 
   -- the end
   pub over : (w : DueRows) → w.block ≡ None → w.rows ≡ 0 → IsOver t ages w
@@ -154,10 +145,8 @@ module _ (t : Table) (ages : List ℕ) where
       → ((from to : List ℕ) → chain_of t (kind_at t b) ≡ from ++ b ∷ to → next ≡ slice_get to 0)
       → Advances t ages old new before before
   new_block is old new b before next here handles none bits same due after =
-      let k : Kind = kind_at t b in
-      let (from, split) = split_after b (chain_of t k) (chained_here t is b handles) in
       let bs : List ℕ = blocks_after t (Some b) in
-      let first : next ≡ slice_get bs 0 = after from bs split in
+      let onward : blocks_from t next ≡ bs = from_next t is b next handles after in
       let old_clumps : clumps_to_come t ages old ≡ due_clumps ages old.n bs =
       clumps_are old ∙ ap (λ o. clumps_by o old.clumps ++ due_clumps ages old.n (blocks_after t o)) here
       ∙ ap (λ xs. map (clump_at b) xs ++ due_clumps ages old.n bs) bits in
@@ -165,10 +154,10 @@ module _ (t : Table) (ages : List ℕ) where
       clumps_are new
       ∙ (λ i. clumps_by (same i).block new.clumps ++ due_clumps ages (same i).n
       (blocks_after t (same i).block))
-      ∙ at_block bs old.n next new.clumps first due (next_after t is b) in
+      ∙ before_block old.n next new.clumps due ∙ ap (due_clumps ages old.n) onward in
       let clumps : clumps_to_come t ages new ≡ clumps_to_come t ages old = new_clumps ∙ sym old_clumps in
       let new_none : new.rows ≡ 0 = ap (λ (w : DueRows). w.rows) same ∙ none in
-      let less = ap length (from_next t is b next handles after) in
+      let less = ap length onward in
       record {
         slots = between new new_none ∙ ap (slots_of t) clumps ∙ sym (between old none);
         steps = ap (λ xs. before + length xs) clumps;

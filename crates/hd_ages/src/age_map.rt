@@ -1,8 +1,8 @@
 ghost use Rattle.std.specs.Prelude.{◌≡◌, ℕ, ◌+◌, ◌-◌, ◌*◌, ◌<◌, ◌≤◌, ◌^◌, List, cond, nat_le, length, map, filter};
-ghost use Rattle.std.specs.Prelude.{replicate, slice_index, All, IfOk};
+ghost use Rattle.std.specs.Prelude.{false, replicate, slice_index, All, IfOk};
 ghost use Rattle.std.specs.Int.{bit_at};
 ghost use Rattle.hd_mask.specs.Mask.{set_bits};
-ghost use Rattle.hd_model.specs.Ages.{clumps_of, lowered};
+ghost use Rattle.hd_model.specs.Ages.{clumps_of, grown, lowered};
 ghost use Rattle.hd_ages.specs.Clumps.{IsSlotOf, ages_at, clump_at, grown_at, with_ages};
 ghost use Rattle.hd_ages.specs.Word.{IsWord, ages_in};
 
@@ -17,18 +17,21 @@ use std::marker::Model;
 #[derive(Drop)]
 pub struct AgeMap {
     words: Vec<u8>,
+    // No clump is of a lower age. This may be below all of them.
+    youngest: u8,
 }
 
 impl Model for AgeMap {
     ghost use Rattle.std.specs.Prelude.{ℕ, List, All, length, ◌≤◌};
-    ghost use Rattle.hd_model.specs.declared.limits.TheConstants.{BLOCKS};
+    ghost use Rattle.hd_model.specs.declared.limits.TheConstants.{BLOCKS, OLDEST};
     ghost use Rattle.hd_ages.specs.Word.{IsWord, ages_of};
 
     ghost Value = { List ℕ };
 
     ghost view = { λ a. ages_of a.words.items };
 
-    ghost invariant = { λ a. (length a.words.items ≤ BLOCKS) × All IsWord a.words.items };
+    ghost invariant = { λ a. (length a.words.items ≤ BLOCKS) × All IsWord a.words.items
+        × (a.youngest ≤ OLDEST) × All (λ age. a.youngest ≤ age) (ages_of a.words.items) };
 }
 
 impl AgeMap {
@@ -39,7 +42,10 @@ impl AgeMap {
     {
         let mut words = Vec::new(alloc);
         match words.resize(blocks as usize, ALL_OLDEST) {
-            Ok(()) => Ok(AgeMap { words }),
+            Ok(()) => Ok(AgeMap {
+                words,
+                youngest: OLDEST,
+            }),
             Err(_) => Err(Memory),
         }
     }
@@ -101,6 +107,44 @@ impl AgeMap {
         self.set_word(block, word::grow(self.word(block), n));
     }
 
+    /// Raises by one each age of the table that is at most `n`, at most to 2. Where none may be, it
+    /// goes over no block.
+    pub fn grow_all(&mut self, n: u8)
+        ensures { self.new ≡ grown n self.old }
+    {
+        let youngest = self.youngest;
+        if youngest > n {
+            return;
+        }
+        self.grow_blocks(n);
+        self.note_youngest((youngest + 1).min(OLDEST));
+    }
+
+    /// Whether a collection of generation `n` may have a clump to visit.
+    pub(crate) fn may_be_due(&self, n: u8) -> bool
+        ensures none { result ≡ false → All (λ age. n < age) self.now }
+    {
+        self.youngest <= n
+    }
+
+    // Raises the ages of all blocks.
+    fn grow_blocks(&mut self, n: u8)
+        ensures { self.new ≡ grown n self.old }
+    {
+        for block in 0..self.blocks() {
+            self.grow(block + 1, n);
+        }
+    }
+
+    // Notes an age that no clump is below.
+    fn note_youngest(&mut self, age: u8)
+        requires small { age ≤ OLDEST }
+        requires least { All (λ other. age ≤ other) self.old }
+        ensures { self.new ≡ self.old }
+    {
+        self.youngest = age;
+    }
+
     // The word of a block's ages.
     fn word(&self, block: u32) -> u8
         requires low { 1 ≤ block }
@@ -119,5 +163,6 @@ impl AgeMap {
         ensures { self.new ≡ with_ages block (ages_in word) self.old }
     {
         self.words[block as usize - 1] = word;
+        self.youngest = self.youngest.min(word::youngest(word));
     }
 }

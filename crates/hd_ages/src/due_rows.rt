@@ -7,8 +7,8 @@ ghost use Rattle.hd_model.specs.Ages.{due_clumps};
 ghost use Rattle.hd_model.specs.Table.{IsTable, chain_of};
 ghost use Rattle.hd_model.specs.Visits.{visits_of};
 ghost use Rattle.hd_ages.specs.Clumps.{CoversTable, clump_at};
-ghost use Rattle.hd_ages.specs.Walk.{IsOn, Advances, IsOver, Ends, Gives};
-ghost use Rattle.hd_ages.specs.Walk.{clumps_by, due_in, clumps_to_come, slots_in, slots_to_come, due_slots};
+ghost use Rattle.hd_ages.specs.Walk.{IsHandleBlock, IsOn, Advances, IsOver, Ends, Gives};
+ghost use Rattle.hd_ages.specs.Walk.{blocks_from, clumps_by, due_in, clumps_to_come, slots_in, slots_to_come, due_slots};
 
 use crate::age_map::AgeMap;
 use hd_mask::{count, lowest, take_lowest};
@@ -53,7 +53,7 @@ impl DueRows {
             first: 0,
             rows: 0,
         };
-        walk.go_to(seg.first(kind), ages);
+        walk.go_to(first_due(seg, ages, kind, n), ages);
         walk
     }
 
@@ -147,6 +147,18 @@ impl DueRows {
     }
 }
 
+// The first block of a chain, or none where a collection of generation `n` has no clump to visit.
+fn first_due(seg: &Seg, ages: &AgeMap, kind: Kind, n: u8) -> Option<u32>
+    requires { CoversTable ages.now seg.now }
+    ensures clumps { due_clumps ages.now n (blocks_from seg.now result)
+        ≡ due_clumps ages.now n (chain_of seg.now kind) }
+    ensures handles { ForSome result (IsHandleBlock seg.now) }
+    ensures table { IsTable seg.now }
+{
+    let first = seg.first(kind);
+    if ages.may_be_due(n) { first } else { None }
+}
+
 /// The number of clumps that a walk over the rows of a kind visits. It looks at no row.
 pub fn count_due(seg: &Seg, ages: &AgeMap, kind: Kind, n: u8) -> u32
     requires blocks { CoversTable ages.now seg.now }
@@ -154,7 +166,7 @@ pub fn count_due(seg: &Seg, ages: &AgeMap, kind: Kind, n: u8) -> u32
     ensures few { result ≤ CLUMPS * BLOCKS }
 {
     let mut clumps = 0;
-    let mut block = seg.first(kind);
+    let mut block = first_due(seg, ages, kind, n);
     while let Some(at) = block {
         clumps += count(u64::from(ages.due(at, n)));
         block = seg.after(at);

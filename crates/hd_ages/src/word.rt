@@ -1,7 +1,7 @@
 // The four ages of a block in one word. Bit `c` is set if clump `c` is of age 1 or more, and bit
 // `c + 4` if it is of age 2.
 
-ghost use Rattle.std.specs.Prelude.{◌≡◌, ℕ, ◌<◌, ◌≤◌, ◌^◌, cond, nat_le, min, slice_set};
+ghost use Rattle.std.specs.Prelude.{◌≡◌, ℕ, ◌<◌, ◌≤◌, ◌^◌, All, cond, nat_le, min, slice_set};
 ghost use Rattle.std.specs.Int.{bit_at};
 ghost use Rattle.hd_ages.specs.Word.{IsWord, age_in, ages_in};
 ghost use Rattle.hd_model.specs.Ages.{grown};
@@ -72,5 +72,21 @@ pub(crate) fn grow(word: u8, n: u8) -> u8
     match n {
         0 => word | SOME,
         _ => word | (word & SOME) << TWO | SOME,
+    }
+}
+
+/// The least of the four ages.
+#[tactic(auto, using(crate::proofs::AgeWord::least))]
+pub(crate) fn youngest(word: u8) -> u8
+    requires { IsWord word }
+    ensures least { All (λ age. result ≤ age) (ages_in word) }
+    ensures small { result ≤ OLDEST }
+{
+    if word & SOME != SOME {
+        0
+    } else if word >> TWO != SOME {
+        1
+    } else {
+        2
     }
 }

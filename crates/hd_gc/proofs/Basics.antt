@@ -1,14 +1,13 @@
 -- The names that most proofs of this crate cite, passed on from one place.
-pub use Rattle.std.proofs.Common.{Bool, List, None, Option, Some, [], add-one, ap, append-nil, arith, cond, drop, false, get_or, inl, inr, is_some, le_trans, length, map, not, refl, set, slice_index_or, subst, suc, sym, true, zero, ℕ, ⊎_elim, ◌&&◌, ◌*◌, ◌++◌, ◌+◌, ◌-◌, ◌/◌, ◌<◌, ◌^◌, ◌||◌, ◌∙◌, ◌∷◌, ◌≡◌, ◌≤◌, ◌⊎◌}
-pub use Rattle.std.proofs.Math.Seq.{drop-append-add, drop-append_seam, drop-length, take-add, take-append_seam, take-length}
+pub use Rattle.std.proofs.Common.{Bool, List, None, Option, Some, [], ap, arith, cond, drop, false, get_or, inl, inr, is_some, le_trans, length, map, not, refl, set, slice_index_or, subst, suc, sym, true, zero, ℕ, ⊎_elim, ◌&&◌, ◌*◌, ◌+◌, ◌-◌, ◌/◌, ◌<◌, ◌^◌, ◌||◌, ◌∙◌, ◌∷◌, ◌≡◌, ◌≤◌, ◌⊎◌}
+pub use Rattle.std.proofs.Math.Seq.{drop-append_seam}
 pub use Rattle.std.proofs.lemmas.Bool.{and_from, and_parts, cases_Bool, cases_eq, cases_lt, cond-false, cond-true, eq-eqb, eqb-true, false≢true, le-leb, le-ltb, leb-true, lt-ltb, ltb-false, ltb-true, not-true, not_from_false, or_cases, or_left, or_right, true≢false}
-pub use Rattle.std.proofs.lemmas.List.{drop-drop, length-map, length-take, map-append, take_all}
+pub use Rattle.std.proofs.lemmas.List.{length-map, take_all}
 pub use Rattle.std.proofs.lemmas.List.Elements.{Contains-get_or}
 pub use Rattle.std.proofs.lemmas.List.Sums.{sum_by_more}
 pub use Rattle.std.specs.Bool.{Decides}
 pub use Rattle.std.specs.FinMap.{get, len}
 pub use Rattle.std.specs.Prelude.{Contains, nat_le, nat_lt, option_map, sum_by, take, ◌↔◌}
-pub use Rattle.hd_ages.specs.Clumps.{grown_at}
 pub use Rattle.hd_dep.specs.Clearing.{IsAllDetached, IsLostAt, detached}
 pub use Rattle.hd_final.specs.Resurrection.{IsOut, Resurrects}
 pub use Rattle.hd_final.specs.Settling.{Unregisters, unregistered}
@@ -34,7 +33,7 @@ pub use Rattle.hd_model.proofs.PinTest.{pinned_held}
 pub use Rattle.hd_model.proofs.PropertyCounts.{counts_le, counts_like, counts_named, counts_once, counts_where}
 pub use Rattle.hd_model.proofs.RowReferences.{faded_ages, fades_by, fades_cleared}
 pub use Rattle.hd_model.proofs.SceneCollection.{left_from, mapped_value, reached_kept, reached_on, root_object, root_reached}
-pub use Rattle.hd_model.specs.Ages.{HasSoundAges, HasSoundCards, grown, is_due, raised, visits}
+pub use Rattle.hd_model.specs.Ages.{HasSoundAges, HasSoundCards, is_due, raised, visits}
 pub use Rattle.hd_model.specs.Collect.{Collects, GoesBy, IsRemoved, IsSurviving, LosesAs, cleared, is_attaching, is_lost, left_by, loses, loses_by, survivor}
 pub use Rattle.hd_model.specs.Counting.{Counts}
 pub use Rattle.hd_model.specs.Heap.{Basis, HasIdentities, Heap, Placed, card_of, cells_of, has_object, id_at, is_carded, is_in_use, object_at, object_in, objects_of, placed_at, region_generation, region_of, used_of}
@@ -54,4 +53,4 @@ pub use Rattle.hd_plan.specs.Commit.{IsSameShape, moved_object}
 pub use Rattle.hd_plan.specs.Plan.{HasNoEmptyRegion, IsLaid, PlanOf, StartsInRegion, kept_in, place_in, stays_in}
 pub use Rattle.hd_scan.specs.Tasks.{has_role, is_role, long_tasks, role_number, root_tasks, short_tasks, swept, takes, takes_any, task_kind}
 pub use Rattle.hd_scan.specs.declared.task.Task.{Task}
-pub use Rattle.hd_model.specs.declared.limits.TheConstants.{BLOCKS, CLUMP, CLUMPS, LEFT, OPEN, REGION, ROWS}
+pub use Rattle.hd_model.specs.declared.limits.TheConstants.{BLOCKS, CLUMP, LEFT, OPEN, REGION, ROWS}

@@ -11,7 +11,6 @@ pub mod KeptObjects
 pub mod LostTargets
 pub mod MarkAndClearPhases
 pub mod RowRelocation
-pub mod MappedPrefixes
 pub mod LostRegistrations
 pub mod KeptScene
 pub mod CollectedScene

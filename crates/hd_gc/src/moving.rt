@@ -2,7 +2,7 @@
 ghost use Rattle.std.specs.Prelude.{◌≡◌, ◌+◌, ◌*◌, true, Some, length, map, option_map, Contains};
 ghost use Rattle.std.specs.Option.{ForSome};
 ghost use Rattle.hd_model.specs.Heap.{has_object, is_carded, object_at};
-ghost use Rattle.hd_model.specs.{Table.row_at, Ages.grown, Ages.HasSoundCards, Kinds.all_kinds, Visits.IsSameTable, Visits.visits_over};
+ghost use Rattle.hd_model.specs.{Table.row_at, Ages.HasSoundCards, Kinds.all_kinds, Visits.IsSameTable, Visits.visits_over};
 ghost use Rattle.hd_plan.specs.Plan.{IsLaid, kept_in, place_in};
 ghost use Rattle.hd_gc.specs.RelocateAll.{NamesKept, IsRenamed, RelocatedAll};
 ghost use Rattle.hd_gc.specs.Ready.{parts};
@@ -54,15 +54,6 @@ fn relocate_roots(roots: &mut [Option<Addr>], plan: &Plan)
     }
 }
 
-// Raises the ages of all clumps.
-fn grow(ages: &mut AgeMap, n: u8)
-    ensures { ages.new ≡ grown n ages.old }
-{
-    for block in 0..ages.blocks() {
-        ages.grow(block + 1, n);
-    }
-}
-
 /// Moves the objects that a plan keeps, updates all references to them, and raises the ages. Those
 /// from position `joined` of the queue on are no longer registered.
 pub(crate) fn relocate_all<L: Ledger>(
@@ -93,5 +84,5 @@ pub(crate) fn relocate_all<L: Ledger>(
     fin.relocate(plan);
     relocate_roots(roots, plan);
     commit(heap, plan);
-    grow(ages, n);
+    ages.grow_all(n);
 }

@@ -1,22 +1,17 @@
-use Rattle.hd_ages.proofs.Basics.{Option, Some, ap, arith, blocks_after, blocks_from, due_clumps, kind_at, length, set_bits, visits_of, ℕ, ◌+◌, ◌<◌, ◌∙◌, ◌≡◌}
+use Rattle.hd_ages.proofs.Basics.{Some, ap, arith, blocks_after, blocks_from, due_clumps, kind_at, length, set_bits, visits_of, ◌+◌, ◌∙◌, ◌≡◌}
 use Rattle.hd_ages.proofs.WalkSlots.{due_clumps_few}
-use Rattle.hd_ages.proofs.WalkSteps.{block_counted, from_first, from_next, handle_block}
+use Rattle.hd_ages.proofs.WalkSteps.{block_counted, from_next, handle_block}
 use Rattle.hd_ages.proofs.due_rows.count_due.Goals as goal
 
 pub loop-block-init : goal.loop-block-init
 loop-block-init c = record {
-  on = handle_block c.args.seg.now c.first-block.result c.args.kind c.first-block.ensures.within
-      c.first-block.ensures.of_kind;
-  counted = (let known =
-      ap (λ bs. length (due_clumps c.args.ages.now c.args.n bs))
-      (from_first c.args.seg.now c.first-block.ensures.table c.args.kind c.first-block.result
-      c.first-block.ensures.value) in
-      omega (arith, known));
+  on = c.first_due-block.ensures.handles;
+  counted = omega (arith, ap length c.first_due-block.ensures.clumps);
 }
 
 pub overflow_add-clumps : goal.overflow_add-clumps
 overflow_add-clumps c =
-    let few = due_clumps_few c.args.seg.now c.first-block.ensures.table c.args.ages.now c.args.n
+    let few = due_clumps_few c.args.seg.now c.first_due-block.ensures.table c.args.ages.now c.args.n
     c.args.kind in
     let sum = block_counted c.args.seg.now c.args.ages.now c.loop-block.block c.in-Some.at c.due.result
     c.args.n c.loop-block.clumps c.count-clumps.result
@@ -28,7 +23,7 @@ overflow_add-clumps c =
 next_blocks : (c : goal.After-after-block) → blocks_from c.args.seg.now c.after-block.result
     ≡ blocks_after c.args.seg.now (Some c.in-Some.at)
 next_blocks c =
-    from_next c.args.seg.now c.first-block.ensures.table c.in-Some.at c.after-block.result
+    from_next c.args.seg.now c.first_due-block.ensures.table c.in-Some.at c.after-block.result
     (c.loop-block.invariant.on c.in-Some.at c.in-Some.is).handles c.after-block.ensures.value
 
 pub loop-block-smaller : goal.loop-block-smaller
@@ -50,6 +45,6 @@ loop-block-preserved c = record {
 
 pub returns-clause-few : goal.returns-clause-few
 returns-clause-few c =
-    let few = due_clumps_few c.args.seg.now c.first-block.ensures.table c.args.ages.now c.args.n
+    let few = due_clumps_few c.args.seg.now c.first_due-block.ensures.table c.args.ages.now c.args.n
     c.args.kind in
     omega (arith, few, c.loop-block.invariant.counted)

@@ -22,6 +22,6 @@ returns-clause-relocated_all g c = record {
   table = c.relocate_rows.ensures.table;
   queue = c.relocate.ensures;
   named = c.relocate_roots.ensures;
-  aged = c.grow.ensures;
+  aged = c.grow_all.ensures;
   steps = c.relocate_rows.ensures.steps;
 }

@@ -1,5 +1,5 @@
 use Rattle.hd_gc.proofs.Basics.{Addr, Contains, Contains-get_or, None, Option, ap, arith, get_or, option_map, place_in, set, subst, sym, ◌∙◌, ◌≡◌}
-use Rattle.hd_gc.proofs.MappedPrefixes.{mapped_none, mapped_all, mapped_next, mapped_at}
+use Rattle.hd_ages.proofs.MappedPrefixes.{mapped_none, mapped_all, mapped_next, mapped_at}
 use Rattle.hd_gc.proofs.moving.relocate_roots.Goals as goal
 
 pub loop-root-init : goal.loop-root-init

@@ -1,5 +1,5 @@
 use Rattle.hd_gc.proofs.Basics.{option_map, place_in, ◌≡◌}
-use Rattle.hd_gc.proofs.MappedPrefixes.{mapped_to}
+use Rattle.hd_ages.proofs.MappedPrefixes.{mapped_to}
 use Rattle.hd_gc.proofs.moving.relocate_roots.Given as goal
 
 abbrev pub invariant-loop-root : goal.invariant-loop-root

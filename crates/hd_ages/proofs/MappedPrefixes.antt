@@ -1,5 +1,5 @@
 -- A list whose first members are mapped, and the ages of whose first blocks are raised.
-use Rattle.hd_gc.proofs.Basics.{CLUMPS, List, [], add-one, ap, append-nil, arith, drop, drop-append-add, drop-append_seam, drop-drop, drop-length, get_or, grown, grown_at, length, length-map, length-take, map, map-append, raised, refl, set, subst, suc, sym, take, take-add, take-append_seam, take-length, zero, ℕ, ◌*◌, ◌++◌, ◌+◌, ◌-◌, ◌<◌, ◌∙◌, ◌∷◌, ◌≡◌, ◌≤◌}
+use Rattle.hd_ages.proofs.Basics.{CLUMPS, List, [], add-one, ap, append-nil, arith, drop, drop-append-add, drop-append_seam, drop-drop, drop-length, get_or, grown, grown_at, length, length-map, length-take, map, map-append, raised, refl, set, subst, suc, sym, take, take-add, take-append_seam, take-length, zero, ℕ, ◌*◌, ◌++◌, ◌+◌, ◌-◌, ◌<◌, ◌∙◌, ◌∷◌, ◌≡◌, ◌≤◌}
 
 -- the first i members are mapped
 abbrev pub mapped_to : {A : Type 0} → (A → A) → ℕ → List A → List A
