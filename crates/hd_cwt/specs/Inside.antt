@@ -98,6 +98,7 @@ pub record IsTaken (seg : Table) (slot : ℕ) (old new : WeakTable)
   pub entries : new ≡ record old { held = insert old.held slot None }
   pub lists : IsUnlisted slots places new_slots new_places slot
 
+-- a slot with a key is swept: where its row has a target, nothing changes
 pub record IsLeft (seg : Table) (slot : ℕ) (old new : WeakTable)
     (slots places new_slots new_places : List ℕ) : Type 0 where
   pub target : is_none (live_at seg slot).target ≡ false

@@ -22,7 +22,7 @@ loop-left-preserved c =
     let now = c.loop-left.self-inside.entries in
     let next = c.sweep_slot.new.keyed in
     let i : ℕ = c.loop-left.left - 1 in
-    let more : c.loop-left.left ≡ i + 1 = omega (arith, c.loop-left-test.true) in
+    let more : c.loop-left.left ≡ i + 1 = omega arith in
     let low : i < length keyed.slots.items = omega (arith, more, c.loop-left.invariant.2) in
     let slot : ℕ = c.index-slot.result.now in
     let at : slot ≡ node_at keyed.slots.items i =
@@ -45,4 +45,4 @@ loop-left-preserved c =
     )) c.sweep_slot.ensures.swept
 
 pub returns-clause-each : goal.returns-clause-each
-returns-clause-each c = all_swept c.loop-left.invariant.0 c.loop-left-test.false
+returns-clause-each c = all_swept c.loop-left.invariant.0 (omega arith)
