@@ -141,19 +141,21 @@ def one_caller(asked, old, new):
 
 
 def starving(asked, old, new):
-    asked.head("300 collections beside three that drop", "most between two lines of one", "asked")
+    asked.head("300 collections beside three that drop", "most between two lines of one, median of 12 runs", "most", "asked")
     for name, program in (("old", old), ("new", new)):
         most = []
         for _ in range(FUTEX_RUNS):
             done = subprocess.run([os.path.join(TOP, "trials", "starving"), program, "--collections", "300"],
                                   capture_output=True, text=True)
-            most += [int(found) for found in re.findall(r"at most (\d+)", done.stdout)]
+            waits = [int(found) for found in re.findall(r"at most (\d+)", done.stdout)]
+            if waits:
+                most.append(max(waits))
         if not most:
-            asked.row(name, "nobody got in", "-")
+            asked.row(name, "-", "no run in which all were at work", "-")
         elif program == new:
-            asked.row(name, found=max(most), asked=COLLECTIONS_ASKED)
+            asked.row(name, f"{statistics.median(most):.0f}", found=max(most), asked=COLLECTIONS_ASKED)
         else:
-            asked.row(name, max(most), "-")
+            asked.row(name, f"{statistics.median(most):.0f}", max(most), "-")
 
 
 def replays(asked, old, new):

@@ -20,7 +20,7 @@
 //! beside the table, and in no rule: what a caller who waits for the gate looks at and sleeps on
 //! gate         looked at, and tried again once it is free. Nobody sleeps on it
 //! nap          0, or 1 where somebody may sleep on it. leave takes the 1 back and wakes one
-//! asked        whether one who looked for long asks those who newly come to give way
+//! asked        how many who looked for long ask those who newly come to give way
 //! ```
 #![tactic(auto)]
 

@@ -8,7 +8,7 @@ use crate::words::{ANY_ASLEEP, FREE, GATE, NONE_ASLEEP};
 use hd_model::Held;
 use std::hint::spin_loop;
 use std::sync::Wait;
-use std::sync::atomic::{AtomicBool, AtomicU64, Ordering};
+use std::sync::atomic::{AtomicU64, Ordering};
 
 // The looks of a caller that lost the gate, from the first on or after a sleep. A look costs a few
 // nanoseconds where nobody has the gate; a turn of the gate one or two microseconds, since its cache
@@ -22,16 +22,18 @@ const PATIENT_LOOKS: u32 = 38;
 // How often a pause is doubled: the longest is 256 pauses of the processor.
 const DOUBLINGS: u32 = 8;
 
-// The looks of a caller that newly comes and gives way. After them nobody is there who asked.
-const COURTEOUS_LOOKS: u32 = 4000;
+// The looks of a caller that newly comes and gives way. They last longer than a caller needs to wake
+// up. After them whoever asked is not there.
+const COURTEOUS_LOOKS: u32 = 40_000;
 
 /// The words beside the table that callers look at and sleep on.
 #[derive(Drop)]
 pub(crate) struct WaitWords {
     // ANY_ASLEEP where a caller may sleep on it, else NONE_ASLEEP.
     nap: AtomicU64,
-    // Whether a caller that looked for long asks those who newly come to give way.
-    asked: AtomicBool,
+    // How many callers that looked for long ask those who newly come to give way. It may be less,
+    // since a caller that gave way in vain sets it to 0, and never stays more.
+    asked: AtomicU64,
 }
 
 impl WaitWords {
@@ -39,20 +41,29 @@ impl WaitWords {
     pub(crate) fn new() -> WaitWords {
         WaitWords {
             nap: AtomicU64::new(NONE_ASLEEP),
-            asked: AtomicBool::new(false),
+            asked: AtomicU64::new(0),
         }
     }
 
     fn is_asked(&self) -> bool {
-        self.asked.load(Ordering::SeqCst)
+        self.asked.load(Ordering::SeqCst) != 0
     }
 
-    fn ask(&self) {
-        self.asked.store(true, Ordering::SeqCst);
+    fn begin_asking(&self) {
+        self.asked.fetch_add(1, Ordering::SeqCst);
     }
 
-    fn stop_asking(&self) {
-        self.asked.store(false, Ordering::SeqCst);
+    fn end_asking(&self) {
+        let _before = self.asked.fetch_update(
+            Ordering::SeqCst,
+            Ordering::SeqCst,
+            |count: u64| -> Option<u64> { count.checked_sub(1) },
+        );
+    }
+
+    // Who asked asks once more, if it still waits.
+    fn forget_asking(&self) {
+        self.asked.store(0, Ordering::SeqCst);
     }
 
     fn announce_sleep(&self) {
@@ -130,7 +141,7 @@ impl<W: Held> Custody<W> {
         }
     }
 
-    // Until the gate is held or nobody asks. Who asked may have gone to sleep, so it takes that back
+    // Until the gate is held or nobody asks. Who asked may not come for long, so that is forgotten
     // after some looks.
     fn look_until_taken(&self) {
         for _look in 0..COURTEOUS_LOOKS {
@@ -139,7 +150,7 @@ impl<W: Held> Custody<W> {
             }
             spin_loop();
         }
-        self.waits.stop_asking();
+        self.waits.forget_asking();
     }
 
     /// Waits after a try that lost, until the next one may win.
@@ -154,7 +165,7 @@ impl<W: Held> Custody<W> {
     // Whether the gate was free at one of the looks that are left.
     fn looks_free(&self, waiter: &mut Waiter) -> bool {
         for look in waiter.looks..LOOKS {
-            if look == waiter.patience {
+            if look >= waiter.patience {
                 self.ask(waiter);
             }
             if self.is_free() {
@@ -167,18 +178,18 @@ impl<W: Held> Custody<W> {
         false
     }
 
+    // Asks once, and again where that was forgotten.
     fn ask(&self, waiter: &mut Waiter) {
-        self.waits.ask();
-        waiter.has_asked = true;
+        if !waiter.has_asked || !self.waits.is_asked() {
+            self.waits.begin_asking();
+            waiter.has_asked = true;
+        }
     }
 
     // Says that a caller may sleep. The gate is tried once more after it: the holder may have left
     // before it was said, and then wakes nobody.
     fn prepare_sleep(&self, waiter: &mut Waiter) {
         self.waits.announce_sleep();
-        if waiter.sleeps > 0 {
-            self.ask(waiter);
-        }
         waiter.may_sleep = true;
     }
 
@@ -195,7 +206,7 @@ impl<W: Held> Custody<W> {
             self.waits.announce_sleep();
         }
         if waiter.has_asked {
-            self.waits.stop_asking();
+            self.waits.end_asking();
         }
     }
 
