@@ -68,7 +68,7 @@ def pairs(script, text):
         yield "" if words[0] == "end" else lists[words[0]][int(words[1]) - 1], line
 
 
-def told(script, text, wrong):
+def found_as(script, text, wrong):
     """The line that is not right, with its command."""
     lines = list(pairs(script, text))
     command, line = lines[wrong - 1] if wrong <= len(lines) else ("", "")

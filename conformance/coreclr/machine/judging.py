@@ -97,7 +97,7 @@ def pairs(script, text):
         yield "" if words[0] == "end" else lists[words[0]][int(words[1]) - 1], line
 
 
-def told(script, text, wrong):
+def found_as(script, text, wrong):
     """The line that is not right, with its command; or why there is none."""
     if isinstance(wrong, str):
         return wrong

@@ -333,12 +333,12 @@ def script(seed, number, length):
 
 
 def heap_of(number):
-    """How many cells the heap has for it: mostly as many as hdt has where it is not told."""
+    """How many cells the heap has for it: mostly as many as hdt has by default."""
     return [30, 100, 300][number // 4 % 3] if number % 4 == 3 else 1000000
 
 
 def judged_script(seed, number, in_threads):
-    """The same, with commands that a judge can tell, for callers in turn or for 2 to 16 in threads."""
+    """The same, with commands that have many right answers, for callers in turn or for 2 to 16 in threads."""
     rng = random.Random(f"{seed}/{number}/judged/{in_threads}")
     threads = rng.choice([2, 3, 4, 8, 16]) if in_threads else 0
     each = rng.choice([60, 120, 240])

@@ -20,7 +20,7 @@
 #undef min
 #undef max
 
-// What the collector is told of a program: its roots, and what is asked of it during a collection.
+// What the collector sees of a program: its roots, and what is asked of it during a collection.
 class Program {
 public:
     virtual ~Program() {}
