@@ -150,6 +150,16 @@ def rust(crate):
     return [Rust(f"{folder}/{name}") for name in sorted(os.listdir(folder)) if name.endswith(".rt") and "tests" not in name]
 
 
+def contract(crate, call):
+    """The head and the clauses of a call, or nothing."""
+    return "".join(it.items.get(call, "") for it in rust(crate))
+
+
+def lines_of(definition):
+    """How many lines a definition has, without comments and empty ones."""
+    return sum(1 for line in antt(*definition[:3]).bodies.get(definition[3], "").split("\n") if line.strip())
+
+
 def below():
     found = {}
     for line in text_of(f"{TOP}/crates.txt").splitlines():
@@ -162,20 +172,18 @@ def below():
 class Walk:
     """What was come to, by whom."""
 
-    def __init__(self):
+    def __init__(self, calls):
         self.found, self.todo, self.below = {}, [], below()
+        for crate, call in calls:
+            self.add(("call", crate, call), None)
+        while self.todo:
+            item = self.todo.pop()
+            getattr(self, f"in_{item[0]}")(item)
 
     def add(self, item, by):
         if item not in self.found:
             self.found[item] = by
             self.todo.append(item)
-
-    def run(self):
-        for crate, call in HEADLINE:
-            self.add(("call", crate, call), None)
-        while self.todo:
-            item = self.todo.pop()
-            getattr(self, f"in_{item[0]}")(item)
 
     def in_call(self, item):
         _, crate, call = item
@@ -234,12 +242,18 @@ class Walk:
             item = self.found[item]
         return steps
 
+    def definitions(self):
+        """Each definition as its crate, its part, its file and its name."""
+        return {item[1:] for item in self.found if item[0] == "name"}
+
+    def named_so(self, name):
+        """The texts of the definitions of that name."""
+        return [antt(*it[:3]).bodies.get(it[3], "") for it in self.definitions() if it[3] == name]
+
     def by_file(self):
         files = collections.defaultdict(lambda: collections.defaultdict(set))
-        for item in self.found:
-            if item[0] == "name":
-                _, crate, part, path, name = item
-                files[crate][path if part == "specs" else f"{part}/{path}"].add(name)
+        for crate, part, path, name in self.definitions():
+            files[crate][path if part == "specs" else f"{part}/{path}"].add(name)
         return files
 
     def listed(self):

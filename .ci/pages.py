@@ -1,0 +1,197 @@
+"""What the pages name: links, files, calls, clauses, definitions, options and words of the code. Each has to be there."""
+import functools
+import glob
+import os
+import re
+import subprocess
+
+from citations import TOP, antt, contract, crates, rust, text_of
+
+TICKED = re.compile(r"`([^`\n]*)`")
+NAME = r"[A-Za-z_][\w'-]*"
+# Names of .NET, of CoreCLR, of the toolchain and of the system, which no code here has.
+OUTSIDE = set("""
+    .ReRegisterForFinalize AddOrUpdate AddRef ConditionalWeakTable Dictionary Ref_AgeHandles TryAdd GetOrAdd WeakReference
+    trackResurrection VHT_ _LONG _PINNED AddrOfPinnedObject arith assumption ground subst doc nice python3 rattle dac8208d650f15bf
+    kit-13f logic mutant grep allow-holes fact tidy GetValue
+""".split())
+PATHS_OUTSIDE = {"external/corert", "out/machine"}
+# A register in a form of a command, as in `get rD rO I`.
+OPERAND = re.compile(r"[rh][A-Z]")
+PLACES = ["", "src/", "specs/", "proofs/"]
+BUILT = "crates/hdt/out/hdt "
+
+
+def unwrapped(page):
+    """The page with each item of a list on one line."""
+    return re.sub(r"\n  +(?=\S)", " ", page)
+
+
+@functools.lru_cache(maxsize=None)
+def tracked():
+    found = subprocess.run(["git", "ls-files", "-co", "--exclude-standard"], cwd=TOP, capture_output=True, text=True, check=True)
+    return [it for it in found.stdout.split("\n") if it and not it.startswith("wip/") and os.path.isfile(f"{TOP}/{it}")]
+
+
+def pages():
+    return [it for it in tracked() if it.endswith(".md")]
+
+
+def code_of(path):
+    """The text of a file without its comments."""
+    try:
+        text = text_of(f"{TOP}/{path}")
+    except UnicodeDecodeError:
+        return ""
+    comment = {".rt": "//", ".antt": "--", ".cpp": "//", ".h": "//", ".c": "//", ".cs": "//"}.get(os.path.splitext(path)[1], "#")
+    return re.sub(rf"{comment}.*", "", text)
+
+
+@functools.lru_cache(maxsize=None)
+def code():
+    return "\n".join(code_of(it) for it in tracked() if not it.endswith((".md", ".stdout", ".hdt", ".audit", "/pages.py")))
+
+
+@functools.lru_cache(maxsize=None)
+def words():
+    """The words of the code, the names of files and folders, and the names from outside."""
+    found = set(re.findall(r"[^\W\d][\w'-]*", code())) | set(re.findall(r"[^\W\d]\w*", code()))
+    for path in tracked():
+        for part in path.split("/"):
+            found |= {part, *re.split(r"[.-]", part)}
+    return found | OUTSIDE
+
+
+def is_word(word):
+    return word in words() or word.isupper() or OPERAND.fullmatch(word) is not None or len(word) == 1
+
+
+def is_path(token, page):
+    """Whether a path is that of a file or folder: from the top, from the page, in some crate, or in a folder of hosts."""
+    built = re.match(r"(?:\.\./)*(?:crates/(\w+)|conformance/dotnet)/out/", token)
+    if built:
+        return built[1] is None or built[1] in crates()
+    folders = [TOP, f"{TOP}/{os.path.dirname(page)}", *glob.glob(f"{TOP}/crates/*"), *glob.glob(f"{TOP}/conformance/coreclr/machine")]
+    return token in PATHS_OUTSIDE or any(glob.glob(f"{it}/{token}") for it in folders) or is_in_crate(token)
+
+
+def is_in_crate(token):
+    """Whether it is a file of definitions, an edit or a test of a crate, as `crate/name`."""
+    crate, _, name = token.partition("/")
+    if crate not in crates():
+        return False
+    folder = f"{TOP}/crates/{crate}"
+    tests = [text_of(it) for it in glob.glob(f"{folder}/src/*.rt")]
+    return os.path.isfile(f"{folder}/must-fail/{name}.edit") or antt(crate, "specs", name) is not None \
+        or any(re.search(rf"\bfn {re.escape(name)}\b", it) for it in tests)
+
+
+def is_call(token):
+    """Whether it is a call or a type of a crate, or one from outside that the code names."""
+    first, _, rest = token.partition("::")
+    if first in crates():
+        parts = rest.split("::")
+        return bool(contract(first, rest)) or all(is_word(it) for it in parts)
+    owner, _, method = token.rpartition("::")
+    for file in [it for crate in crates() for it in rust(crate)]:
+        if token in file.items or re.search(rf"\bfn {re.escape(method)}\b", file.items.get(owner, "")):
+            return True
+    return re.search(rf"\b{re.escape(token)}\b", code()) is not None
+
+
+@functools.lru_cache(maxsize=None)
+def fields():
+    """The fields of all records, as `Record.field` and as `.field`."""
+    found = set()
+    for crate in crates():
+        for path in glob.glob(f"{TOP}/crates/{crate}/specs/*.antt"):
+            for name, body in antt(crate, "specs", os.path.basename(path)[:-5]).bodies.items():
+                for field in re.findall(r"^\s+(?:pub )?([\w'-]+) :", body, re.M):
+                    found |= {f"{name}.{field}", f".{field}"}
+    return found
+
+
+def is_known(token, page):
+    if re.fullmatch(r"--[a-z-]+", token):
+        return token in code() or token[2:] in words()
+    if re.fullmatch(r"[\w.*-]*(?:/[\w.*-]*)+", token):
+        return is_path(token, page)
+    if re.fullmatch(rf"{NAME}(?:::{NAME})+", token):
+        return is_call(token)
+    if re.fullmatch(rf"(?:{NAME})?\.{NAME}", token):
+        return token in words() or token in fields() or all(is_word(it) for it in token.split(".") if it)
+    # A command or a text: each path, each option, and each word that is no placeholder.
+    named = re.findall(r"(?<![\w/.-])(?:[\w.-]+/)+[\w.-]+|--[a-z][a-z-]*|(?<![\w-])[^\W\d]\w*'*", token)
+    return all(is_known(it, page) if "/" in it or it.startswith("--") else is_word(it) for it in named)
+
+
+def slug(heading):
+    return re.sub(r"[^\w\- ]", "", heading.strip().lower()).replace(" ", "-")
+
+
+def bad_links(page, text):
+    for target in re.findall(r"\]\(([^)\s]+)\)", text):
+        if re.match(r"[a-z]+:", target):
+            continue
+        path, _, anchor = target.partition("#")
+        at = os.path.normpath(f"{TOP}/{os.path.dirname(page)}/{path}") if path else f"{TOP}/{page}"
+        if not os.path.exists(at):
+            yield f"{page} links to {target}, which is not there"
+        elif anchor and anchor not in [slug(it) for it in re.findall(r"^#+ (.*)$", text_of(at), re.M)]:
+            yield f"{page} links to {target}, which has no such heading"
+
+
+def bad_page(page):
+    text = unwrapped(text_of(f"{TOP}/{page}"))
+    yield from bad_links(page, text)
+    for line in "\n".join(fences(text)).split("\n"):
+        path = re.match(r"(?:sh |python3 )?((?:[\w.-]+/)+[\w.-]+)(?: |$)", line)
+        if path and not is_path(path[1], page):
+            yield f"{page}: {path[1]} is not there"
+    text = re.sub(r"^```.*?^```", "", text, flags=re.M | re.S)
+    # A line of a paragraph may end within a name.
+    text = re.sub(r"\n(?!\n|[#|]|- )", " ", text)
+    for token in TICKED.findall(text):
+        if not is_known(token, page):
+            yield f"{page}: `{token}` is not there"
+    for crate, file in re.findall(r"\b(hd_\w+),? `((?:src/|specs/|proofs/)?\w+\.(?:rt|antt))`", text):
+        if crate in crates() and not any(os.path.isfile(f"{TOP}/crates/{crate}/{it}{file}") for it in PLACES):
+            yield f"{page}: {crate} has no {file}"
+    for crate in sorted(set(re.findall(r"(?<![\w/`])hd_[a-z]+\b", text)) - set(crates()) - words()):
+        yield f"{page}: {crate} is no crate"
+
+
+def bad_numbers():
+    """The decisions are numbered from 1 on, each once, and those that a page cites are there."""
+    numbers = [int(it) for it in re.findall(r"^- \*\*(\d+)\.", text_of(f"{TOP}/docs/DECISIONS.md"), re.M)]
+    if sorted(numbers) != list(range(1, len(numbers) + 1)):
+        yield "docs/DECISIONS.md: the decisions are not numbered from 1 on, each once"
+    for page in pages():
+        for number in re.findall(r"\b[dD]ecisions? (\d+)\b", text_of(f"{TOP}/{page}")):
+            if int(number) not in numbers:
+                yield f"{page} cites decision {number}, which is not there"
+
+
+def fences(text):
+    return re.findall(r"^```.*?\n(.*?)^```", text, re.M | re.S)
+
+
+def bad_pages():
+    for page in pages():
+        yield from bad_page(page)
+    yield from bad_numbers()
+
+
+def bad_runs(program):
+    """Calls of the built program in code blocks are made; and a script that stands beside its text is that of the examples."""
+    wanted = [text_of(f"{TOP}/examples/first.hdt{it}").splitlines() for it in ("", ".stdout")]
+    blocks = [[(re.split(" {2,}", line, maxsplit=1) + [""])[:2] for line in it.splitlines()] for it in fences(text_of(f"{TOP}/README.md"))]
+    if wanted not in [[[line[at] for line in it if line[at]] for at in (0, 1)] for it in blocks]:
+        yield "README.md has no block with examples/first.hdt beside its text"
+    for page in pages():
+        for line in "\n".join(fences(text_of(f"{TOP}/{page}"))).split("\n"):
+            if line.startswith(BUILT):
+                call = line.split("  #")[0].replace(BUILT, f"{program} ", 1)
+                ran = subprocess.run(["sh", "-c", call], cwd=TOP, capture_output=True, text=True, check=False)
+                if ran.returncode != 0 or ran.stderr:
+                    yield f"{page}: {line} ends with status {ran.returncode}"
