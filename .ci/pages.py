@@ -13,7 +13,7 @@ NAME = r"[A-Za-z_][\w'-]*"
 OUTSIDE = set("""
     .ReRegisterForFinalize AddOrUpdate AddRef ConditionalWeakTable Dictionary Ref_AgeHandles TryAdd GetOrAdd WeakReference
     trackResurrection VHT_ _LONG _PINNED AddrOfPinnedObject arith assumption ground subst doc nice python3 rattle dac8208d650f15bf
-    kit-13f logic mutant grep allow-holes fact tidy GetValue
+    kit-13f logic mutant grep allow-holes fact tidy your GetValue
 """.split())
 PATHS_OUTSIDE = {"external/corert", "out/machine"}
 # A register in a form of a command, as in `get rD rO I`.
