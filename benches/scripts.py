@@ -53,8 +53,8 @@ def of_fields():
             for name, beside in BESIDE.items():
                 yield collected(f"`collect {generation}`, {objects:,} old, {name}", graph(objects, beside) + AGED,
                                 [f"collect {generation}"], often)
-    idle = ["new r0 0", "cadd r0 r1"] * 8000
-    for name, beside in (("strong handles", []), ("beside 8,000 idle slots", idle)):
+    gone, idle = (["new r0 0", then] * 8000 for then in ("copy r2 r1", "cadd r0 r1"))
+    for name, beside in (("strong handles", []), ("after 8,000 that went", gone), ("beside 8,000 idle slots", idle)):
         before = graph(10, []) + beside + AGED
         yield collected(f"`collect 0`, 10 old, {name}", before, ["collect 0"], 2000)
         lines = [["new r0 0", "cadd r0 r0"] + last for last in (["drop r0", "collect 0"], ["cremove r0", "drop r0"])]
