@@ -104,7 +104,9 @@ impl AgeMap {
         requires high { CLUMPS * block ≤ length self.old }
         ensures { self.new ≡ grown_at n block self.old }
     {
-        self.set_word(block, word::grow(self.word(block), n));
+        // No age falls, so the least one needs no look.
+        let word = word::grow(self.word(block), n);
+        self.words[block as usize - 1] = word;
     }
 
     /// Raises by one each age of the table that is at most `n`, at most to 2. Where none may be, it
