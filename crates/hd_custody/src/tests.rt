@@ -403,26 +403,29 @@ fn all_take_turns<R: Threads + Wait + Sync>(
 }
 
 // The given number of callers leave the gate to others who look or sleep, and all come to their
-// ends. Where a wake is lost, the one who stays away and those who sleep wait for ever.
+// ends: whether nobody asks then. Where a wake is lost, the one who stays away and those who sleep
+// wait for ever.
 fn no_wake_is_lost<R: Threads + Wait + Sync>(
     rt: &R,
     alloc: Global,
     callers: u32,
-) -> Result<(), Fail>
+) -> Result<bool, Fail>
     requires { 2 ≤ callers }
 {
     let (custody, seat) = open(alloc, 1)?;
     let turns = AtomicU32::new(0);
     let _first = all_take_turns(rt, &custody, seat, &turns, callers - 1);
-    Ok(())
+    Ok(!custody.waits.is_asked())
 }
 
 #[test]
 fn three_callers_wake_each_other(rt: HostRuntime) -> Result<(), Fail> {
-    no_wake_is_lost(&rt, rt.alloc(), 3)
+    assert!(rt; no_wake_is_lost(&rt, rt.alloc(), 3)?);
+    Ok(())
 }
 
 #[test]
 fn sixteen_callers_wake_each_other(rt: HostRuntime) -> Result<(), Fail> {
-    no_wake_is_lost(&rt, rt.alloc(), 16)
+    assert!(rt; no_wake_is_lost(&rt, rt.alloc(), 16)?);
+    Ok(())
 }

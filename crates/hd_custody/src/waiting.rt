@@ -45,7 +45,7 @@ impl WaitWords {
         }
     }
 
-    fn is_asked(&self) -> bool {
+    pub(crate) fn is_asked(&self) -> bool {
         self.asked.load(Ordering::SeqCst) != 0
     }
 
