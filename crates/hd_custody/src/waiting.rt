@@ -1,7 +1,7 @@
 //! How a caller waits at the gate. It looks, with pauses that double; then it asks those who newly
-//! come to give way, and looks with short pauses; then it sleeps. No call here changes a word of the
-//! table, and none says anything for certain: whoever comes back tries the gate again. That no wake
-//! is lost rests on the order of the lines; `trials/waking` has them all and searches them.
+//! come to give way, and looks with short pauses; then it sleeps. No call here changes a word of
+//! the table, and none says anything for certain: whoever comes back tries the gate again. That no
+//! wake is lost rests on the order of the lines; `trials/waking` has them all and searches them.
 
 use crate::types::Custody;
 use crate::words::{ANY_ASLEEP, FREE, GATE, NONE_ASLEEP};
@@ -11,9 +11,9 @@ use std::sync::Wait;
 use std::sync::atomic::{AtomicU64, Ordering};
 
 // The looks of a caller that lost the gate, from the first on or after a sleep. A look costs a few
-// nanoseconds where nobody has the gate; a turn of the gate one or two microseconds, since its cache
-// lines go over, so fewer turns are faster, and a caller comes back rarely at first. Each number was
-// chosen by measuring with four, two and one processors: see benches/README.md.
+// nanoseconds where nobody has the gate; a turn of the gate one or two microseconds, since its
+// cache lines go over, so fewer turns are faster, and a caller comes back rarely at first. Each
+// number was chosen by measuring with four, two and one processors: see benches/README.md.
 pub(crate) const LOOKS: u32 = 4000;
 
 // The first of these looks, after which the pauses double. Then the caller asks.
@@ -22,8 +22,8 @@ const PATIENT_LOOKS: u32 = 38;
 // How often a pause is doubled: the longest is 256 pauses of the processor.
 const DOUBLINGS: u32 = 8;
 
-// The looks of a caller that newly comes and gives way. They last longer than a caller needs to wake
-// up. After them whoever asked is not there.
+// The looks of a caller that newly comes and gives way: a quarter of a millisecond, longer than a
+// caller needs to wake up. After them it tries the gate all the same.
 const COURTEOUS_LOOKS: u32 = 40_000;
 
 /// The words beside the table that callers look at and sleep on.
@@ -199,8 +199,8 @@ impl<W: Held> Custody<W> {
         waiter.wake_up();
     }
 
-    /// What a caller takes back once it has the gate. Whoever woke it took the word back for all, and
-    /// others may still sleep.
+    /// What a caller takes back once it has the gate. Whoever woke it took the word back for all,
+    /// and others may still sleep.
     pub(crate) fn end_wait(&self, waiter: &Waiter) {
         if waiter.sleeps > 0 {
             self.waits.announce_sleep();
