@@ -66,4 +66,4 @@ returns-clause-closure g c =
     (followed_at_last (objects_of b) c.args.n t c.args.ages.now p0 p1 rows gathered
     c.requires.due.visit.names p2 log0 log2 first log_first log_last
     (kept_on log2 c.gather.ensures.log c.promote_since.ensures.log) second.keeps
-    (λ k x y low. c.promote_since.ensures.followed k x y (subst (λ (s : ℕ). s ≤ k) (sym start) low)))
+    (λ k x y low. c.promote_since.ensures.followed k x y (omega (arith, start, low))))
