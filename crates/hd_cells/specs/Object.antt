@@ -4,7 +4,7 @@ use Rattle.std.specs.Coded.{Coded, code_by, coded×, coded_ℕ, coded_bool, code
 use Rattle.hd_cells.specs.declared.cells.TheConstants.{HEADER}
 
 -- its identity, its references to other objects (an address, or 0 for null), its number, and
--- whether it is registered for finalisation
+-- whether it is registered for finalization
 pub record Object : Type 0 where
   pub identity : ℕ
   pub fields : List ℕ
@@ -37,7 +37,7 @@ no_object = record { identity = 0; fields = []; value = 0; registered = false }
 abbrev pub with_value : Object → ℕ → Object
 with_value o v = record o { value = v }
 
--- the object, registered for finalisation or not, as .NET's GC.ReRegisterForFinalize and
+-- the object, registered for finalization or not, as .NET's GC.ReRegisterForFinalize and
 -- GC.SuppressFinalize leave it
 abbrev pub with_registered : Object → Bool → Object
 with_registered o on = record o { registered = on }

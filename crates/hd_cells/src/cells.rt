@@ -26,7 +26,7 @@ pub(crate) const SHAPE: usize = 1;
 /// From an object's first cell to its value.
 pub(crate) const VALUE: usize = 2;
 
-/// What is added to the number of fields where the object is registered for finalisation.
+/// What is added to the number of fields where the object is registered for finalization.
 pub(crate) const REGISTERED: u64 = 256;
 
 /// The part of a region that a cell is in.

@@ -24,7 +24,7 @@ pub struct Region {
 }
 
 /// What the header of an object says: its offset, the number of its fields, and whether it is
-/// registered for finalisation.
+/// registered for finalization.
 #[derive(Clone, Copy, Debug, PartialEq, Eq)]
 pub struct Header {
     pub at: u32,
@@ -148,7 +148,7 @@ impl Region {
         self.cells[place] = v;
     }
 
-    /// Whether the object at `at` is registered for finalisation.
+    /// Whether the object at `at` is registered for finalization.
     pub fn registered(&self, at: u32) -> bool
         requires { IsObject self.now at }
         ensures { result ≡ (object_at self.now at).registered }
@@ -156,7 +156,7 @@ impl Region {
         self.object(at)[SHAPE] >= REGISTERED
     }
 
-    /// Registers the object at `at` for finalisation, or takes its registration away. It may be so
+    /// Registers the object at `at` for finalization, or takes its registration away. It may be so
     /// already.
     pub fn set_registered(&mut self, at: u32, on: bool)
         requires { IsObject self.old at }

@@ -6,7 +6,7 @@ use Rattle.hd_custody.specs.Traces.{sweep_word}
 use Rattle.hd_custody.proofs.CallPhases.{due, same_is}
 
 -- Two sets of phases that no step leaves: those of a `gather` and of each end (where g is true), and those
--- from which no steps lead to a Miss (where it is false).
+-- from which no steps lead to a miss (where it is false).
 abbrev pub stays_in : Bool → Phase → Bool
 stays_in g (probe n) = false
 stays_in g (look b) = false

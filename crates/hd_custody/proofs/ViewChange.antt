@@ -5,8 +5,8 @@ use lib.ListN.{get_elem?}
 use Rattle.hd_custody.proofs.WordTotals.{total_set}
 use mathlib.Core.Option as maybe
 
--- the view with these slots held, this trace, number of the trace, and whether it began with nothing, and with
--- the gate
+-- the view with these slots held, this trace, number of the trace, and whether it began with nothing, and
+-- with the gate
 abbrev pub reshaped : {W : Type 0} → List (ℕ × ℕ) → List (ℕ × ℕ × ℕ) → ℕ → Bool → Bool → View W → View W
 reshaped h t n e b v = record v { held = h; trace = t; trace_number = n; began_empty = e; began_with_gate = b }
 

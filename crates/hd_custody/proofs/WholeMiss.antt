@@ -1,4 +1,4 @@
--- The steps of a call that ends in `missed` are a whole Miss, a whole Miss is the steps of such a call, and
+-- The steps of a call that ends in `missed` are a whole miss, a whole miss is the steps of such a call, and
 -- it found nothing in any word of the kind.
 use Rattle.hd_custody.proofs.Basics.{BANK, BLOCKS, Bool, CACHE, Did, FIRST_QUICK, IsNone, List, None, Option, Phase, ROWS, Some, [], again, again_whole, and_right, ap, arith, back, back_part, bank, bit_or, cases_eq, cond, cond-false, drain, drain_whole, ending, eq-eqb, false, follow, found, inl, inr, is_step, last, length, look, look_whole, lowest, ltb-false, ltb-true, missed, nat_lt, ne_eqb, next_phase, next_rows, probe, probe_word, push, refl, rest, settle, slot_number, subst, suc, sweep, sym, to_bank, to_look, to_probe, true, wrong, zero, ℕ, ◌&&◌, ◌*◌, ◌++◌, ◌+◌, ◌-◌, ◌<◌, ◌==◌, ◌↔◌, ◌∙◌, ◌∷◌, ◌≡◌, ◌≢◌, ◌≤◌, ◌⊎◌}
 use mathlib.Core.Option.{some, some-injective, some-ne-none}

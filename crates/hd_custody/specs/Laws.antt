@@ -1,4 +1,5 @@
--- Where a slot is and what a free gate means, in plain words; and the words and bounds of a table, as numerals.
+-- Where a slot is and what a free gate means, in plain words; and the words and bounds of a table, as
+-- numerals.
 use Rattle.std.specs.Prelude.{◌≡◌, ◌⊎◌, ℕ, ◌+◌, ◌*◌, ◌<◌, ◌≤◌, false, true, List, [], ◌∷◌, Option, Some, slice_index}
 use Rattle.std.specs.Int.{bit_at}
 use mathlib.Core.Option.{some}
@@ -57,8 +58,8 @@ module _ {W : Type 0} (m : Ghosts W) where
 
 module _ {W : Type 0} (m : Ghosts W) where
   -- The table's slot has this world, and nothing else is out of it. The kind words are its kinds, its journal
-  -- has of each seat and each ended part exactly that part, of nobody else an entry, and begins with what each
-  -- has seen; and it is sound.
+  -- has of each seat and each ended part exactly that part, of nobody else an entry, and begins with what
+  -- each has seen; and it is sound.
   pub record HasTheWorld (numbers : Numbers) (s : State (Option W) (View W)) (world : W) : Type 0 where
     pub stored : s.homes ≡ some (Some world) ∷ []
     pub sized : m.numbers world ≡ numbers

@@ -8,7 +8,7 @@ use Rattle.hd_custody.specs.declared.words.TheConstants.{CACHE}
 use Rattle.hd_custody.specs.Counts.{mask_word, quick_word}
 use Rattle.hd_custody.specs.Traces.{Did, probe_word}
 
--- what a block gave to a Miss
+-- what a block gave to a miss
 pub data Gave : Type 0 where
   -- its kind word was y, and not the kind's
   another : ℕ → Gave
@@ -42,7 +42,7 @@ module _ (k : ℕ) where
   IsGiven nothing = Unit {0}
   IsGiven (regiven m y o) = (m ≢ 0) × (y ≢ k + 1)
 
--- A whole Miss of the kind with number k, of a table of this number of blocks: every quick word and cell of
+-- A whole miss of the kind with number k, of a table of this number of blocks: every quick word and cell of
 -- the kind gave 0; the kind word of each block was loaded, and the mask of each block that was loaded as of
 -- the kind gave 0, or it gave rows and the kind word loaded once more after it was another. These are all
 -- steps, in this order.
@@ -68,6 +68,6 @@ pub record FoundNone (k blocks : ℕ) (trace : List Did) : Type 0 where
       → (m : ℕ) × (get_elem? trace (suc n) ≡ some (mask_word b, m, 0)) × ((m ≡ 0)
       ⊎ ((y : ℕ) × (y ≢ k + 1) × (get_elem? trace (suc (suc n)) ≡ some (b, y, y))))
 
--- a whole Miss found nothing in any of them
+-- a whole miss found nothing in any of them
 abbrev pub MissesFoundNone : Type 0
 MissesFoundNone = (k blocks : ℕ) (trace : List Did) → WholeMiss k blocks trace → FoundNone k blocks trace

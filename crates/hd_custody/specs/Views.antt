@@ -223,7 +223,8 @@ module _ {W : Type 0} (m : Ghosts W) where
     pub no_data : d ≢ 0 → changed v.changes (m.kind world) d ≡ 0
 
   -- The gate is given back with w, where u was taken: an entry is added to the part, the journal of w is
-  -- seen, slots that became live are held no more, and slots that ended are held, each as of its block's kind.
+  -- seen, slots that became live are held no more, and slots that ended are held, each as of its block's
+  -- kind.
   abbrev pub gave_back : W → W → View W → View W
   gave_back u w v = record v {
     has_gate = false;

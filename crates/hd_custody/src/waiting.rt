@@ -22,8 +22,8 @@ const PATIENT_LOOKS: u32 = 38;
 // How often a pause is doubled: the longest is 256 pauses of the processor.
 const DOUBLINGS: u32 = 8;
 
-// The looks of a caller that newly comes and gives way: a quarter of a millisecond, longer than a
-// caller needs to wake up. After them it tries the gate all the same.
+// The looks of a caller that newly comes and gives way. They last longer than a caller needs to
+// wake up. After them it tries the gate all the same.
 const COURTEOUS_LOOKS: u32 = 40_000;
 
 /// The words beside the table that callers look at and sleep on.

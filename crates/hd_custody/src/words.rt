@@ -1,5 +1,5 @@
-//! The words of a table, by their numbers, and what they have; those of a kind in the order in which
-//! each call goes over them.
+//! The words of a table, by their numbers, and what they have; those of a kind in the order in
+//! which each call goes over them.
 ghost use Rattle.std.specs.Prelude.{◌≡◌, ◌+◌, ◌*◌, ◌/◌, ◌%◌, ◌<◌, ◌≤◌};
 ghost use Rattle.hd_custody.specs.Counts.{mask_word, slot_block, slot_row, quick_word, reserve_cell, cell_kind, IsCell};
 ghost use Rattle.hd_custody.specs.Traces.{probe_word, sweep_word, push_word};

@@ -1,4 +1,4 @@
--- What is always true of the fields of a finalisation queue.
+-- What is always true of the fields of a finalization queue.
 use Rattle.std.specs.Prelude.{◌≢◌, ℕ, ◌^◌, ◌<◌, ◌≤◌, List, length, AllPairs}
 use Rattle.hd_model.specs.declared.data.Addr.{Addr}
 

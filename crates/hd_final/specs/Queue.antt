@@ -1,4 +1,4 @@
--- What the type of a finalisation queue keeps.
+-- What the type of a finalization queue keeps.
 use Rattle.std.specs.Prelude.{◌≢◌, ◌^◌, ◌<◌, ◌≤◌, length, AllPairs}
 use Rattle.hd_model.specs.Table.{Queue}
 

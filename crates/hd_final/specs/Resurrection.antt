@@ -1,4 +1,4 @@
--- Who joins the finalisation queue in a collection (.NET: an object with a finalizer that is no longer
+-- Who joins the finalization queue in a collection (.NET: an object with a finalizer that is no longer
 -- reached is kept, with all that it leads to, until its finalizer has run).
 use Rattle.std.specs.Prelude.{◌≡◌, ℕ, ◌<◌, ◌≤◌, Bool, true, false, List, ◌++◌, Some, Contains, AllPairs}
 use Rattle.hd_model.specs.{State.Object, Leads.Grows, Scene.Objects, Scene.IsYoungField}

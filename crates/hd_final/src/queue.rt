@@ -15,7 +15,7 @@ use std::alloc::Global;
 use std::collections::VecDeque;
 use std::marker::Model;
 
-/// The objects that are queued for finalisation, the next one first, with room for as many as may
+/// The objects that are queued for finalization, the next one first, with room for as many as may
 /// join in a collection. No object is queued twice.
 #[derive(Drop)]
 pub struct Final {

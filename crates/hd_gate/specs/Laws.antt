@@ -7,8 +7,8 @@ use Rattle.hd_world.specs.{StateHeap.IsOfJournal, World.WorldView}
 use Rattle.hd_world.specs.contracts.world.WorldHeld.TheImpl.{ghosts}
 
 -- Whenever the rule of a shared table holds and the gate, which is word 0, is free, the table's slot has one
--- world, with the kind words as its kinds and each caller's part in its journal; and that world is the one of its
--- journal.
+-- world, with the kind words as its kinds and each caller's part in its journal; and that world is the one
+-- of its journal.
 abbrev pub AFreeGateHasTheWorldOfItsJournal : Type 0
 AFreeGateHasTheWorldOfItsJournal =
     (numbers : Numbers) (s : State (Option WorldView) (View WorldView)) → Custodied ghosts numbers s

@@ -25,8 +25,8 @@ pub record IsFirst {W : Type 0} (begun v : View W) (seats spared : ℕ) : Type 0
   pub view : v ≡ record begun { made = seats; room = v.room }
   pub room : spared ≤ v.room
 
--- what has ended in the seat of caller 0: each part, and what was seen, is that of the caller with its number,
--- of the callers from number 1 on
+-- what has ended in the seat of caller 0: each part, and what was seen, is that of the caller with its
+-- number, of the callers from number 1 on
 pub record HasEnded (others : List CallerView) (ended : List Ended) : Type 0 where
   pub each : (k : ℕ) (e : Ended) → get_elem? ended k ≡ some e
       → (c : ℕ) × (c < length others) × (e.0 ≡ c + 1)

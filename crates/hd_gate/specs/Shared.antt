@@ -20,8 +20,8 @@ pub record SearchView : Type 0 where
   pub began_with_gate : Bool
 
 -- a caller: its table with the numbers of the run, its own number, its entries so far, how many more it may
--- add, the whole journal as it was when it last took the gate or gave it back, how often it did either, and its
--- last search
+-- add, the whole journal as it was when it last took the gate or gave it back, how often it did either, and
+-- its last search
 pub record CallerView : Type 0 where
   pub table : TableId
   pub numbers : Numbers
@@ -74,8 +74,8 @@ looks_with_gate Frees = false
 looks_with_gate (GivesBack kind) = false
 looks_with_gate Keeps = false
 
--- between old and new there was one call that looks for slots or releases one, which began without a slot, and
--- with the gate or without it, and the trace has its steps
+-- between old and new there was one call that looks for slots or releases one, which began without a slot,
+-- and with the gate or without it, and the trace has its steps
 pub record OwnSteps (with_gate : Bool) (old new : SearchView) : Type 0 where
   pub one : new.trace_number ≡ old.trace_number + 1
   pub began_empty : new.began_empty ≡ true
@@ -113,8 +113,8 @@ LookedFor (block_back kind) with_gate blocks old new e =
     e.reply ≡ reply.Value 0 → OwnSweep kind with_gate blocks old new
 LookedFor no_room with_gate blocks old new e = Unit {0}
 
--- between old and new it released the slot that the entry freed, once, in these steps, without the gate, as one
--- of the kind that its block had, and looked for none
+-- between old and new it released the slot that the entry freed, once, in these steps, without the gate, as
+-- one of the kind that its block had, and looked for none
 pub record OwnRelease (before : State) (blocks : ℕ) (old new : SearchView) (e : Entry) : Type 0 where
   pub slot : Slot
   pub kind : Kind
@@ -151,16 +151,16 @@ pub record Found (old : CallerView) : Type 0 where
 abbrev pub having_seen : List Entry → CallerView → CallerView
 having_seen journal p = record p { seen = journal; gate_steps = p.gate_steps + 2 }
 
--- out of memory: in the state that it found, whose journal it has seen now, the object of the command would fit
--- into the heap
+-- out of memory: in the state that it found, whose journal it has seen now, the object of the command would
+-- fit into the heap
 pub record HadRoom (old new : CallerView) (command : Cmd) : Type 0 where
   pub found : Found old
   pub seen : new.seen ≡ found.journal
   pub fits : FitsHeap old.numbers found.state command
 
 -- A command was done: the caller has one entry more, with the command and its reply, and room for one less.
--- The entry is a step of the machine from the state that the caller found, and the caller has seen the journal
--- that it found with that entry more. It took the gate once, and gave it back once.
+-- The entry is a step of the machine from the state that the caller found, and the caller has seen the
+-- journal that it found with that entry more. It took the gate once, and gave it back once.
 pub record HasDone (old new : CallerView) (command : Cmd) (answer : Reply) : Type 0 where
   pub entry : Entry
   pub found : Found old

@@ -70,8 +70,8 @@ pub record WantsMemory (u w : WorldView) (command : Cmd) : Type 0 where
   pub out : RanOut u.numbers u.state command u w
   pub run : Run u.numbers u.journal u.state
 
--- a slot of the kind was looked for: the one found is free in the world under the gate, where the seat has that,
--- and none was found only after a whole miss
+-- a slot of the kind was looked for: the one found is free in the world under the gate, where the seat has
+-- that, and none was found only after a whole miss
 pub record Looked {W : Type 0} (m : Ghosts W) (kind : Kind) (blocks : ℕ) (o : Option Slot) (v w : View W) :
     Type 0 where
   pub done : Allocates (kind_number kind) blocks (slot_number o) v w

@@ -216,7 +216,7 @@ fn freed(world: &Boxed, slot: Option<Slot>) -> Option<(Slot, Kind)>
     Some((slot, kind))
 }
 
-// Lets a freed slot go, if there is one.
+// Releases the slot that was freed, if one was.
 fn release_freed(custody: &Custody<Boxed>, seat: &mut Seat<Boxed>, freed: Option<(Slot, Kind)>)
     requires seat { seat.old.table ≡ custody.now.table }
     requires slot { IfSome freed (λ f. HasAs (f.0.0, kind_number f.1 + 1) seat.old.view.held) }

@@ -6,7 +6,7 @@ use Rattle.hd_model.specs.Heap.{Heap, Basis, object_at, is_carded, HasIdentities
 use Rattle.hd_model.specs.Table.{Table, Queue, row_at}
 use Rattle.hd_plan.specs.Plan.{HasNoEmptyRegion}
 
--- the heap, the table and the ages of its clumps, the finalisation queue, and what registers and statics
+-- the heap, the table and the ages of its clumps, the finalization queue, and what registers and statics
 -- reference
 pub record Parts : Type 0 where
   pub heap : Heap

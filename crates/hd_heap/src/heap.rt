@@ -214,7 +214,7 @@ impl Heap {
         self.write(at, Part::Value(v));
     }
 
-    /// Whether the object at `at` is registered for finalisation.
+    /// Whether the object at `at` is registered for finalization.
     pub fn registered(&self, at: Addr) -> bool
         requires { has_object self.now at ≡ true }
         ensures { result ≡ (placed_at self.now at).registered }
@@ -223,7 +223,7 @@ impl Heap {
         area.region.registered(offset)
     }
 
-    /// Registers the object at `at` for finalisation, or removes its registration, also where that
+    /// Registers the object at `at` for finalization, or removes its registration, also where that
     /// is so already.
     pub fn set_registered(&mut self, at: Addr, on: bool)
         requires { has_object self.old at ≡ true }
@@ -243,7 +243,7 @@ impl Heap {
         area.generation
     }
 
-    /// Field `i` of the object at `at`: an address, or None for null.
+    /// Field `i` of the object at `at`: an address, or `None` for null.
     pub fn load(&self, at: Addr, i: u32) -> Option<Addr>
         requires object { has_object self.now at ≡ true }
         requires within { i < length (fields_at (object_at self.now) at) }

@@ -1,7 +1,7 @@
 use hd_model::Addr;
 
 /// A condemned object: its address, the number of its fields, and whether it is registered for
-/// finalisation.
+/// finalization.
 #[derive(Clone, Copy, Debug, PartialEq, Eq)]
 pub struct CondemnedObject {
     pub at: Addr,

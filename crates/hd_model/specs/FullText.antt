@@ -1,5 +1,4 @@
--- The full text of a journal. A line of it has, besides the reply, the slot and the blocks of its entry, so
--- that the lines of a run state the whole journal.
+-- The full text of a journal. A line of it has, besides the reply, the slot and the blocks of its entry.
 use Rattle.std.specs.Prelude.{ℕ, List, [], ◌∷◌, ◌++◌, codes, decimal, Option, Some, None}
 use Rattle.std.specs.List.{concat}
 use Rattle.std.specs.FinMap.{len}

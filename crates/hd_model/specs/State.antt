@@ -1,5 +1,5 @@
--- The state of the plain handle machine: objects by identity, handles by slot, and what references them. It
--- has no cells, addresses, regions, masks or threads.
+-- The state of the plain handle machine: objects by identity, handles by slot, and what references them. Of
+-- addresses it has only the pinned ones that `addr` returned. It has no regions, masks or threads.
 use Rattle.std.specs.Prelude.{◌≡◌, ℕ, ◌+◌, ◌*◌, ◌/◌, ◌^◌, Bool, false, List, [], replicate, length, sum_by, slice_index, slice_index_or, slice_set, Option, Some, None, unwrap_or, option_map, map}
 use Rattle.std.specs.FinMap.{FinMap, get, insert, remove, empty, values, len}
 use Rattle.std.specs.Ordering.{nat_cmp}

@@ -47,15 +47,16 @@ pub fn rooted_objects_last()
     ensures { RootedObjectsLast }
 {}
 
-/// An object that `gcroot` reports unrooted is removed or resurrected by a collection,
-/// unless a register or an object of an older generation leads to it.
+/// An object that `gcroot` reports unrooted is removed by a collection, or a chain leads to it from
+/// what is resurrected, unless one leads to it from a register or an object of an older generation.
 pub fn unrooted_objects_go()
     ensures { UnrootedObjectsGo }
 {}
 
-/// An object that `gcroot` reports unrooted, and whose register is dropped then, is removed or
-/// resurrected by the collection that comes next, unless another register or an object of an older
-/// generation leads to it. In the state in which `gcroot` replied the register itself led to it.
+/// An object that `gcroot` reports unrooted, and whose register is dropped then, is removed by the
+/// collection that comes next, or a chain leads to it from what is resurrected, unless one leads to
+/// it from another register or an object of an older generation. In the state in which `gcroot`
+/// replied the register itself referenced it.
 pub fn dropped_objects_go()
     ensures { DroppedObjectsGo }
 {}

@@ -221,8 +221,8 @@ pub enum Reply {
     Refused(Refusal),
 }
 
-/// One command of one caller with its reply. `slot` is the slot that was given or freed, and
-/// `grown` how the blocks in use changed.
+/// One command of one caller with its reply. `slot` is the slot that was given to a handle or an
+/// entry of the weak table, an idle one too, or freed, and `grown` how the blocks in use changed.
 #[derive(Clone, Copy, Debug, PartialEq, Eq)]
 pub struct Entry {
     pub caller: u32,

@@ -29,7 +29,7 @@ enum Operand {
     Number(u64),
     OfStrength(Strength),
     OfKind(Kind),
-    // `fin`: the object is registered for finalisation.
+    // `fin`: the object is registered for finalization.
     Registered,
 }
 

@@ -20,7 +20,7 @@ task_kind task.ClearVariableLong = kind.Variable
 task_kind task.ClearCounted = kind.Counted
 
 -- the role of the handles that it takes: those that hold their target are roots, weak short ones are cleared
--- before finalisation, weak long ones after it
+-- before finalization, weak long ones after it
 abbrev pub task_role : Task → Role
 task_role task.Strong = holds
 task_role task.Pinned = holds

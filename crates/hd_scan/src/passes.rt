@@ -15,7 +15,7 @@ use std::sync::ledger::Ledger;
 /// is one step. Returns the number of visited handles from which it promoted, or which it cleared.
 ///
 /// A handle that holds its target is a root, as a `GCHandle` of type `Normal` or `Pinned` is. A
-/// weak one of type `Weak` is cleared by what is promoted before finalisation, one of type
+/// weak one of type `Weak` is cleared by what is promoted before finalization, one of type
 /// `WeakTrackResurrection` by what is promoted after it.
 pub fn pass<M: Marker, L: Ledger>(
     seg: &mut Seg,

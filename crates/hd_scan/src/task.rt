@@ -29,7 +29,7 @@ pub enum Task {
     ClearCounted,
 }
 
-/// What a handle is to a collection: it holds its target, is weak and cleared before finalisation,
+/// What a handle is to a collection: it holds its target, is weak and cleared before finalization,
 /// is weak and cleared after it, or attaches a secondary to its target.
 #[derive(Clone, Copy, PartialEq, Eq)]
 pub enum Role {
@@ -48,7 +48,7 @@ impl Task {
         Task::CountedRoots,
     ];
 
-    /// All that clear weak handles before finalisation.
+    /// All that clear weak handles before finalization.
     pub const CLEARS_SHORT: [Task; 2] = [Task::ClearShort, Task::ClearVariableShort];
 
     /// All that clear weak handles after it.

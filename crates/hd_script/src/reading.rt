@@ -305,7 +305,7 @@ fn trimmed_kind(word: &[u8]) -> Option<Kind>
     }
 }
 
-// `fin`, which registers a new object for finalisation.
+// `fin`, which registers a new object for finalization.
 #[tactic(auto, unfolding(hd_model::specs::Grammar::fin_of))]
 fn fin(word: &[u8]) -> Option<bool>
     ensures { result ≡ grammar.fin_of word.now }

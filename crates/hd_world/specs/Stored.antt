@@ -14,7 +14,7 @@ use Rattle.hd_world.specs.Rows.{rows_of, rest_of}
 use Rattle.hd_world.specs.Reading.{objects_by_id, rows_by_id, unheld, weak_by_id}
 
 -- the parts of a store: the heap, the table and the ages of its clumps; the slots of the weak table, with
--- their keys; the finalisation queue; what the registers of all callers and then the statics reference; the
+-- their keys; the finalization queue; what the registers of all callers and then the statics reference; the
 -- slots in the handle registers and on the board; and each caller's last serial
 pub record Parts : Type 0 where
   pub heap : Heap

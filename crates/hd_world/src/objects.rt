@@ -137,7 +137,7 @@ impl Store {
         self.heap.generation(at)
     }
 
-    /// Registers it for finalisation, or unregisters it.
+    /// Registers it for finalization, or unregisters it.
     pub(crate) fn set_registered(&mut self, at: Addr, on: bool)
         requires { IsSome (get self.old.names at.0) }
         ensures { let after = record (object_named self.old at) { registered = on } in
@@ -185,7 +185,7 @@ impl Store {
         }
     }
 
-    /// Takes the first object out of the finalisation queue.
+    /// Takes the first object out of the finalization queue.
     pub(crate) fn next_queued(&mut self) -> Option<Addr>
         ensures queue { MatchOption result
             ((self.old.state.queue ≡ []) × (self.new ≡ self.old))

@@ -57,7 +57,7 @@ fn filled<T: Copy + Drop>(alloc: Global, value: T, count: u32) -> Result<Vec<T>,
 }
 
 impl Store {
-    /// The state in which nothing is made yet. All memory but that of objects is taken here.
+    /// The state in which nothing is made yet.
     pub(crate) fn open(alloc: Global, heap: u32, blocks: u32, callers: u32) -> Result<Store, Memory>
         requires heap { heap ≤ HEAP }
         requires blocks { blocks ≤ BLOCKS }

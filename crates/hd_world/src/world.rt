@@ -70,8 +70,7 @@ impl Held for World {
 
 impl World {
     /// An empty world over a heap of at most `heap` words and `blocks` blocks, for `callers`
-    /// callers, with room in its journal for `lines` entries. All memory but that of objects is
-    /// taken here.
+    /// callers, with room in its journal for `lines` entries.
     pub fn open(
         alloc: Global,
         heap: u32,
@@ -188,7 +187,7 @@ impl World {
     }
 
     /// Whether a command needs a slot that the weak table has yet to get: so does a `cadd` that
-    /// meets neither Null nor Present while no slot of the table is idle, and no other command.
+    /// meets neither `Null` nor `Present` while no slot of the table is idle, and no other command.
     pub fn needs_slot(&self, caller: u32, cmd: Cmd) -> bool
         requires caller { caller < self.now.numbers.callers }
         requires valid { IsValid cmd }
