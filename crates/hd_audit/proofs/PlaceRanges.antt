@@ -30,11 +30,11 @@ module _ (n : Numbers) (s : State) (w : IsWellFormed n s) where
       (apart.apart x y first (first + (length (object_by_id s x).fields + 3)) other
       (other + (length (object_by_id s y).fields + 3)) (takes x first is) (takes y other has) ne)
 
-  pub free_is : (id : Id) (place size : ℕ) (b : Bool) → size ≡ size_of (object_by_id s id) → place < 2 ^ 32
-      → (IsTrue b ↔ IsApart s.objects s.places (record { first = place; end = place + size }))
-      → (IsTrue b ↔ IsFreePlace s id place)
-  free_is id place size b same small both =
-      let range : ◌≡◌ {A = Range} (record { first = place; end = place + size })
-      (range_at place (object_by_id s id)) = λ i. record { first = place; end = place + same i } in
+  pub free_is : (id : Id) (place end : ℕ) (b : Bool) → place < 2 ^ 32
+      → (IsTrue b ↔ IsApart s.objects s.places (record { first = place; end = end }))
+      → end ≡ place + size_of (object_by_id s id) → (IsTrue b ↔ IsFreePlace s id place)
+  free_is id place end b small both same =
+      let range : ◌≡◌ {A = Range} (record { first = place; end = end })
+      (range_at place (object_by_id s id)) = λ i. record { first = place; end = same i } in
       let here = subst (λ r. IsTrue b ↔ IsApart s.objects s.places r) range both in
       (λ t. record { small = small; apart = here.0 t }, λ f. here.1 f.apart)

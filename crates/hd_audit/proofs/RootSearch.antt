@@ -244,16 +244,16 @@ starts_all f (k ∷ ks) s rising low =
     let r = reaches_one f k (start_at k) in
     let later = starts_all g ks (start_step f k s (λ p h. low p k h (first_in k ks)))
     (pairs_rest (λ x y. x < y) k ks rising)
-    (λ p y h c. ⊎_elim (λ old. low p y old (later_in k ks y c))
+    (λ p y h c. ⊎_elim {C = p.0 < y} (λ old. low p y old (later_in k ks y c))
     (λ n. subst (λ z. z < y) (sym n.1.1) (pairs_first (λ x y. x < y) k ks rising y c)) (r.from p h)) in
     record {
       started = later.started;
       keeps = λ x o h. later.keeps x o (r.keeps x o h);
-      all = λ x h. ⊎_elim
+      all = λ x h. ⊎_elim {C = IsSome (get (with_starts g ks).found x)}
           (λ same. let (o, rest) = r.joins x (sym same) in ap is_some (later.keeps x o rest.0))
           (λ c. later.all x c) (member_cases k ks x h);
-      only = λ x o h. ⊎_elim
-          (λ e. ⊎_elim (λ old. inl old)
+      only = λ x o h. ⊎_elim {C = (get f.found x ≡ Some o) ⊎ Contains (k ∷ ks) x}
+          (λ e. ⊎_elim {C = (get f.found x ≡ Some o) ⊎ Contains (k ∷ ks) x} (λ old. inl old)
           (λ n. inr (subst (λ z. Contains (k ∷ ks) z) (sym n.wanted) (first_in k ks))) (r.only x o e))
           (λ c. inr (later_in k ks x c)) (later.only x o h);
     }

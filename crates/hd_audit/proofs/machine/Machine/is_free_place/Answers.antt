@@ -1,4 +1,4 @@
-use Rattle.std.proofs.Common.{subst, sym}
+use Rattle.std.proofs.Common.{arith, subst, sym}
 use Rattle.std.specs.Prelude.{IsTrue, ◌↔◌}
 use Rattle.hd_model.specs.Places.{IsFreePlace}
 use Rattle.hd_model.specs.UserLaws.{HasPlacesApart}
@@ -19,5 +19,5 @@ returns c =
     subst (λ (j : Judge). IsTrue c.is_free.result ↔ IsFreePlace j.state c.args.id c.args.place) c.self.view_is
     (free_is (numbers_in c.self.inside) (state_in c.self.inside)
     (subst (λ (j : Judge). IsWellFormed j.numbers j.state) (sym c.self.view_is) c.requires.formed) c.args.id
-    c.args.place c.size_of-size.result c.is_free.result c.size_of-size.ensures c.ranges.place.fits
-    c.is_free.ensures)
+    c.args.place _ c.is_free.result c.ranges.place.fits c.is_free.ensures
+    (omega (arith, c.size_of-size.ensures)))
