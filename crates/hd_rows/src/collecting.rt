@@ -22,10 +22,10 @@ fn strong_and_weak_handles() -> [Row; 2] {
     ]
 }
 
-// What is finalised, and what its handles reference before and after.
-fn finalised_objects() -> [Row; 3] {
+// What is finalized, and what its handles reference before and after.
+fn finalized_objects() -> [Row; 3] {
     [
-        // An object to be finalised is kept for it: a short handle is cleared, a long one is not.
+        // An object to be finalized is kept for it: a short handle is cleared, a long one is not.
         runs(
             "new r0 0 fin\nhnew h0 short r0\nhnew h1 long r0\ndrop r0\ncollect 0\nhget r1 h0\n\
              hget r2 h1\n",
@@ -34,7 +34,7 @@ fn finalised_objects() -> [Row; 3] {
              0 5 kept 1 removed 0 short 1 long 0 dep 0 revived 1\n0 6 null\n0 7 obj 0.1\n\
              end handles 2 objects 1 collections 1\n",
         ),
-        // Once it was finalised it is collected, and the long handle is cleared too.
+        // Once it was finalized it is collected, and the long handle is cleared too.
         runs(
             "new r0 0 fin\nhnew h0 short r0\nhnew h1 long r0\ndrop r0\ncollect 0\nhget r1 h0\n\
              hget r2 h1\nfinal r3\ndrop r2\ndrop r3\ncollect 2\nhget r1 h1\n",
@@ -45,7 +45,7 @@ fn finalised_objects() -> [Row; 3] {
              0 11 kept 0 removed 1 short 0 long 1 dep 0 revived 0\n0 12 null\n\
              end handles 2 objects 0 collections 2\n",
         ),
-        // An object that is suppressed is not finalised, and one that was registered again is.
+        // An object that is suppressed is not finalized, and one that was registered again is.
         runs(
             "new r0 0 fin\nsuppress r0\nhnew h0 long r0\ndrop r0\ncollect 0\nnew r1 0\n\
              reregister r1\ndrop r1\ncollect 0\nfinal r2\nfinal r3\n",
@@ -59,7 +59,7 @@ fn finalised_objects() -> [Row; 3] {
 }
 
 // The same scripts with collections of all generations, which reply the same of young objects.
-fn finalised_by_full_collections() -> [Row; 3] {
+fn finalized_by_full_collections() -> [Row; 3] {
     [
         runs(
             "new r0 0 fin\nhnew h0 short r0\nhnew h1 long r0\ndrop r0\ncollect 2\nhget r1 h0\n\
@@ -253,7 +253,7 @@ fn variable_and_counted_handles() -> [Row; 3] {
 }
 
 /// A host that uses all kinds: a service in a static, a pinned buffer, a weak cache entry, and a
-/// listener that is finalised, with data attached to it.
+/// listener that is finalized, with data attached to it.
 pub(crate) fn host() -> Row {
     runs(
         "# host\nnew r0 4\nsput 0 r0\nnew r1 16\nval r1 4096\nhnew h0 pinned r1\nnew r2 0\n\
@@ -281,9 +281,9 @@ fn handles_hold_what_they_must(rt: HostRuntime) -> Result<(), Fail> {
 }
 
 #[test]
-fn lost_objects_are_finalised(rt: HostRuntime) -> Result<(), Fail> {
-    assert_rows(&rt, &finalised_objects())?;
-    assert_rows(&rt, &finalised_by_full_collections())
+fn lost_objects_are_finalized(rt: HostRuntime) -> Result<(), Fail> {
+    assert_rows(&rt, &finalized_objects())?;
+    assert_rows(&rt, &finalized_by_full_collections())
 }
 
 #[test]

@@ -1,4 +1,4 @@
-// The finalisation queue over marks and heaps.
+// The finalization queue over marks and heaps.
 ghost use Rattle.std.specs.Prelude.{◌≡◌, true, [], Contains, IfOk};
 ghost use Rattle.hd_model.specs.declared.data.Addr.{Addr};
 ghost use Rattle.hd_model.specs.Heap.{has_object, object_at};

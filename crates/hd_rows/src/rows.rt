@@ -103,7 +103,7 @@ fn kinds_of_handles() -> [Row; 3] {
     ]
 }
 
-// Blocks that are given back, and marks for finalisation.
+// Blocks that are given back, and marks for finalization.
 fn blocks_and_marks() -> [Row; 2] {
     [
         // A block goes back only when its slots are all free.

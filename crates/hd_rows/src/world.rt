@@ -217,7 +217,7 @@ fn growing_older() -> [Line; 18] {
     ]
 }
 
-// An object that is finalised, with a field and short and long handles; one with data attached; a
+// An object that is finalized, with a field and short and long handles; one with data attached; a
 // ref-counted handle with count 0; and a pinned object of the other caller.
 fn made() -> [Line; 15] {
     [
@@ -239,8 +239,8 @@ fn made() -> [Line; 15] {
     ]
 }
 
-// The finalised object keeps its field, and that its data, until it was taken off the queue.
-fn finalised() -> [Line; 13] {
+// The finalized object keeps its field, and that its data, until it was taken off the queue.
+fn finalized() -> [Line; 13] {
     [
         (1, "collect 0", report(4, 0, 1, 0, 0, 1)),
         (0, "hget r3 h0", Reply::Nothing),
@@ -353,7 +353,7 @@ fn a_world_finds_the_young_target_of_an_old_handle(rt: HostRuntime) -> Result<()
 
 #[test]
 fn a_world_goes_through_collections(rt: HostRuntime) -> Result<(), Fail> {
-    let (first, second, third) = (made(), finalised(), shared());
+    let (first, second, third) = (made(), finalized(), shared());
     assert_world(&rt, 1_000, 32, 44, &[&first, &second, &third], (0, 4, 7, 0))?;
     Ok(())
 }

@@ -69,7 +69,7 @@ impl Held for World {
 }
 
 impl World {
-    /// An empty world over a heap of at most `heap` words and `blocks` blocks, for `callers`
+    /// An empty world over a heap of at most `heap` cells and `blocks` blocks, for `callers`
     /// callers, with room in its journal for `lines` entries.
     pub fn open(
         alloc: Global,
