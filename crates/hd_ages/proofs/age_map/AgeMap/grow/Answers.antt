@@ -1,4 +1,4 @@
-use Rattle.hd_ages.proofs.Basics.{All, All-drop, All-set, All-take, CLUMPS, IsWord, List, ages_at, ages_in, ap, arith, drop, grown, length-set, subst, sym, take, with_ages, ℕ, ◌*◌, ◌-◌, ◌∙◌, ◌≡◌, ◌≤◌}
+use Rattle.hd_ages.proofs.Basics.{All, All-drop, All-set, All-take, CLUMPS, IsWord, ages_at, ages_in, ap, arith, drop, grown, length-set, subst, sym, with_ages, ℕ, ◌*◌, ◌-◌, ◌∙◌, ◌≤◌}
 use Rattle.hd_ages.proofs.BlockAges.{word_index, word_written}
 use Rattle.hd_ages.proofs.YoungestAge.{grown_above, set_from}
 use Rattle.hd_ages.proofs.age_map.AgeMap.grow.Goals as goal
@@ -18,8 +18,7 @@ invariant_of-self c =
     (All-drop P (CLUMPS * c.args.block - CLUMPS) c.args.self.now here) in
     let risen : All P (ages_in c.grow-word.result) =
     subst (All P) (sym (c.grow-word.ensures.ages ∙ ap (grown c.args.n) c.word.ensures.ages))
-    (grown_above y c.args.n (ages_at c.args.block c.args.self.now) c.self.invariant.2 four) in
-    (
+    (grown_above y c.args.n (ages_at c.args.block c.args.self.now) c.self.invariant.2 four) in (
       omega (arith, length-set c.self.inside.words.items at c.grow-word.result, c.self.invariant.0),
       All-set IsWord c.self.inside.words.items at c.grow-word.result c.grow-word.ensures.after c.self.invariant.1,
       c.self.invariant.2,
@@ -32,5 +31,5 @@ pub returns : goal.returns
 returns c =
     word_written _ _ c.self.view_is _ c.requires.low c.requires.high c.grow-word.result
     ∙ (λ i.
-        with_ages c.args.block ((c.grow-word.ensures.ages ∙ ap (grown c.args.n) c.word.ensures.ages) i)
-        c.args.self.now)
+    with_ages c.args.block ((c.grow-word.ensures.ages ∙ ap (grown c.args.n) c.word.ensures.ages) i)
+    c.args.self.now)
