@@ -1,4 +1,4 @@
-"""What the pages name: links, files, calls, clauses, definitions, options and words of the code. Each has to be there."""
+"""What the pages name: links, files, calls, clauses, definitions, options, words and blocks of the code. Each has to be there."""
 import functools
 import glob
 import os
@@ -176,9 +176,23 @@ def fences(text):
     return re.findall(r"^```.*?\n(.*?)^```", text, re.M | re.S)
 
 
+def plain(text):
+    return "\n".join(line.strip() for line in text.splitlines() if line.strip()) + "\n"
+
+
+def bad_rust():
+    """Each block of Rust in a page of calls stands in a source, whatever its indentation."""
+    sources = [plain(text_of(it)) for it in glob.glob(f"{TOP}/crates/*/src/**/*.rt", recursive=True)]
+    for page in [it for it in pages() if os.path.basename(it) == "CALLING.md"]:
+        for block in re.findall(r"^```rust\n(.*?)^```", text_of(f"{TOP}/{page}"), re.M | re.S):
+            if not any(plain(block) in it for it in sources):
+                yield f"{page}: no source has the block that begins with {block.strip().splitlines()[0]}"
+
+
 def bad_pages():
     for page in pages():
         yield from bad_page(page)
+    yield from bad_rust()
     yield from bad_numbers()
 
 
