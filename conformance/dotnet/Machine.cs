@@ -57,6 +57,11 @@ sealed class Watch
 /// Is finalized after all others, and leaves nothing of them on the stack of the runtime's finalizer thread.
 sealed class Sweeper : CriticalFinalizerObject
 {
+    static int ran;
+
+    /// How many were finalized.
+    public static int Ran { get { return Volatile.Read(ref ran); } }
+
     [MethodImpl(MethodImplOptions.NoInlining)]
     public static void Make()
     {
@@ -66,6 +71,7 @@ sealed class Sweeper : CriticalFinalizerObject
     ~Sweeper()
     {
         World.Scrub();
+        Interlocked.Increment(ref ran);
     }
 }
 
@@ -513,6 +519,8 @@ sealed class Caller
 sealed class World
 {
     const int Cells = 1000000;
+    // How often finalizers are waited for again, at most.
+    const int MostTurns = 100;
     readonly StringBuilder text = new StringBuilder();
     readonly Node[] statics = new Node[16];
     readonly int[] board = new int[16];
@@ -750,10 +758,17 @@ sealed class World
 
     void Collect(Caller me, Command command)
     {
+        int before = Sweeper.Ran;
         Sweeper.Make();
         Scrub();
         GC.Collect(Math.Min(command.A, GC.MaxGeneration));
         GC.WaitForPendingFinalizers();
+        for (int turn = 0; turn < MostTurns && Sweeper.Ran == before; turn++)
+        {
+            // Mono's wait may end by the signal of a round of its finalizer thread that was over before.
+            Thread.Sleep(1);
+            GC.WaitForPendingFinalizers();
+        }
     }
 
     /// The report of a collection, as it is seen from outside. The array of older objects is emptied, so that it keeps none
