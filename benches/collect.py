@@ -1,7 +1,9 @@
 #!/usr/bin/env python3
-"""collect.py PROGRAM [OTHER]: what collections and lookups cost, in instructions (callgrind) and in time of the processor.
+"""collect.py PROGRAM [OLDER]: what collections and lookups cost, in instructions (callgrind) and in time of the processor.
 
-It is what a script takes more than another without them. Times are medians of some runs, of both programs in turn."""
+It is what a script takes more than another without them. Times are the least and the median of some runs of all programs in turn.
+CoreCLR's collections stand beside them where `conformance/coreclr/machine/build` made its program; it compacts in each, and times
+them itself. The status is 1 where a row costs more than is asked, or, with an older program, 3 % more than by that."""
 import os
 import re
 import statistics
@@ -12,8 +14,19 @@ import tempfile
 sys.dont_write_bytecode = True
 import scripts
 
-RUNS = 15
+sys.path.insert(0, os.path.join(os.path.dirname(os.path.abspath(__file__)), "..", "conformance", "coreclr", "machine"))
+import place
+
+RUNS = 31
 FULL = (b"tablefull", b"heapfull")
+
+# The most instructions of a row, and the most of CoreCLR's time that a collection of each generation may take.
+ASKED = {"`collect 2`, 10,000 strong handles": 1_900_000, "`collect 2`, 8,000 dependent handles of one": 2_600_000,
+         "`collect 2`, 5,000 old, strong handles": 1_700_000, "`collect 2`, 5,000 old, dependent too": 2_900_000,
+         "`collect 0`, 5,000 young": 1_500_000, "`collect 0`, 5,000 old, strong handles": 7_000,
+         "`collect 2`, chain of 4,000, worse order": 3_000_000}
+OF_CORECLR = {"young": 0.8, "collect 2": 0.8, "collect 0": 0.4}
+DEARER = 1.03
 
 
 def text_of(program, script):
@@ -25,10 +38,10 @@ def text_of(program, script):
     return done.stdout
 
 
-def instructions(program, script):
-    words = ["valgrind", "--tool=callgrind", "--callgrind-out-file=/dev/null", program, "solo"]
+def instructions(words, script):
     with open(script) as lines:
-        done = subprocess.run(words, stdin=lines, stdout=subprocess.DEVNULL, stderr=subprocess.PIPE, text=True, check=True)
+        done = subprocess.run(["valgrind", "--tool=callgrind", "--callgrind-out-file=/dev/null"] + words, stdin=lines,
+                              stdout=subprocess.DEVNULL, stderr=subprocess.PIPE, text=True, check=True)
     return int(re.search(r"Collected : (\d+)", done.stderr)[1])
 
 
@@ -40,43 +53,83 @@ def microseconds(program, script):
     return (used.ru_utime + used.ru_stime) * 1e6
 
 
-def measure(programs, row, paths):
-    """The instructions of each program, and the microseconds of each."""
-    for path in paths:
-        if len({text_of(program, path) for program in programs}) > 1:
-            sys.exit(f"the programs print different texts: {row.name}")
-    counts = [(instructions(program, paths[0]) - instructions(program, paths[1])) / row.often for program in programs]
-    if not row.timed:
-        return counts, [None] * len(programs)
-    times = [[[] for _ in paths] for _ in programs]
+def coreclr_microseconds(program, row, script):
+    """The time of the processor of one of CoreCLR's collections, as it measures it."""
+    with open(script) as lines:
+        done = subprocess.run([program, "collections", str(row.often)], stdin=lines, stdout=subprocess.PIPE, check=True)
+    return float(done.stdout)
+
+
+def counted(programs, coreclr, row, paths):
+    """The instructions of a row by each program, and by CoreCLR's."""
+    words = [[program, "solo"] for program in programs] + ([[coreclr, "collections", str(row.often)]] if coreclr else [])
+    return [(instructions(of_program, paths[0]) - instructions(of_program, paths[1])) / row.often for of_program in words]
+
+
+def timed(programs, coreclr, row, paths):
+    """The least and the median microseconds of a row by each program, and by CoreCLR's."""
+    times, theirs = [[[] for _ in paths] for _ in programs], []
     for _ in range(RUNS):
         for program, of_program in zip(programs, times):
             for path, of_path in zip(paths, of_program):
                 of_path.append(microseconds(program, path))
-    return counts, [(statistics.median(full) - statistics.median(less)) / row.often for full, less in times]
+        theirs += [coreclr_microseconds(coreclr, row, paths[0])] if coreclr else []
+    ours = [[(number(full) - number(less)) / row.often for number in (min, statistics.median)] for full, less in times]
+    return ours + ([[min(theirs), statistics.median(theirs)]] if coreclr else [])
 
 
-def show(name, counts, times):
-    written = [f"{count:,.0f}" for count in counts] + ["-" if time is None else f"{time:,.1f}" for time in times]
+def most_of_coreclr(name):
+    """How much of CoreCLR's time a row may take."""
+    return next((most for word, most in OF_CORECLR.items() if word in name), None)
+
+
+def faults(row, counts, times, has_older, has_coreclr):
+    """What of a row is not as asked."""
+    if counts[0] > ASKED.get(row.name, counts[0]):
+        yield f"{row.name}: {counts[0]:,.0f} instructions, {ASKED[row.name]:,} are asked"
+    if has_older and counts[0] > DEARER * counts[1]:
+        yield f"{row.name}: {counts[0]:,.0f} instructions, {counts[1]:,.0f} by the older program"
+    for what, ours, theirs in zip(("least", "median"), times[0], times[-1]) if has_coreclr and times else ():
+        if ours > most_of_coreclr(row.name) * theirs:
+            yield f"{row.name}: {ours:,.1f} µs are {ours / theirs:.2f} of CoreCLR's, {what} of {RUNS} runs"
+
+
+def show(name, counts, times, columns):
+    written = [f"{count:,.0f}" for count in counts] + ["-"] * (columns - len(counts))
+    written += [f"{least:,.1f}, {median:,.1f}" for least, median in times] + ["-"] * (columns - len(times))
     print("|", " | ".join([name] + written), "|", flush=True)
+
+
+def measure(programs, coreclr, row, paths):
+    """The counts of a row and its times, by each program and, where it is a row of collections alone, by CoreCLR's."""
+    for path in paths:
+        if len({text_of(program, path) for program in programs}) > 1:
+            sys.exit(f"the programs print different texts: {row.name}")
+    beside = coreclr if row.collects else None
+    return counted(programs, beside, row, paths), timed(programs, beside, row, paths) if row.timed else []
 
 
 def main(programs):
     if len(programs) not in (1, 2):
-        sys.exit("usage: collect.py PROGRAM [OTHER]")
-    names = [os.path.basename(program) for program in programs]
-    print("|", " | ".join(["what"] + [f"{what}, {name}" for what in ("instructions", "µs") for name in names]), "|")
-    print("|---" * (1 + 2 * len(programs)) + "|")
-    counted = []
+        sys.exit("usage: collect.py PROGRAM [OLDER]")
+    coreclr = place.coreclr() if os.path.exists(place.NOTE) else None
+    names = [os.path.basename(program) for program in programs] + (["CoreCLR"] if coreclr else [])
+    heads = [f"instructions, {name}" for name in names] + [f"µs, {name}: least, median" for name in names]
+    print("|", " | ".join(["what"] + heads), "|")
+    print("|---" * (1 + len(heads)) + "|")
+    wrong, between = [], []
     with tempfile.TemporaryDirectory() as folder:
         for row, paths in scripts.write_all(folder):
-            counts, times = measure(programs, row, paths)
-            show(row.name, counts, times)
-            counted += [] if row.timed else [counts]
-            if len(counted) == 2:
-                few, many = counted
-                show("each of the 100 objects between", [(more - less) / 100 for less, more in zip(few, many)], times)
-                counted = []
+            counts, times = measure(programs, coreclr, row, paths)
+            show(row.name, counts, times, len(names))
+            wrong += faults(row, counts, times, len(programs) > 1, coreclr is not None and row.collects)
+            between += [] if row.timed else [counts]
+            if len(between) == 2:
+                few, many = between
+                show("each of the 100 objects between", [(more - less) / 100 for less, more in zip(few, many)], [], len(names))
+                between = []
+    print("", *wrong, sep="\n")
+    sys.exit(1 if wrong else 0)
 
 
 if __name__ == "__main__":

@@ -14,17 +14,19 @@ MOST = 100000
 class Row(NamedTuple):
     """What is measured: a script does it so often, and one without it else does the same.
 
-    Where that one takes more memory, the difference in time is none of the collections."""
+    Where that one takes more memory, the difference in time is none of the collections. CoreCLR's program has collections alone."""
     name: str
     script: list
     without: list
     often: int
     timed: bool = True
+    collects: bool = False
 
 
 def collected(name, before, repeated, often, timed=True):
     """A collection that is the last of the repeated lines: a `drop` stands in its place in the other script."""
-    return Row(name, before + repeated * often, before + (repeated[:-1] + ["drop r15"]) * often, often, timed)
+    without = before + (repeated[:-1] + ["drop r15"]) * often
+    return Row(name, before + repeated * often, without, often, timed, not any(line.startswith("cadd") for line in before))
 
 
 def graph(objects, beside, tenth=()):

@@ -1,5 +1,5 @@
 -- Four ages in one word: what an operation does to them is tested on each word.
-use Rattle.hd_ages.proofs.Basics.{All, Bool, IsWord, [], age_in, ages_in, and_parts, ap, arith, bit_and, bit_at, bit_at-lt, bit_at_ones, bit_or, both_ways, cases_eq, cases_lt, cond, eq-eqb, eqb-true, get_or, grown, inl, inr, is_word, le-leb, leb-true, lt-leb, ltb-true, min, nat_le, not, not-true, or_cases, raised, refl, set, suc, sym, true, zero, ℕ, ⊎_elim, ◌%◌, ◌&&◌, ◌*◌, ◌+◌, ◌-◌, ◌/◌, ◌<◌, ◌==◌, ◌^◌, ◌||◌, ◌∙◌, ◌∷◌, ◌≡◌, ◌≤◌}
+use Rattle.hd_ages.proofs.Basics.{Bool, IsWord, List, [], age_in, ages_in, and_parts, ap, arith, bit_and, bit_at, bit_at-lt, bit_at_ones, bit_or, both_ways, cases_eq, cases_lt, cond, eqb-true, grown, inl, inr, is_word, le-leb, lt-leb, ltb-true, min, nat_le, not, not-true, or_cases, raised, refl, set, slice_index, suc, sym, true, zero, ℕ, ⊎_elim, ◌%◌, ◌&&◌, ◌*◌, ◌+◌, ◌-◌, ◌/◌, ◌<◌, ◌==◌, ◌^◌, ◌||◌, ◌∙◌, ◌∷◌, ◌≡◌, ◌≤◌, All, eq-eqb, get_or, leb-true}
 use Rattle.hd_model.proofs.IdleCollection.{raised_older}
 
 -- the clumps of a block
@@ -95,6 +95,26 @@ some_grown :
     ≡ true
 unfolding all_below
 some_grown = refl
+
+-- the rows of each mask of clumps
+abbrev pub clump_rows : List ℕ
+clump_rows =
+    0 ∷ 65535 ∷ 4294901760 ∷ 4294967295 ∷ 281470681743360 ∷ 281470681808895 ∷ 281474976645120
+    ∷ 281474976710655 ∷ 18446462598732840960 ∷ 18446462598732906495 ∷ 18446462603027742720
+    ∷ 18446462603027808255 ∷ 18446744069414584320 ∷ 18446744069414649855 ∷ 18446744073709486080
+    ∷ 18446744073709551615 ∷ []
+
+all_rows :
+    all_below 16 (λ m. all_below 64 (λ row. bit_at (slice_index clump_rows m) row == bit_at m (row / 16)))
+    ≡ true
+unfolding all_below
+all_rows = refl
+
+pub rows_read : (m row : ℕ) → m < 16 → row < 64
+    → bit_at (slice_index clump_rows m) row ≡ bit_at m (row / 16)
+rows_read m row few lt =
+    let test : ℕ → ℕ → Bool = λ m row. bit_at (slice_index clump_rows m) row == bit_at m (row / 16) in
+    eqb-true _ _ (of_all 64 (test m) (of_all 16 (λ m. all_below 64 (test m)) all_rows m few) row lt)
 
 one_at_least : holds_of_words (λ w c. not (bit_and w 15 == 15) || nat_le 1 (age_in w c)) ≡ true
 unfolding all_below

@@ -12,7 +12,7 @@ pub use Rattle.std.specs.Option.{ForSome}
 pub use Rattle.std.specs.Prelude.{AllPairs, Contains, IfSome, IsSome, MatchOption, nat_le, option_map, slice_index}
 pub use Rattle.hd_ages.specs.Clumps.{IsSlotOf, ages_at, clump_at, grown_at, with_ages}
 pub use Rattle.hd_ages.specs.Rows.{IsDueRow}
-pub use Rattle.hd_ages.specs.Walk.{Advances, Ends, Gives, IsHandleBlock, IsOn, IsOver, after_first, blocks_after, blocks_from, clumps_by, clumps_to_come, due_in, due_slots, slots_in, slots_of, slots_to_come}
+pub use Rattle.hd_ages.specs.Walk.{Advances, Ends, Gives, IsOn, IsOver, blocks_to_come, clumps_to_come, due_slots, slots_in, slots_of, slots_to_come}
 pub use Rattle.hd_ages.specs.Word.{IsWord, age_in, ages_in, ages_of, is_word}
 pub use Rattle.hd_ages.specs.declared.due_rows.DueRows.{DueRows}
 pub use Rattle.hd_mask.specs.Mask.{set_bits}

@@ -4,7 +4,6 @@ pub mod BlockAges
 pub mod AgeListLength
 pub mod MappedPrefixes
 pub mod ClumpBits
-pub mod ChainRest
 pub mod YoungestAge
 pub mod WalkSteps
 pub mod WalkSlots

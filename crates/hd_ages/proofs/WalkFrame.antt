@@ -1,5 +1,5 @@
 -- A walk goes on as before where rows got other contents, but the same slots are live.
-use Rattle.hd_ages.proofs.Basics.{Addr, CLUMP, DueRows, Handle, IsOn, IsSameTable, IsSome, List, None, Option, ROWS, Rewrites, Some, Table, [], ap, blocks_after, cases_eq, clumps_by, contains_key, due_clumps, filter_agree, get, has_handles, is_some, map, range_with_len, refl, set_bits, slots_of, subst, sym, ℕ, ⊎_elim, ◌*◌, ◌++◌, ◌+◌, ◌∙◌, ◌∷◌, ◌≡◌, ◌≤◌}
+use Rattle.hd_ages.proofs.Basics.{Addr, CLUMP, DueRows, Handle, IsOn, IsSameTable, IsSome, List, ROWS, Rewrites, Table, [], ap, arith, blocks_to_come, cases_eq, contains_key, due_clumps, filter_agree, get, is_some, map, range_with_len, refl, set_bits, slots_of, sym, ℕ, ⊎_elim, ◌*◌, ◌++◌, ◌+◌, ◌∙◌, ◌∷◌, ◌≡◌}
 use Rattle.hd_ages.specs.Walk.{slots_in, clumps_to_come, slots_to_come}
 
 -- the same slots of two tables are live
@@ -14,24 +14,14 @@ rewrites_live old new slot h live r = λ other.
     (λ ne. ap is_some (r.others other ne)) (cases_eq other slot)
 
 module _ (old new : Table) (same : IsSameTable old new) (ages : List ℕ) where
-  blocks_same : (o : Option ℕ) → blocks_after new o ≡ blocks_after old o
-  blocks_same None = refl
-  blocks_same (Some b) = λ i. blocks_after (record new { chains = same.chains i; uses = same.uses i })
-      (Some b)
-
   pub clumps_same : (w : DueRows) → clumps_to_come new ages w ≡ clumps_to_come old ages w
   unfolding clumps_to_come
-  clumps_same w = ap (λ bs. clumps_by w.block w.clumps ++ due_clumps ages w.n bs) (blocks_same w.block)
+  clumps_same w = λ i. due_clumps ages w.n (blocks_to_come (record new { chains = same.chains i }) w)
 
   pub on_same : (w : DueRows) → IsOn old w → IsOn new w
   on_same w on = record {
-    block = λ b e. let is = on.block b e in record {
-      handles = ap (λ uses. has_handles (get uses b)) same.uses ∙ is.handles;
-      low = is.low;
-      high = subst (λ n. b ≤ n) (sym same.blocks) is.high;
-    };
-    clumps = on.clumps;
-    first = on.first;
+    first = omega (arith, on.first, same.blocks);
+    few = omega (arith, on.few, same.blocks);
   }
 
   module _ (live : HasSameLive old new) where

@@ -1,171 +1,112 @@
--- How a walk goes on: to the first block of its chain, to the next due clump, and to the next block.
-use Rattle.hd_ages.proofs.Basics.{Advances, BlockUse, Contains, DueRows, ForSome, IfSome, IsHandleBlock, IsOver, IsTable, Kind, List, None, Option, Slot, Some, Table, [], after_first, ap, arith, blocks_after, blocks_from, chain_of, clump_at, clumps_by, due_clumps, due_in, extra_data, first_in, get, handles_of, has_handles, kind_at, kind_in, length, length-append, length-map, map, member_same, refl, set_bits, slice_get, slots_in, slots_of, subst, sym, true, ℕ, ◌++◌, ◌+◌, ◌∙◌, ◌∷◌, ◌≡◌, ◌≤◌}
-use Rattle.hd_ages.specs.Walk.{clumps_to_come, slots_to_come}
+-- How a walk goes on: from block to block of its chain, and from row to row.
+use Rattle.hd_ages.proofs.Basics.{Advances, DueRows, IsOver, Kind, List, None, Slot, Some, Table, [], ap, arith, blocks_to_come, chain_of, clump_at, clumps_of, drop, due_clumps, due_slots, filter, length, length-append, length-map, map, nat_le, refl, set_bits, slice_get, slice_index, slots_in, slots_of, suc, sym, zero, ℕ, ◌++◌, ◌+◌, ◌∙◌, ◌∷◌, ◌≡◌}
+use Rattle.std.proofs.lemmas.List.{append_assoc}
 use Rattle.hd_mask.proofs.SetBits.{set_bits-zero}
-use Rattle.hd_ages.proofs.ChainRest.{after_here, split_after, within_after, after_next}
+use Rattle.hd_ages.specs.Walk.{clumps_to_come, slots_to_come}
 
--- the kind of a block with handles
-handles_kind : (u : Option BlockUse) → has_handles u ≡ true → u ≡ Some (handles_of (kind_in u))
-handles_kind None h = cc
-handles_kind (Some (handles_of k)) h = refl
-handles_kind (Some extra_data) h = cc
+-- what is left of a list from an index on
+pub drop_here : (xs : List ℕ) (i x : ℕ) → slice_get xs i ≡ Some x → drop i xs ≡ x ∷ drop (i + 1) xs
+drop_here [] i x here = cc
+drop_here (y ∷ xs) zero x here = let e : y ≡ x = cc in λ i. e i ∷ xs
+drop_here (y ∷ xs) (suc i) x here =
+    drop_here xs i x here
+    ∙ ap (λ k. x ∷ drop k (y ∷ xs)) (let e : suc (i + 1) ≡ suc i + 1 = omega arith in e)
 
-module _ (t : Table) (is : IsTable t) where
-  kind_here : (k : Kind) (b : ℕ) → Contains (chain_of t k) b → kind_at t b ≡ k
-  kind_here k b h = ap kind_in ((is.chained k b).0 h)
+pub drop_past : (xs : List ℕ) (i : ℕ) → slice_get xs i ≡ None → drop i xs ≡ []
+drop_past [] zero past = refl
+drop_past [] (suc i) past = refl
+drop_past (y ∷ xs) zero past = cc
+drop_past (y ∷ xs) (suc i) past = drop_past xs i past
 
-  -- a block with handles is in the chain of its kind
-  chained_here : (b : ℕ) → has_handles (get t.uses b) ≡ true → Contains (chain_of t (kind_at t b)) b
-  chained_here b h = (is.chained (kind_at t b) b).1 (handles_kind (get t.uses b) h)
+slots_append : (t : Table) (cs ds : List ℕ) → slots_of t (cs ++ ds) ≡ slots_of t cs ++ slots_of t ds
+slots_append t [] ds = refl
+slots_append t (c ∷ cs) ds =
+    ap (λ xs. slots_in t c ++ xs) (slots_append t cs ds)
+    ∙ sym (append_assoc (slots_in t c) (slots_of t cs) (slots_of t ds))
 
-  -- what follows the first block of a chain, and the next one
-  first_after : (k : Kind) (b : ℕ) (rest : List ℕ) → chain_of t k ≡ b ∷ rest
-      → blocks_after t (Some b) ≡ rest
-  first_after k b rest e =
-      let inside : Contains (chain_of t k) b =
-      member_same (b ∷ rest) (chain_of t k) (sym e) b (first_in b rest) in
-      ap (λ kind. after_first b (chain_of t kind)) (kind_here k b inside)
-      ∙ ap (after_first b) e ∙ after_here b b rest refl
-
-  next_after : (b : ℕ) → (c : ℕ) (rest : List ℕ) → blocks_after t (Some b) ≡ c ∷ rest
-      → blocks_after t (Some c) ≡ rest
-  next_after b c rest e =
-      let k : Kind = kind_at t b in
-      let inside : Contains (chain_of t k) c =
-      within_after b c (chain_of t k)
-      (member_same (c ∷ rest) (blocks_after t (Some b)) (sym e) c (first_in c rest)) in
-      ap (λ kind. after_first c (chain_of t kind)) (kind_here k c inside)
-      ∙ after_next b c (chain_of t k) rest (is.once k) e
-
-  -- what the first block of some leads to, where each leads to what follows it
-  blocks_are : (bs : List ℕ) (block : Option ℕ) → block ≡ slice_get bs 0
-      → ((b : ℕ) (rest : List ℕ) → bs ≡ b ∷ rest → blocks_after t (Some b) ≡ rest) → blocks_from t block ≡ bs
-  blocks_are [] block first after = ap (blocks_from t) first
-  blocks_are (b ∷ rest) block first after =
-      ap (blocks_from t) first ∙ ap (λ xs. b ∷ xs) (after b rest refl)
-
-  pub from_first : (k : Kind) (block : Option ℕ) → block ≡ slice_get (chain_of t k) 0
-      → blocks_from t block ≡ chain_of t k
-  from_first k block first = blocks_are (chain_of t k) block first (first_after k)
-
-  pub from_next : (b : ℕ) (next : Option ℕ) → has_handles (get t.uses b) ≡ true
-      → ((from to : List ℕ) → chain_of t (kind_at t b) ≡ from ++ b ∷ to → next ≡ slice_get to 0)
-      → blocks_from t next ≡ blocks_after t (Some b)
-  from_next b next handles after =
-      let (from, split) = split_after b (chain_of t (kind_at t b)) (chained_here b handles) in
-      blocks_are (blocks_after t (Some b)) next (after from (blocks_after t (Some b)) split) (next_after b)
-
--- a block that a table gives is one with handles
-pub handle_block : (t : Table) (block : Option ℕ) (k : Kind) → IfSome block (λ b. (1 ≤ b) × (b ≤ t.blocks))
-    → IfSome block (λ b. get t.uses b ≡ Some (handles_of k)) → ForSome block (IsHandleBlock t)
-handle_block t block k within of_kind = λ b e.
-    let bounds = subst (λ o. IfSome o (λ b. (1 ≤ b) × (b ≤ t.blocks))) e within in
-    record {
-      handles = ap has_handles (subst (λ o. IfSome o (λ b. get t.uses b ≡ Some (handles_of k))) e of_kind);
-      low = bounds.0;
-      high = bounds.1;
-    }
+-- the clumps of a block that are due
+abbrev pub due_of : List ℕ → ℕ → ℕ → List ℕ
+due_of ages n b = filter (λ c. nat_le (slice_index ages c) n) (clumps_of b)
 
 module _ (t : Table) (ages : List ℕ) where
-  -- a block's due clumps are counted beside those of the blocks after it
-  pub block_counted : (block : Option ℕ) (b mask n clumps count total : ℕ) → block ≡ Some b
-      → count ≡ length (set_bits mask) → map (clump_at b) (set_bits mask) ≡ due_in ages n (Some b)
-      → clumps + length (due_clumps ages n (blocks_from t block)) ≡ total
-      → clumps + count + length (due_clumps ages n (blocks_after t (Some b))) ≡ total
-  block_counted block b mask n clumps count total here number due sum =
-      let known = ap (λ o. length (due_clumps ages n (blocks_from t o))) here in
-      let also = length-append (due_in ages n (Some b)) (due_clumps ages n (blocks_after t (Some b))) in
-      omega (arith, sum, number, known, also, ap length due, length-map (set_bits mask) (clump_at b))
-
-  clumps_are : (w : DueRows) → clumps_to_come t ages w
-      ≡ clumps_by w.block w.clumps ++ due_clumps ages w.n (blocks_after t w.block)
-  unfolding clumps_to_come
-  clumps_are w = refl
-
-  slots_are : (w : DueRows) → slots_to_come t ages w
-      ≡ map (λ row. w.first + row) (set_bits w.rows) ++ slots_of t (clumps_to_come t ages w)
-  unfolding slots_to_come
-  slots_are w = refl
-
-  -- between two clumps
+  -- between two blocks
   between : (w : DueRows) → w.rows ≡ 0 → slots_to_come t ages w ≡ slots_of t (clumps_to_come t ages w)
-  between w e = slots_are w
-      ∙ ap (λ rows. map (λ row. w.first + row) rows ++ slots_of t (clumps_to_come t ages w))
+  unfolding slots_to_come
+  between w e =
+      ap (λ rows. map (λ row. w.first + row) rows ++ slots_of t (clumps_to_come t ages w))
       (ap set_bits e ∙ set_bits-zero)
 
-  -- before the clumps of a block
-  before_block : (n : ℕ) (block : Option ℕ) (mask : ℕ) → clumps_by block mask ≡ due_in ages n block
-      → clumps_by block mask ++ due_clumps ages n (blocks_after t block)
-      ≡ due_clumps ages n (blocks_from t block)
-  before_block n None mask due = refl
-  before_block n (Some b) mask due = ap (λ xs. xs ++ due_clumps ages n (blocks_after t (Some b))) due
+  -- at the first block that may have a due clump
+  abbrev pub IsAtStart : DueRows → Type 0
+  IsAtStart w = due_clumps ages w.n (drop w.next (chain_of t w.kind)) ≡ due_clumps ages w.n (chain_of t w.kind)
 
-  pub clumps_at_start : (w : DueRows) → clumps_by w.block w.clumps ≡ due_in ages w.n w.block
-      → clumps_to_come t ages w ≡ due_clumps ages w.n (blocks_from t w.block)
-  clumps_at_start w due = clumps_are w ∙ before_block w.n w.block w.clumps due
+  pub clumps_at_start : (w : DueRows) → IsAtStart w
+      → clumps_to_come t ages w ≡ due_clumps ages w.n (chain_of t w.kind)
+  unfolding clumps_to_come
+  clumps_at_start w start = start
 
-  pub slots_at_start : (w : DueRows) → clumps_by w.block w.clumps ≡ due_in ages w.n w.block → w.rows ≡ 0
-      → slots_to_come t ages w ≡ slots_of t (due_clumps ages w.n (blocks_from t w.block))
-  slots_at_start w due none = between w none ∙ ap (slots_of t) (clumps_at_start w due)
+  pub slots_at_start : (w : DueRows) → IsAtStart w → w.rows ≡ 0
+      → slots_to_come t ages w ≡ due_slots t ages w.n w.kind
+  slots_at_start w start none = between w none ∙ ap (slots_of t) (clumps_at_start w start)
 
   -- the end
-  pub over : (w : DueRows) → w.block ≡ None → w.rows ≡ 0 → IsOver t ages w
+  pub over : (w : DueRows) → slice_get (chain_of t w.kind) w.next ≡ None → w.rows ≡ 0 → IsOver t ages w
+  unfolding clumps_to_come
   over w end none =
-      let clumps : clumps_to_come t ages w ≡ [] = clumps_are w
-      ∙ ap (λ o. clumps_by o w.clumps ++ due_clumps ages w.n (blocks_after t o)) end in
+      let clumps : clumps_to_come t ages w ≡ [] =
+      ap (due_clumps ages w.n) (drop_past (chain_of t w.kind) w.next end) in
       record { slots = between w none ∙ ap (slots_of t) clumps; clumps = clumps }
 
-  -- on to the next due clump of the block
-  pub new_clump : (old new : DueRows) (b clump before after : ℕ) → after ≡ before + 1 → old.block ≡ Some b
-      → old.rows ≡ 0 → set_bits old.clumps ≡ clump ∷ set_bits new.clumps → new.block ≡ old.block
-      → new.n ≡ old.n → map (λ row. new.first + row) (set_bits new.rows) ≡ slots_in t (clump_at b clump)
-      → Advances t ages old new before after
-  new_clump old new b clump before after more here none bits block n rows =
-      let rest : List ℕ = due_clumps ages old.n (blocks_after t old.block) in
-      let left : clumps_to_come t ages new ≡ map (clump_at b) (set_bits new.clumps) ++ rest =
-      clumps_are new
-      ∙ (λ i. clumps_by (block i) new.clumps ++ due_clumps ages (n i) (blocks_after t (block i)))
-      ∙ ap (λ o. clumps_by o new.clumps ++ rest) here in
-      let whole : clumps_to_come t ages old ≡ clump_at b clump ∷ clumps_to_come t ages new =
-      clumps_are old ∙ ap (λ o. clumps_by o old.clumps ++ rest) here
-      ∙ ap (λ xs. map (clump_at b) xs ++ rest) bits
-      ∙ ap (λ xs. clump_at b clump ∷ xs) (sym left) in
-      record {
-        slots = slots_are new ∙ ap (λ xs. xs ++ slots_of t (clumps_to_come t ages new)) rows
-            ∙ ap (slots_of t) (sym whole) ∙ sym (between old none);
-        steps = omega (arith, ap length whole);
-        less = omega (arith, ap length whole, ap (λ o. length (blocks_from t o)) block);
-      }
-
   -- on to the next block of the chain
-  pub new_block : IsTable t → (old new : DueRows) (b before : ℕ) (next : Option ℕ) → old.block ≡ Some b
-      → has_handles (get t.uses b) ≡ true → old.rows ≡ 0 → set_bits old.clumps ≡ []
-      → new ≡ record old { block = next; clumps = new.clumps }
-      → clumps_by next new.clumps ≡ due_in ages old.n next
-      → ((from to : List ℕ) → chain_of t (kind_at t b) ≡ from ++ b ∷ to → next ≡ slice_get to 0)
-      → Advances t ages old new before before
-  new_block is old new b before next here handles none bits same due after =
-      let bs : List ℕ = blocks_after t (Some b) in
-      let onward : blocks_from t next ≡ bs = from_next t is b next handles after in
-      let old_clumps : clumps_to_come t ages old ≡ due_clumps ages old.n bs =
-      clumps_are old ∙ ap (λ o. clumps_by o old.clumps ++ due_clumps ages old.n (blocks_after t o)) here
-      ∙ ap (λ xs. map (clump_at b) xs ++ due_clumps ages old.n bs) bits in
-      let new_clumps : clumps_to_come t ages new ≡ due_clumps ages old.n bs =
-      clumps_are new
-      ∙ (λ i. clumps_by (same i).block new.clumps ++ due_clumps ages (same i).n
-      (blocks_after t (same i).block))
-      ∙ before_block old.n next new.clumps due ∙ ap (due_clumps ages old.n) onward in
-      let clumps : clumps_to_come t ages new ≡ clumps_to_come t ages old = new_clumps ∙ sym old_clumps in
-      let new_none : new.rows ≡ 0 = ap (λ (w : DueRows). w.rows) same ∙ none in
-      let less = ap length onward in
-      record {
-        slots = between new new_none ∙ ap (slots_of t) clumps ∙ sym (between old none);
-        steps = ap (λ xs. before + length xs) clumps;
-        less = (let known = ap (λ (w : DueRows). length (blocks_from t w.block)) same in
-            omega (arith, less, ap length clumps, known, ap (λ o. length (blocks_from t o)) here));
-      }
+  module _ (old new : DueRows) (b : ℕ) (here : slice_get (chain_of t old.kind) old.next ≡ Some b)
+      (kind : new.kind ≡ old.kind) (n : new.n ≡ old.n) (next : new.next ≡ old.next + 1) where
+    rest_is : blocks_to_come t new ≡ drop (old.next + 1) (chain_of t old.kind)
+    rest_is = λ i. drop (next i) (chain_of t (kind i))
 
-module _ (t : Table) (ages : List ℕ) where
+    blocks_are : blocks_to_come t old ≡ b ∷ blocks_to_come t new
+    blocks_are = drop_here (chain_of t old.kind) old.next b here ∙ ap (λ bs. b ∷ bs) (sym rest_is)
+
+    clumps_are : clumps_to_come t ages old ≡ due_of ages old.n b ++ clumps_to_come t ages new
+    unfolding clumps_to_come
+    clumps_are =
+        ap (due_clumps ages old.n) blocks_are
+        ∙ ap (λ m. due_of ages old.n b ++ due_clumps ages m (blocks_to_come t new)) (sym n)
+
+    pub new_block : (before after : ℕ) → old.rows ≡ 0
+        → map (λ row. new.first + row) (set_bits new.rows) ≡ slots_of t (due_of ages old.n b)
+        → after ≡ before + length (due_of ages old.n b) → Advances t ages old new before after
+    unfolding slots_to_come
+    new_block before after none rows counted = record {
+      slots = ap (λ xs. xs ++ slots_of t (clumps_to_come t ages new)) rows
+          ∙ sym (slots_append t (due_of ages old.n b) (clumps_to_come t ages new))
+          ∙ ap (slots_of t) (sym clumps_are) ∙ sym (between old none);
+      steps = omega (
+        arith,
+        counted,
+        ap length clumps_are,
+        length-append (due_of ages old.n b) (clumps_to_come t ages new),
+      );
+      less = omega (arith, ap length blocks_are);
+    }
+
+  -- the due clumps of a block are counted beside those of the blocks after it
+  pub block_counted : (k : Kind) (place b mask n clumps count total : ℕ)
+      → slice_get (chain_of t k) place ≡ Some b → count ≡ length (set_bits mask)
+      → map (clump_at b) (set_bits mask) ≡ due_of ages n b
+      → clumps + length (due_clumps ages n (drop place (chain_of t k))) ≡ total
+      → clumps + count + length (due_clumps ages n (drop (place + 1) (chain_of t k))) ≡ total
+  block_counted k place b mask n clumps count total here number due sum =
+      let rest : List ℕ = due_clumps ages n (drop (place + 1) (chain_of t k)) in
+      omega (
+        arith,
+        sum,
+        number,
+        ap length due,
+        length-map (set_bits mask) (clump_at b),
+        ap (λ bs. length (due_clumps ages n bs)) (drop_here (chain_of t k) place b here),
+        length-append (due_of ages n b) rest,
+      )
+
   -- a row is the first left to visit
   pub gives : (old new : DueRows) (slot : Slot) → new ≡ record old { rows = new.rows }
       → map (λ row. old.first + row) (set_bits old.rows)
@@ -175,10 +116,9 @@ module _ (t : Table) (ages : List ℕ) where
   gives old new slot same rows =
       ap (λ xs. xs ++ slots_of t (clumps_to_come t ages old)) rows
       ∙ ap (λ (w : DueRows). slot.0 ∷ (map (λ row. w.first + row) (set_bits new.rows)
-      ++ slots_of t (clumps_by w.block w.clumps ++ due_clumps ages w.n (blocks_after t w.block)))) (sym same)
+      ++ slots_of t (due_clumps ages w.n (blocks_to_come t w)))) (sym same)
 
   pub same_clumps : (old new : DueRows) → new ≡ record old { rows = new.rows }
       → clumps_to_come t ages new ≡ clumps_to_come t ages old
   unfolding clumps_to_come
-  same_clumps old new same =
-      ap (λ (w : DueRows). clumps_by w.block w.clumps ++ due_clumps ages w.n (blocks_after t w.block)) same
+  same_clumps old new same = ap (λ (w : DueRows). due_clumps ages w.n (blocks_to_come t w)) same

@@ -1,18 +1,18 @@
-ghost use Rattle.std.specs.Prelude.{◌≡◌, ◌≢◌, ℕ, ◌+◌, ◌*◌, ◌<◌, ◌≤◌, ◌∷◌, length, drop, map};
+ghost use Rattle.std.specs.Prelude.{◌≡◌, ◌≢◌, ℕ, ◌+◌, ◌*◌, ◌<◌, ◌≤◌, ◌^◌, ◌∷◌, drop, length, map};
 ghost use Rattle.std.specs.Prelude.{MatchOption, IfNone};
-ghost use Rattle.std.specs.Int.{bit_at};
-ghost use Rattle.std.specs.Option.{ForSome};
 ghost use Rattle.hd_mask.specs.Mask.{set_bits};
 ghost use Rattle.hd_model.specs.Ages.{due_clumps};
 ghost use Rattle.hd_model.specs.Table.{IsTable, chain_of};
 ghost use Rattle.hd_model.specs.Visits.{visits_of};
-ghost use Rattle.hd_ages.specs.Clumps.{CoversTable, clump_at};
-ghost use Rattle.hd_ages.specs.Walk.{IsHandleBlock, IsOn, Advances, IsOver, Ends, Gives};
-ghost use Rattle.hd_ages.specs.Walk.{blocks_from, clumps_by, due_in, clumps_to_come, slots_in, slots_to_come, due_slots};
+ghost use Rattle.hd_model.specs.declared.data.Kind.{Kind as KindValue};
+ghost use Rattle.hd_ages.specs.Clumps.{CoversTable};
+ghost use Rattle.hd_ages.specs.Walk.{IsOn, Advances, IsOver, Ends, Gives};
+ghost use Rattle.hd_ages.specs.Walk.{clumps_to_come, slots_to_come, due_slots};
 
 use crate::age_map::AgeMap;
+use crate::word::rows_of;
 use hd_mask::{count, lowest, take_lowest};
-use hd_model::limits::{BLOCKS, CLUMP, CLUMPS, ROWS};
+use hd_model::limits::{BLOCKS, CLUMPS, ROWS};
 use hd_model::{Kind, Slot, Steps};
 use hd_seg::Seg;
 use std::sync::ledger::Ledger;
@@ -22,15 +22,14 @@ use std::sync::ledger::Ledger;
 /// Rows may get other targets and extras while a walk is under way. None may come or go.
 #[derive(Clone, Copy)]
 pub struct DueRows {
-    // The generation that is collected.
+    // The kind of the rows, and the generation that is collected.
+    kind: Kind,
     n: u8,
-    // The block that the walk is at, or none after the last.
-    block: Option<u32>,
-    // The due clumps of the block that are still to be visited, as a mask.
-    clumps: u64,
-    // The first slot of the clump that the walk is at.
+    // The chain index of the block after the one that the walk is at.
+    next: u32,
+    // The first slot of the block that the walk is at.
     first: u32,
-    // The live rows of the clump that are still to be visited, as a mask.
+    // The live rows of its due clumps that are still to be visited, as a mask.
     rows: u64,
 }
 
@@ -46,18 +45,17 @@ impl DueRows {
             ≡ due_clumps ages.now n (chain_of seg.now kind) }
         ensures table { IsTable seg.now }
     {
-        let mut walk = DueRows {
+        DueRows {
+            kind,
             n,
-            block: None,
-            clumps: 0,
+            next: first_due(seg, ages, n),
             first: 0,
             rows: 0,
-        };
-        walk.go_to(first_due(seg, ages, kind, n), ages);
-        walk
+        }
     }
 
     /// The next row. The table may have other rows than when the walk began, but in the same slots.
+    #[inline(always)]
     pub fn next<L: Ledger>(
         &mut self,
         seg: &Seg,
@@ -78,21 +76,7 @@ impl DueRows {
         Some(self.take_row())
     }
 
-    // Moves to a block, before its due clumps. None is the end of a chain.
-    fn go_to(&mut self, block: Option<u32>, ages: &AgeMap)
-        requires { ForSome block (λ b. (1 ≤ b) × (CLUMPS * b ≤ length ages.now)) }
-        ensures after { self.new ≡ record self.old { block = block; clumps = self.new.clumps } }
-        ensures due { clumps_by block self.new.clumps ≡ due_in ages.now self.old.n block }
-        ensures small { (i : ℕ) → CLUMPS ≤ i → bit_at self.new.clumps i ≡ 0 }
-    {
-        self.block = block;
-        self.clumps = match block {
-            Some(block) => u64::from(ages.due(block, self.n)),
-            None => 0,
-        };
-    }
-
-    // Moves to the next due clump of the block, which is a step, or else to the next block.
+    // Moves to the next block of the chain: each of its due clumps is a step.
     fn advance<L: Ledger>(&mut self, seg: &Seg, ages: &AgeMap, steps: &mut Steps<L>) -> Option<()>
         requires on { IsOn seg.now self.old }
         requires blocks { CoversTable ages.now seg.now }
@@ -103,40 +87,19 @@ impl DueRows {
         ensures kept { IfNone result (self.new ≡ self.old) }
         ensures unmoved { IfNone result (steps.new ≡ steps.old) }
     {
-        let block = self.block?;
-        match lowest(self.clumps) {
-            Some(clump) => {
-                self.enter(seg, block, clump);
-                steps.tick();
-            }
-            None => self.go_to(seg.after(block), ages),
-        }
+        let block = seg.block_at(self.kind, self.next)?;
+        let due = ages.due(block, self.n);
+        self.next += 1;
+        self.first = ROWS * block;
+        self.rows = rows_of(due) & seg.live_rows(block);
+        tick_each(due, steps);
         Some(())
     }
 
-    // Moves to the rows of the lowest clump that is still to be visited.
-    fn enter(&mut self, seg: &Seg, block: u32, clump: u32)
-        requires low { 1 ≤ block }
-        requires high { block ≤ seg.now.blocks }
-        requires clump { clump < CLUMPS }
-        ensures block { self.new.block ≡ self.old.block }
-        ensures n { self.new.n ≡ self.old.n }
-        ensures first { self.new.first ≡ ROWS * block + CLUMP * clump }
-        ensures clumps { set_bits self.new.clumps ≡ drop 1 (set_bits self.old.clumps) }
-        ensures fewer { (i : ℕ) → bit_at self.new.clumps i ≤ bit_at self.old.clumps i }
-        ensures rows { map (λ row. ROWS * block + CLUMP * clump + row) (set_bits self.new.rows)
-            ≡ slots_in seg.now (clump_at block clump) }
-        ensures table { IsTable seg.now }
-    {
-        self.clumps = take_lowest(self.clumps, 1).1;
-        self.rows = u64::from(seg.clump(block, clump));
-        self.first = ROWS * block + CLUMP * clump;
-    }
-
-    // Takes the lowest row of the clump that is still to be visited.
+    // Takes the lowest row that is still to be visited.
     fn take_row(&mut self) -> Slot
         requires some { self.old.rows ≢ 0 }
-        requires first { self.old.first ≤ ROWS * (BLOCKS + 1) }
+        requires first { self.old.first ≤ ROWS * BLOCKS }
         ensures after { self.new ≡ record self.old { rows = self.new.rows } }
         ensures rows { map (λ row. self.old.first + row) (set_bits self.old.rows)
             ≡ result.0 ∷ map (λ row. self.old.first + row) (set_bits self.new.rows) }
@@ -147,16 +110,28 @@ impl DueRows {
     }
 }
 
-// The first block of a chain, or none where a collection of generation `n` has no clump to visit.
-fn first_due(seg: &Seg, ages: &AgeMap, kind: Kind, n: u8) -> Option<u32>
+// A step for each clump of a mask.
+fn tick_each<L: Ledger>(clumps: u8, steps: &mut Steps<L>)
+    ensures { steps.new ≡ steps.old + length (set_bits clumps) }
+{
+    for _clump in 0..count(u64::from(clumps)) {
+        steps.tick();
+    }
+}
+
+// The chain index of the first block that a walk looks at: past the end of each chain where a
+// collection of generation `n` has no clump to visit.
+fn first_due(seg: &Seg, ages: &AgeMap, n: u8) -> u32
     requires { CoversTable ages.now seg.now }
-    ensures clumps { due_clumps ages.now n (blocks_from seg.now result)
+    ensures clumps { (kind : KindValue) →
+        due_clumps ages.now n (drop result (chain_of seg.now kind))
         ≡ due_clumps ages.now n (chain_of seg.now kind) }
-    ensures handles { ForSome result (IsHandleBlock seg.now) }
+    ensures few { result ≤ BLOCKS }
     ensures table { IsTable seg.now }
 {
-    let first = seg.first(kind);
-    if ages.may_be_due(n) { first } else { None }
+    // The read brings what holds of every table.
+    let _given = seg.given();
+    if ages.may_be_due(n) { 0 } else { BLOCKS }
 }
 
 /// The number of clumps that a walk over the rows of a kind visits. It looks at no row.
@@ -166,10 +141,22 @@ pub fn count_due(seg: &Seg, ages: &AgeMap, kind: Kind, n: u8) -> u32
     ensures few { result ≤ CLUMPS * BLOCKS }
 {
     let mut clumps = 0;
-    let mut block = first_due(seg, ages, kind, n);
-    while let Some(at) = block {
-        clumps += count(u64::from(ages.due(at, n)));
-        block = seg.after(at);
+    let mut place = first_due(seg, ages, n);
+    while let Some(block) = seg.block_at(kind, place) {
+        clumps += count(u64::from(ages.due(block, n)));
+        place += 1;
     }
     clumps
+}
+
+/// Makes a step for each clump that a walk over the rows of a kind visits, and looks at no row.
+pub fn pass_due<L: Ledger>(seg: &Seg, ages: &AgeMap, kind: Kind, n: u8, steps: &mut Steps<L>)
+    requires blocks { CoversTable ages.now seg.now }
+    ensures { steps.new ≡ steps.old + visits_of seg.now ages.now n kind }
+{
+    let mut place = first_due(seg, ages, n);
+    while let Some(block) = seg.block_at(kind, place) {
+        tick_each(ages.due(block, n), steps);
+        place += 1;
+    }
 }

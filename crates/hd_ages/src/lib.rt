@@ -13,4 +13,4 @@ mod due_rows;
 mod word;
 
 pub use age_map::AgeMap;
-pub use due_rows::{DueRows, count_due};
+pub use due_rows::{DueRows, count_due, pass_due};

@@ -1,12 +1,12 @@
 // The four ages of a block in one word. Bit `c` is set if clump `c` is of age 1 or more, and bit
 // `c + 4` if it is of age 2.
 
-ghost use Rattle.std.specs.Prelude.{◌≡◌, ℕ, ◌<◌, ◌≤◌, ◌^◌, All, cond, nat_le, min, slice_set};
+ghost use Rattle.std.specs.Prelude.{◌≡◌, ℕ, ◌<◌, ◌≤◌, ◌/◌, ◌^◌, cond, nat_le, min, slice_set, All};
 ghost use Rattle.std.specs.Int.{bit_at};
 ghost use Rattle.hd_ages.specs.Word.{IsWord, age_in, ages_in};
 ghost use Rattle.hd_model.specs.Ages.{grown};
 
-use hd_model::limits::{CLUMPS, OLDEST};
+use hd_model::limits::{CLUMP, CLUMPS, OLDEST, ROWS};
 
 /// The word of four ages of 2.
 pub(crate) const ALL_OLDEST: u8 = 0xff;
@@ -22,6 +22,26 @@ const AGE: u8 = 0x11;
 
 // The bit that is set if clump 0 is of age 2.
 const OLD: u8 = 0x10;
+
+// The rows of each mask of clumps.
+const CLUMP_ROWS: [u64; 16] = [
+    0,
+    0xffff,
+    0xffff_0000,
+    0xffff_ffff,
+    0xffff_0000_0000,
+    0xffff_0000_ffff,
+    0xffff_ffff_0000,
+    0xffff_ffff_ffff,
+    0xffff_0000_0000_0000,
+    0xffff_0000_0000_ffff,
+    0xffff_0000_ffff_0000,
+    0xffff_0000_ffff_ffff,
+    0xffff_ffff_0000_0000,
+    0xffff_ffff_0000_ffff,
+    0xffff_ffff_ffff_0000,
+    0xffff_ffff_ffff_ffff,
+];
 
 /// The age of a clump.
 pub(crate) fn age(word: u8, clump: u32) -> u8
@@ -60,6 +80,15 @@ pub(crate) fn due(word: u8, n: u8) -> u8
         1 => !(word >> TWO) & SOME,
         _ => SOME,
     }
+}
+
+/// The rows of the clumps of a mask, as a mask of their block.
+#[tactic(auto, using(crate::proofs::AgeWord::rows_read))]
+pub(crate) fn rows_of(clumps: u8) -> u64
+    requires { clumps < 2 ^ CLUMPS }
+    ensures { (row : ℕ) → row < ROWS → bit_at result row ≡ bit_at clumps (row / CLUMP) }
+{
+    CLUMP_ROWS[clumps as usize]
 }
 
 /// The word after each age up to `n` was raised by one, at most to 2.

@@ -1,5 +1,5 @@
 -- Lemmas on the writes into a region's cells: what callers see after each.
-use Rattle.hd_cells.proofs.Basics.{Bool, CELLS, Contents, FIELDS, HEADER, IsBody, IsGap, IsLaid, IsLaidOut, IsObject, IsTiled, IsWhole, List, NONE, None, Object, PARTS, REGISTERED, [], ap, arith, cases_eq, cell, cond, contents_of, count_at, drop, empty_region, ended, ext_get_or, extent_at, false, fields_at, get_or, get_or-drop, get_or-replicate, get_or-set_other, get_or-set_same, get_or-take, inl, inr, le-leb, leb, length, length-drop, length-replicate, length-set, length-take, lt-leb, nat_cmp, nat_cmp_total, new_object, object_at, objects_of, refl, replicate, set, subst, sym, take, true, with_field, with_object, with_put, with_registered, with_value, without_object, ℕ, ◌%◌, ◌++◌, ◌+◌, ◌<◌, ◌^◌, ◌∙◌, ◌∷◌, ◌≡◌, ◌≢◌, ◌≤◌}
+use Rattle.hd_cells.proofs.Basics.{Bool, CELLS, Contents, FIELDS, HEADER, HoldsObject, IsBody, IsGap, IsLaid, IsLaidOut, IsObject, IsTiled, IsWhole, List, NONE, None, Object, PARTS, REGISTERED, [], ap, arith, cases_eq, cell, cond, contents_of, count_at, drop, empty_region, ended, ext_get_or, extent_at, false, fields_at, get_or, get_or-drop, get_or-replicate, get_or-set_other, get_or-set_same, get_or-take, inl, inr, le-leb, leb, length, length-drop, length-replicate, length-set, length-take, lt-leb, nat_cmp, nat_cmp_total, new_object, object_at, objects_of, refl, replicate, set, size_of, subst, sym, take, true, with_field, with_object, with_put, with_registered, with_value, without_object, ℕ, ◌%◌, ◌++◌, ◌+◌, ◌<◌, ◌^◌, ◌∙◌, ◌∷◌, ◌≡◌, ◌≢◌, ◌≤◌}
 use Rattle.hd_cells.specs.Cells.{object_in}
 use Rattle.hd_cells.proofs.RegionTiles.{extent_at-body, extent_at-gap, same_fields, longer_tiling, none_beyond, as_gap}
 use Rattle.hd_cells.proofs.Contents.{laid_region, laid_contents, get-objects, held, IsRead, changed_region, rewritten_region, empty_laid_out}
@@ -223,17 +223,42 @@ cells_new c d fill id n s room long lengths cleared kept =
       ];
     }
 
--- an object put at the allocation pointer
-module _ {c : List ℕ} {fill : ℕ} {r : Contents} (read : IsRead c fill r) where
-  put_at_fill : (d : List ℕ) (id n : ℕ) (on : Bool) (s : ℕ) → id ≢ 0 → n ≤ FIELDS → fill + n + HEADER ≤ CELLS
-      → s ≡ cond on (n + REGISTERED) n → IsNew c d fill id n s → IsRead d (fill + n + HEADER)
-      (with_put (contents_of c fill) (new_object id n on))
-  unfolding object_in
-  put_at_fill d id n on s identified few room is_shape put =
-      let laid = read.region in
-      let parts = shape_parts n on s (omega arith) is_shape in
-      let count : count_at d fill ≡ n = ap (λ (x : ℕ). x % REGISTERED) put.shape ∙ parts.0 in
-      let new : IsBody d fill = record {
+-- an object stands from the allocation pointer on, and all before is as it was
+pub record IsPutAt (c d : List ℕ) (fill : ℕ) (o : Object) : Type 0 where
+  pub lengths : length d ≡ length c
+  pub before : (k : ℕ) → k < fill → cell d k ≡ cell c k
+  pub is_body : IsBody d fill
+  pub count : count_at d fill ≡ length o.fields
+  pub is : object_in d fill ≡ o
+
+-- a new object
+pub new_put : {c d : List ℕ} {fill id n s : ℕ} (on : Bool) → length c ≡ CELLS → id ≢ 0 → n ≤ FIELDS
+    → fill + n + HEADER ≤ CELLS → s ≡ cond on (n + REGISTERED) n → IsNew c d fill id n s
+    → IsPutAt c d fill (new_object id n on)
+unfolding object_in
+new_put {c} {d} {fill} {id} {n} {s} on long identified few room is_shape put =
+    let parts = shape_parts n on s (omega arith) is_shape in
+    let count : count_at d fill ≡ n = ap (λ (x : ℕ). x % REGISTERED) put.shape ∙ parts.0 in
+    let zero_here : ℕ = 0 in
+    let fields : take (count_at d fill) (drop (fill + HEADER) d) ≡ replicate n zero_here =
+    let lengths : length (take (count_at d fill) (drop (fill + HEADER) d)) ≡ length (replicate n zero_here)
+    =
+    (let known = length-take (count_at d fill) (drop (fill + HEADER) d) in
+    let also = length-replicate n zero_here in
+    omega (arith, known, length-drop (fill + HEADER) d, also, put.lengths, long, count, room)) in
+    ext_get_or 0 _ _ lengths (λ i short.
+    let inside : i < n = omega (arith, short, length-take (count_at d fill) (drop (fill + HEADER) d), count)
+    in
+    get_or-take (count_at d fill) (drop (fill + HEADER) d) i 0 (omega (arith, inside, count))
+    ∙ get_or-drop (fill + HEADER) d i 0 ∙ put.nulls (fill + HEADER + i) (omega arith)
+    (omega (arith, inside))
+    ∙ sym (get_or-replicate n i zero_here 0 inside)) in
+    let values = put.nulls (fill + 2) (omega arith) (omega arith) in
+    let flags : leb REGISTERED (cell d (fill + 1)) ≡ on = ap (leb REGISTERED) put.shape ∙ parts.2 in
+    record {
+      lengths = put.lengths;
+      before = put.before;
+      is_body = record {
         identified = λ e. identified (sym put.first ∙ e);
         shaped = rw put.shape parts.1;
         few_fields = rw count few;
@@ -241,62 +266,83 @@ module _ {c : List ℕ} {fill : ℕ} {r : Contents} (read : IsRead c fill r) whe
           arith,
           put.nulls (fill + HEADER + i) (omega arith) (omega (arith, below, count)),
         );
-      } in
-      let reach = extent_at-body new in
-      let zero_here : ℕ = 0 in
-      let fields : take (count_at d fill) (drop (fill + HEADER) d) ≡ replicate n zero_here =
-      let lengths : length (take (count_at d fill) (drop (fill + HEADER) d)) ≡ length (replicate n zero_here)
-      =
-      (let known = length-take (count_at d fill) (drop (fill + HEADER) d) in
-      let also = length-replicate n zero_here in
-      omega (arith, known, length-drop (fill + HEADER) d, also, put.lengths, read.len, count, room)) in
-      ext_get_or 0 _ _ lengths (λ i short.
-      let inside : i < n = omega (arith, short, length-take (count_at d fill) (drop (fill + HEADER) d), count)
-      in
-      get_or-take (count_at d fill) (drop (fill + HEADER) d) i 0 (omega (arith, inside, count))
-      ∙ get_or-drop (fill + HEADER) d i 0 ∙ put.nulls (fill + HEADER + i) (omega arith)
-      (omega (arith, inside))
-      ∙ sym (get_or-replicate n i zero_here 0 inside)) in
-      let values = put.nulls (fill + 2) (omega arith) (omega arith) in
-      let flags : leb REGISTERED (cell d (fill + 1)) ≡ on = ap (leb REGISTERED) put.shape ∙ parts.2 in
-      let object : object_in d fill ≡ new_object id n on = λ i. record {
-        identity = put.first i;
+      };
+      count = count ∙ sym (length-replicate n zero_here);
+      is = λ i. record { identity = put.first i; fields = fields i; value = values i; registered = flags i };
+    }
+
+-- a copy of an object
+pub copy_put : {c d xs : List ℕ} {fill : ℕ} {o : Object} → length c ≡ CELLS → length d ≡ CELLS
+    → HoldsObject xs o → fill + size_of o ≤ CELLS
+    → ((k : ℕ) → fill + k < fill + size_of o → cell d (fill + k) ≡ cell xs k)
+    → ((k : ℕ) → k < fill → cell d k ≡ cell c k) → IsPutAt c d fill o
+unfolding object_in
+copy_put {c} {d} {xs} {fill} {o} long lengths held room copied kept =
+    let first : cell d fill ≡ cell xs 0 = ap (cell d) (omega arith) ∙ copied 0 (omega arith) in
+    let shape = copied 1 (omega arith) in
+    let count : count_at d fill ≡ length o.fields = ap (λ (x : ℕ). x % REGISTERED) shape ∙ held.count in
+    let field : (i : ℕ) → i < length o.fields → cell d (fill + HEADER + i) ≡ cell xs (HEADER + i) =
+    λ i below. ap (cell d) (omega arith) ∙ copied (HEADER + i) (omega arith) in
+    let fields : take (count_at d fill) (drop (fill + HEADER) d) ≡ o.fields =
+    let lengths : length (take (count_at d fill) (drop (fill + HEADER) d)) ≡ length o.fields =
+    (let known = length-take (count_at d fill) (drop (fill + HEADER) d) in
+    omega (arith, known, length-drop (fill + HEADER) d, lengths, count, room)) in
+    ext_get_or 0 _ _ lengths (λ i short.
+    let inside : i < length o.fields = omega (arith, short, lengths) in
+    get_or-take (count_at d fill) (drop (fill + HEADER) d) i 0 (omega (arith, inside, count))
+    ∙ get_or-drop (fill + HEADER) d i 0 ∙ field i inside ∙ held.field i inside) in
+    record {
+      lengths = lengths ∙ sym long;
+      before = kept;
+      is_body = record {
+        identified = λ e. held.identified (sym held.identity ∙ sym first ∙ e);
+        shaped = rw shape held.shaped;
+        few_fields = rw count held.few_fields;
+        addresses = λ i below. omega (
+          arith,
+          field i (omega (arith, below, count)),
+          held.addresses i (omega (arith, below, count)),
+        );
+      };
+      count = count;
+      is = λ i. record {
+        identity = (first ∙ held.identity) i;
         fields = fields i;
-        value = values i;
-        registered = flags i;
-      } in
-      let longer = longer_tiling laid.tiled d put.lengths (λ k low below. put.before k below) new in
-      let end : fill + extent_at d fill ≡ fill + n + HEADER = omega (arith, reach, count) in
+        value = (copied 2 (omega arith) ∙ held.value) i;
+        registered = (ap (leb REGISTERED) shape ∙ held.registered) i;
+      };
+    }
+
+-- an object put at the allocation pointer
+module _ {c : List ℕ} {fill : ℕ} {r : Contents} (read : IsRead c fill r) where
+  put_at_fill : {d : List ℕ} {o : Object} → fill + size_of o ≤ CELLS → IsPutAt c d fill o
+      → IsRead d (fill + size_of o) (with_put (contents_of c fill) o)
+  put_at_fill {d} {o} room put =
+      let laid = read.region in
+      let reach = extent_at-body put.is_body in
+      let count = put.count in
+      let longer = longer_tiling laid.tiled d put.lengths (λ k low below. put.before k below) put.is_body in
+      let end : fill + extent_at d fill ≡ fill + size_of o = omega (arith, reach, count) in
       let P : ℕ → Type 0 = λ m. IsTiled d m 0 (objects_of c fill ++ (fill, object_in d fill) ∷ []) in
-      let now : IsLaid d (fill + n + HEADER) (objects_of c fill ++ (fill, object_in d fill) ∷ []) =
+      let now : IsLaid d (fill + size_of o) (objects_of c fill ++ (fill, object_in d fill) ∷ []) =
       record { tiled = subst P end longer; within = room } in
       let absent : map.find nat_cmp fill (objects_of c fill) ≡ None =
       none_beyond laid.tiled fill (omega arith) in
       let maps : map.from_entries (objects_of c fill ++ (fill, object_in d fill) ∷ []) ≡ map.insert
-      (contents_of c fill).objects fill (new_object id n on) =
+      (contents_of c fill).objects fill o =
       map.from_entries_push nat_cmp_total map.nat_cmp-IsAntisymmetric (objects_of c fill) fill
-      (object_in d fill) absent ∙ (λ i. map.insert (contents_of c fill).objects fill (object i)) in
-      let seen = laid_contents now (map.insert (contents_of c fill).objects fill (new_object id n on)) maps in
-      let size : fill + n + HEADER ≡ fill + (length (replicate n zero_here) + HEADER) =
-      omega (arith, length-replicate n zero_here) in
+      (object_in d fill) absent ∙ ap (map.insert (contents_of c fill).objects fill) put.is in
       record {
         len = put.lengths ∙ read.len;
         region = laid_region now;
-        view = seen
-            ∙ (λ i. record {
-              objects = map.insert (contents_of c fill).objects fill (new_object id n on);
-              fill = size i;
-            });
+        view = laid_contents now (map.insert (contents_of c fill).objects fill o) maps;
       }
 
-  pub object_put : (d : List ℕ) (id n : ℕ) (on : Bool) (s : ℕ) → id ≢ 0 → n ≤ FIELDS
-      → r.fill + n + HEADER ≤ CELLS
-      → s ≡ cond on (n + REGISTERED) n → IsNew c d fill id n s
-      → IsRead d (fill + n + HEADER) (with_put r (new_object id n on))
-  object_put d id n on s identified few room is_shape put =
-      let P : Contents → Type 0 = λ x. x.fill + n + HEADER ≤ CELLS
-      → IsRead d (fill + n + HEADER) (with_put x (new_object id n on)) in
-      subst P read.view (λ fits. put_at_fill d id n on s identified few fits is_shape put) room
+  pub object_put : {d : List ℕ} {o : Object} → r.fill + size_of o ≤ CELLS → IsPutAt c d fill o
+      → IsRead d (fill + size_of o) (with_put r o)
+  object_put {d} {o} room put =
+      let P : Contents → Type 0 = λ x. x.fill + size_of o ≤ CELLS → IsRead d (fill + size_of o) (with_put x o) in
+      subst P read.view (λ fits. put_at_fill fits put) room
 
   -- no object is where the next one is put
   pub get-fill : map.get r.objects fill ≡ None

@@ -1,7 +1,7 @@
 -- Lemmas on what callers see of a region's cells.
 use Rattle.hd_cells.proofs.Basics.{CELLS, Contents, HEADER, HoldsObject, IsBody, IsLaid, IsLaidOut, IsObject, IsRegion, IsWhole, List, None, Object, Option, PARTS, REGISTERED, Some, [], ap, arith, both_ways, cell, cond, contents_of, count_at, drop, empty_region, eq_by_cmp, extent_at, fields_at, get_or, get_or-drop, get_or-take, is_some, leb, length, length-drop, length-take, nat_cmp, nat_cmp_total, no_object, object_at, objects_of, refl, subst, suc, sym, take, true, unwrap_or, with_object, zero, ℕ, ◌%◌, ◌+◌, ◌-◌, ◌<◌, ◌^◌, ◌∙◌, ◌∷◌, ◌≡◌, ◌≤◌}
 use Rattle.std.proofs.lemmas.List.Elements.{All-from_get_or}
-use Rattle.hd_cells.specs.{Cells.object_in, declared.region.Region.TheInside.Inside}
+use Rattle.hd_cells.specs.{Cells.object_in}
 use Rattle.hd_cells.proofs.RegionTiles.{extent_at-body, tiling_read, found, found_apart, IsTile, as_body, changed_tiling}
 use Rattle.std.specs.FinMap as map
 
@@ -121,6 +121,7 @@ module _ {c : List ℕ} {fill : ℕ} {r : Contents} (read : IsRead c fill r) whe
         long = omega (arith, h.count, h.high, h.within, read.len, length-drop at c);
         identity = get_or-drop at c 0 0 ∙ ap (cell c) (none at) ∙ sym h.identity;
         identified = λ e. b.identified (sym h.identity ∙ e);
+        shaped = rw shape b.shaped;
         count = ap (λ n. n % REGISTERED) shape ∙ sym h.count;
         few_fields = omega (arith, h.count, b.few_fields);
         registered = ap (leb REGISTERED) shape ∙ sym h.registered;

@@ -104,6 +104,7 @@ pub record HoldsObject (cells : List ℕ) (o : Object) : Type 0 where
   pub long : length o.fields + HEADER ≤ length cells
   pub identity : cell cells 0 ≡ o.identity
   pub identified : o.identity ≢ 0
+  pub shaped : cell cells SHAPE < 2 * REGISTERED
   pub count : cell cells SHAPE % REGISTERED ≡ length o.fields
   pub few_fields : length o.fields ≤ FIELDS
   pub registered : nat_le REGISTERED (cell cells SHAPE) ≡ o.registered

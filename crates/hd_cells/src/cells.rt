@@ -1,6 +1,6 @@
 // The cells of a region: the parts of an object, and the cells that an object or gap takes.
 
-ghost use Rattle.std.specs.Prelude.{◌≡◌, ℕ, ◌+◌, ◌/◌, ◌<◌, ◌≤◌, if◌then◌else◌, slice_index};
+ghost use Rattle.std.specs.Prelude.{◌≡◌, ℕ, ◌+◌, ◌/◌, ◌<◌, ◌≤◌, if◌then◌else◌, length, slice_index};
 ghost use Rattle.hd_cells.specs.Cells.{extent_at, IsReached, IsFirstIn};
 
 /// The number of cells of a region.
@@ -63,6 +63,23 @@ pub(crate) fn clear(cells: &mut [u64; CELLS], from: usize, to: usize)
 {
     for k in from..to {
         cells[k] = 0;
+    }
+}
+
+/// Copies an object of this number of fields into the cells from an offset on.
+pub(crate) fn copy(object: &[u64], cells: &mut [u64; CELLS], at: usize, fields: usize)
+    requires room { at + HEADER + fields ≤ CELLS }
+    requires source { HEADER + fields ≤ length object.now }
+    ensures copied { (k : ℕ) → k < HEADER + fields →
+        slice_index cells.new (at + k) ≡ slice_index object.now k }
+    ensures before { (k : ℕ) → k < at → slice_index cells.new k ≡ slice_index cells.old k }
+{
+    // Most objects have few fields: their header is copied without a loop.
+    cells[at] = object[0];
+    cells[at + SHAPE] = object[SHAPE];
+    cells[at + VALUE] = object[VALUE];
+    for i in 0..fields {
+        cells[at + HEADER + i] = object[HEADER + i];
     }
 }
 

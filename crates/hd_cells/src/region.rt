@@ -1,7 +1,7 @@
 // A region, seen by its callers as a map from offset to object and an allocation pointer.
 ghost use Rattle.std.specs.Prelude.{◌≡◌, ◌≢◌, ◌↔◌, ◌+◌, ◌<◌, ◌≤◌, IsTrue, length, slice_index};
 ghost use Rattle.std.specs.FinMap as map;
-ghost use Rattle.hd_cells.specs.Object.{new_object, with_field, with_registered, with_value};
+ghost use Rattle.hd_cells.specs.Object.{new_object, size_of, with_field, with_registered, with_value};
 ghost use Rattle.hd_cells.specs.Region.{empty_region, IsFirstFrom, IsLaidOut, IsObject};
 ghost use Rattle.hd_cells.specs.Region.{fields_at, object_at, with_object, with_put};
 ghost use Rattle.hd_cells.specs.Region.{without_object};
@@ -9,7 +9,7 @@ ghost use Rattle.hd_cells.specs.Headers.{IsEnd, IsHeader, IsHeaderFrom};
 ghost use Rattle.hd_cells.specs.Cells.{HoldsObject};
 
 use crate::cells::{
-    CELLS, FIELDS, HEADER, NONE, PARTS, REGISTERED, SHAPE, VALUE, clear, extent, first_from,
+    CELLS, FIELDS, HEADER, NONE, PARTS, REGISTERED, SHAPE, VALUE, clear, copy, extent, first_from,
     no_starts, part_of, shape,
 };
 use std::marker::Model;
@@ -28,7 +28,7 @@ pub struct Region {
 #[derive(Clone, Copy, Debug, PartialEq, Eq)]
 pub struct Header {
     pub at: u32,
-    pub fields: u8,
+    pub fields: u32,
     pub registered: bool,
 }
 
@@ -95,6 +95,28 @@ impl Region {
         clear(&mut self.cells, at as usize + HEADER, end as usize);
         self.starts[part_of(at as usize)] = at as u8;
         self.fill = end;
+        at
+    }
+
+    /// Puts a copy of an object of another region after all others, and returns its offset.
+    pub fn put_copy(&mut self, source: &Region, from: u32) -> u32
+        requires object { IsObject source.now from }
+        requires room { self.old.fill + size_of (object_at source.now from) ≤ CELLS }
+        ensures offset { result ≡ self.old.fill }
+        ensures was_free { map.get self.old.objects result ≡ None }
+        ensures put { self.new ≡ with_put self.old (object_at source.now from) }
+        ensures laid_out { IsLaidOut self.new }
+    {
+        let at = self.fill;
+        let fields = source.fields(from);
+        copy(
+            source.object(from),
+            &mut self.cells,
+            at as usize,
+            fields as usize,
+        );
+        self.starts[part_of(at as usize)] = at as u8;
+        self.fill = at + fields + HEADER as u32;
         at
     }
 
@@ -228,17 +250,29 @@ impl Region {
 
     /// The first object at or after `end`, and what its header says. `end` is 0, or where another
     /// object ends. Takes time by the gaps between them.
+    #[inline(always)]
     pub fn object_from(&self, end: u32) -> Option<Header>
         requires { IsEnd self.now end }
         ensures { IsHeaderFrom self.now end result }
     {
-        match first_from(&self.cells, self.fill, end as usize, end as usize) {
-            Some(at) => Some(self.header(at)),
-            None => None,
+        if end < self.fill && self.cells[end as usize] != 0 {
+            return Some(self.header(end));
         }
+        let at = self.object_past(end)?;
+        Some(self.header(at))
+    }
+
+    /// Its offset alone. Out of line, since there is mostly no gap where an object ends.
+    #[inline(never)]
+    fn object_past(&self, end: u32) -> Option<u32>
+        requires { IsEnd self.now end }
+        ensures { IsFirstFrom self.now end result }
+    {
+        first_from(&self.cells, self.fill, end as usize, end as usize)
     }
 
     /// What the header of the object at `at` says.
+    #[inline(always)]
     fn header(&self, at: u32) -> Header
         requires { IsObject self.now at }
         ensures { IsHeader self.now at result }
@@ -246,7 +280,7 @@ impl Region {
         let shape = self.object(at)[SHAPE];
         Header {
             at,
-            fields: (shape % REGISTERED) as u8,
+            fields: (shape % REGISTERED) as u32,
             registered: shape >= REGISTERED,
         }
     }

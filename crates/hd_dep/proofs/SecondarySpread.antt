@@ -1,7 +1,6 @@
 -- One pass of a rescan: what it promotes, and when there is nothing to promote.
-use Rattle.hd_dep.proofs.Basics.{Addr, Bool, DueRows, Ends, Gained, Gives, Grows, HasParts, IsEdge, IsFollowed, IsOn, IsSome, IsSpread, IsSpreadRow, IsTable, IsUnderway, IsYoungField, Leads, List, MatchBool, Objects, Option, Slot, Some, Spreads, Table, and_parts, ap, begins, chain_of, clumps_to_come, due_clumps, due_slots, extra_again, false, get, goes_on, inl, inr, length, live_at, live_row, not, not-true, option_map, refl, row_at, same_Some, secondary_of, slots_to_come, subst, sym, true, ℕ, ⊎_elim, ◌&&◌, ◌+◌, ◌||◌, ◌∙◌, ◌≡◌}
+use Rattle.hd_dep.proofs.Basics.{Addr, Bool, DueRows, Ends, Gained, Gives, Grows, HasParts, IsEdge, IsFollowed, IsOn, IsSome, IsSpread, IsSpreadRow, IsTable, IsUnderway, IsYoungField, Leads, List, MatchBool, Objects, Slot, Some, Spreads, Table, and_parts, ap, begins, chain_of, clumps_to_come, due_clumps, due_slots, false, get, goes_on, inl, inr, length, live_at, live_row, not, not-true, refl, row_at, slots_to_come, subst, sym, true, ℕ, ⊎_elim, ◌&&◌, ◌+◌, ◌||◌, ◌∙◌, ◌≡◌}
 use Rattle.hd_model.proofs.EdgeChains.{one_edge, leads_on}
-use Rattle.hd_seg.specs.{Row.extra_of, Row.row_of, declared.row.Row.Row}
 use Rattle.hd_dep.proofs.DueHandles.{attaches_by, OfPast, none_past, past_more, past_all}
 use Rattle.hd_model.specs.declared.data.Kind.TheVariants as kind
 

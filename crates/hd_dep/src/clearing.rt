@@ -14,6 +14,8 @@ use std::sync::ledger::Ledger;
 
 /// Clears each dependent handle whose target is not promoted: it loses its target and its
 /// secondary. A due clump is one step. Returns the number of handles that were cleared.
+/// Out of line, since its loop is faster where its registers are its own.
+#[inline(never)]
 pub fn clear<M: Marker, L: Ledger>(
     seg: &mut Seg,
     ages: &AgeMap,
@@ -56,9 +58,7 @@ fn clear_row<M: Marker>(seg: &mut Seg, slot: Slot, marker: &M) -> bool
     ensures lost { let handle = live_at seg.old slot.0 in
         result ≡ is_lost (M.promoted marker.now) handle.target }
 {
-    let Some(row) = seg.row(slot) else {
-        return false;
-    };
+    let row = seg.row_by(slot, true);
     let lost = is_lost(row.target, marker);
     if lost {
         let cleared = Row {

@@ -62,6 +62,8 @@ impl DependentIndex {
 /// Each object that was promoted since the pass began is then looked up once among them, by a
 /// binary search. The order of the handles does not matter. Each visit is one step, and a look-up
 /// is none.
+/// Out of line, since its loops are faster where their registers are their own.
+#[inline(never)]
 pub fn follow<M: PromotionLog, L: Ledger>(
     seg: &Seg,
     ages: &AgeMap,

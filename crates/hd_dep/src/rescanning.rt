@@ -93,13 +93,14 @@ fn spread_row<M: Marker>(seg: &Seg, slot: Slot, marker: &mut M) -> bool
     true
 }
 
-/// The target and the secondary of a live handle that has both.
+/// The target and the secondary of a live dependent handle that has both.
 pub(crate) fn parts(seg: &Seg, slot: Slot) -> Option<(Addr, Addr)>
-    requires { IsSome (get seg.now.rows slot.0) }
+    requires live { IsSome (get seg.now.rows slot.0) }
+    requires of_kind { (live_at seg.now slot.0).kind ≡ kind.Dependent }
     ensures both { IfSome result (λ parts. HasParts (live_at seg.now slot.0) parts.0 parts.1) }
     ensures none { IfNone result ((x y : Addr) → HasParts (live_at seg.now slot.0) x y → ⊥) }
 {
-    let row = seg.row(slot)?;
+    let row = seg.row_by(slot, true);
     let target = row.target?;
     match row.extra {
         Extra::Secondary(Some(secondary)) => Some((target, secondary)),

@@ -1,33 +1,20 @@
 -- The walk that finds who joins, one condemned object after another.
-use Rattle.hd_final.proofs.Basics.{Addr, AllPairs, Bool, Contains, Contains-append_left, Contains-get_or, Contains-push, Contains-push_cases, Heap, Id, IsFound, IsNext, IsOut, Joiner, List, None, Object, Option, Some, [], and_from, and_parts, ap, arith, both_ways, cases_Bool, false, generation_in, get_or, has_object, id_at, inl, inr, is_after, is_condemned, is_some, le-leb, le-ltb, leb-true, len, length, length-map, length_push, ltb-false, ltb-true, map_push, mapped_from, not, not-true, not_from_false, object_at, object_in, placed_at, places, region_generation, region_of, same_address, subst, sym, true, true≢false, ℕ, ⊎_elim, ◌&&◌, ◌++◌, ◌+◌, ◌-◌, ◌<◌, ◌^◌, ◌∙◌, ◌∷◌, ◌≡◌, ◌≢◌, ◌≤◌, ◌⊎◌}
-use Rattle.std.proofs.{lemmas.Option.same_Some, lemmas.List.Quantifiers.all_pairs_push}
-use Rattle.hd_final.proofs.ObjectLookup.{object_there, few_differ}
-
--- what was found up to an address of the walk: objects outside p with their identities, each once, and all
--- that are not after the address
-pub record IsFoundUpTo (h : Heap) (n : ℕ) (p : Addr → Bool) (after : Option Addr) (js : List Joiner) : Type 0
-  where
-    pub once : AllPairs (λ x y. x ≢ y) (places js)
-    pub outside : (j : Joiner) → Contains js j → IsOut (object_at h) n p j.at
-    pub identified : (j : Joiner) → Contains js j → j.id ≡ id_at h j.at
-    pub passed : (j : Joiner) → Contains js j → is_after after j.at ≡ false
-    pub all : (a : Addr) → IsOut (object_at h) n p a → is_after after a ≡ false → Contains (places js) a
-
--- the addresses after one of the walk
-abbrev pub left_of : Option Addr → ℕ
-left_of None = 2 ^ 32 + 1
-left_of (Some a) = 2 ^ 32 - a.0
+use Rattle.hd_final.proofs.Basics.{Addr, AllPairs, Bool, Contains, Contains-append_left, Contains-get_or, Contains-push, Contains-push_cases, Heap, Id, IsFinding, IsFound, IsOut, Joiner, List, None, Object, Option, REGION, [], and_from, and_parts, ap, arith, both_ways, false, generation_in, get_or, has_object, id_at, inl, inr, is_condemned, is_in_use, is_some, le-leb, leb-true, len, length, length-map, length_push, map_push, mapped_from, not, not-true, not_from_false, not_in_none, object_at, object_in, placed_at, places, region_generation, same_address, subst, sym, true, zero, suc, ℕ, ⊎_elim, ◌&&◌, ◌*◌, ◌++◌, ◌+◌, ◌<◌, ◌∙◌, ◌∷◌, ◌≡◌, ◌≢◌, ◌≤◌, ◌⊎◌}
+use Rattle.std.proofs.{lemmas.Bool.cases_lt, lemmas.Option.same_Some, lemmas.List.Quantifiers.all_pairs_push}
+use Rattle.hd_heap.proofs.NextObjects.{IsNextFrom, end_later, generation_is, next_from, none_inside, none_left}
+use Rattle.hd_heap.specs.{Calls.IsFirstIn, Calls.IsFirstObject, Calls.IsNextRegion, Walks.end_in, declared.condemned.ObjectHeader.ObjectHeader}
+use Rattle.hd_heap.specs.Sound.{IsSound}
+use Rattle.hd_model.specs.Heap.{region_of}
+use Rattle.hd_final.proofs.ObjectLookup.{id_there, object_there, few_differ}
 
 -- whether an object is registered and outside a set
 abbrev pub is_out : Heap → (Addr → Bool) → Addr → Bool
 is_out h p a = (placed_at h a).registered && not (p a)
 
--- what a walk has passed lies before what it returns next
-passed_on : (after : Option Addr) (at b : Addr) → is_after after at ≡ true → is_after after b ≡ false
-    → b.0 < at.0
-passed_on None at b e f = absurd (true≢false f)
-passed_on (Some s) at b e f =
-    let up = ltb-true s.0 at.0 e in let low = ltb-false s.0 b.0 f in omega arith
+-- where the first region begins that was not come to: none was before region 1
+abbrev pub end_past : ℕ → ℕ
+end_past zero = 0
+end_past (suc k) = (suc k + 1) * REGION
 
 module _ (h : Heap) (n : ℕ) (p : Addr → Bool) where
   out_condemned : (a : Addr) → IsOut (object_at h) n p a → is_condemned h n a ≡ true
@@ -54,90 +41,211 @@ module _ (h : Heap) (n : ℕ) (p : Addr → Bool) where
       ap (λ (o : Object Addr). o.registered) (same_Some _ _ (sym is_stored ∙ out.is_stored)) in
       and_from _ _ (same ∙ out.registered) (not_from_false _ out.out)
 
-  -- where none is after it, all are found
-  pub found_all : (after : Option Addr) (js : List Joiner) → IsFoundUpTo h n p after js
-      → ((a : Addr) → is_condemned h n a ≡ true → is_after after a ≡ false) → IsFound h n p js
-  found_all after js found none = record {
-    once = found.once;
-    outside = found.outside;
-    identified = found.identified;
-    all = λ a out. found.all a out (none a (out_condemned a out));
+  -- where no object is registered, nobody joins
+  pub found_none : ((a : Addr) → has_object h a ≡ true → (placed_at h a).registered ≡ false)
+      → IsFound h n p []
+  found_none none = record {
+    once = λ i j d low high. absurd (omega (arith, high));
+    outside = λ j k. absurd (not_in_none j k);
+    identified = λ j k. absurd (not_in_none j k);
+    all = λ a out. absurd
+        (both_ways _ (none a (ap is_some out.is_stored)) (and_parts _ _ (out_is a out)).0);
   }
 
-  module _ (after : Option Addr) (js : List Joiner) (at : Addr) (found : IsFoundUpTo h n p after js)
-      (next : IsNext (is_condemned h n) after at) where
-    -- each one found so far is before it
-    before : (j : Joiner) → Contains js j → j.at.0 < at.0
-    before j k = passed_on after at j.at next.beyond (found.passed j k)
+  -- none was found below address 0
+  pub finding_start : IsFinding h n p 0 []
+  finding_start = record {
+    once = λ i j d low high. absurd (omega (arith, high));
+    outside = λ j k. absurd (not_in_none j k);
+    identified = λ j k. absurd (not_in_none j k);
+    below = λ j k. absurd (not_in_none j k);
+    all = λ a out low. absurd (omega (arith, low));
+  }
 
-    passed_now : (b : Addr) → b.0 ≤ at.0 → is_after (Some at) b ≡ false
-    passed_now b low = le-ltb at.0 b.0 low
-
-    -- one outside that is not after it was found, or it is this one
-    known : (a : Addr) → IsOut (object_at h) n p a → is_after (Some at) a ≡ false
-        → Contains (places js) a ⊎ (a ≡ at)
-    known a out not_beyond =
-        ⊎_elim
-        (λ beyond. let low = ltb-false at.0 a.0 not_beyond in
-        let high = next.least a (out_condemned a out) beyond in
-        inr (same_address a at (omega arith)))
-        (λ passed. inl (found.all a out passed)) (cases_Bool (is_after after a))
-
-    differs : (a : Addr) → Contains (places js) a → a ≢ at
-    differs a k same =
-        let (j, rest) = mapped_from (λ (j : Joiner). j.at) js a k in
-        let low = before j rest.0 in
-        let e : j.at.0 ≡ at.0 = ap (λ (b : Addr). b.0) (rest.1 ∙ same) in absurd (omega arith)
-
-    once_more : AllPairs (λ x y. x ≢ y) (places js ++ at ∷ [])
-    once_more =
-        all_pairs_push (λ x y. x ≢ y) (places js) at found.once
-        (λ k d low. differs (get_or (places js) k d) (Contains-get_or (places js) k d low))
-
-    -- there is room for one more
-    pub found_room : length js < len h.objects
-    found_room =
-        let few : length (places js ++ at ∷ []) ≤ len h.objects =
-        few_differ h (places js ++ at ∷ []) once_more
-        (λ a k. ⊎_elim (λ early.
-        let (j, rest) = mapped_from (λ (j : Joiner). j.at) js a early in
-        subst (λ b. has_object h b ≡ true) rest.1 (ap is_some (found.outside j rest.0).is_stored))
-        (λ same. subst (λ b. has_object h b ≡ true) same (and_parts _ _ next.member).0)
-        (Contains-push_cases (places js) at a k)) in
-        omega (arith, few, length_push (places js) at, length-map js (λ (j : Joiner). j.at))
-
-    pub found_more : (id : Id) → id ≡ id_at h at → is_out h p at ≡ true
-        → IsFoundUpTo h n p (Some at) (js ++ record { id = id; at = at } ∷ [])
-    found_more id identity out =
-        let new : Joiner = record { id = id; at = at } in
-        let joined : places (js ++ new ∷ []) ≡ places js ++ at ∷ [] =
-        map_push (λ (j : Joiner). j.at) js new in
-        record {
-          once = subst (λ xs. AllPairs (λ x y. x ≢ y) xs) (sym joined) once_more;
-          outside = λ j k. ⊎_elim (λ early. found.outside j early)
-              (λ same. subst (λ (i : Joiner). IsOut (object_at h) n p i.at) same
-              (out_from at next.member out))
-              (Contains-push_cases js new j k);
-          identified = λ j k. ⊎_elim (λ early. found.identified j early)
-              (λ same. subst (λ (i : Joiner). i.id ≡ id_at h i.at) same identity)
-              (Contains-push_cases js new j k);
-          passed = λ j k. passed_now j.at (⊎_elim (λ early. let low = before j early in omega arith)
-              (λ same. let e = ap (λ (i : Joiner). i.at.0) same in omega arith)
-              (Contains-push_cases js new j k));
-          all = λ a is not_beyond. subst (λ xs. Contains xs a) (sym joined)
-              (⊎_elim (λ early. Contains-append_left (places js) (at ∷ []) a early)
-              (λ same. subst (λ b. Contains (places js ++ at ∷ []) b) (sym same)
-              (Contains-push (places js) at))
-              (known a is not_beyond));
-        }
-
-    pub found_past : is_out h p at ≡ false → IsFoundUpTo h n p (Some at) js
-    found_past inside = record {
+  module _ {bound : ℕ} {js : List Joiner} (found : IsFinding h n p bound js) where
+    -- where none is condemned from there on, all are found
+    pub found_all : ((a : Addr) → is_condemned h n a ≡ true → a.0 < bound) → IsFound h n p js
+    found_all low = record {
       once = found.once;
       outside = found.outside;
       identified = found.identified;
-      passed = λ j k. passed_now j.at (let low = before j k in omega arith);
-      all = λ a is not_beyond. ⊎_elim (λ early. early)
-          (λ same. absurd (both_ways _ inside (out_is at (subst (λ b. IsOut (object_at h) n p b) same is))))
-          (known a is not_beyond);
+      all = λ a out. found.all a out (low a (out_condemned a out));
     }
+
+    -- none is condemned between two addresses
+    pub finding_past : (later : ℕ) → bound ≤ later
+        → ((a : Addr) → is_condemned h n a ≡ true → bound ≤ a.0 → later ≤ a.0)
+        → IsFinding h n p later js
+    finding_past later up none = record {
+      once = found.once;
+      outside = found.outside;
+      identified = found.identified;
+      below = λ j k. let low = found.below j k in omega (arith, low, up);
+      all = λ a out low. ⊎_elim (λ early. found.all a out early)
+          (λ from. absurd (let high = none a (out_condemned a out) from in omega (arith, high, low)))
+          (cases_lt a.0 bound);
+    }
+
+    module _ {at : Addr} (next : IsNextFrom h n bound at) where
+      before : (j : Joiner) → Contains js j → j.at.0 < at.0
+      before j k = let low = found.below j k in let from = next.from in omega (arith, low, from)
+
+      -- one outside that is not after it was found, or it is this one
+      known : (a : Addr) → IsOut (object_at h) n p a → a.0 < at.0 + 1 → Contains (places js) a ⊎ (a ≡ at)
+      known a out low =
+          ⊎_elim (λ early. inl (found.all a out early))
+          (λ from. let high = next.least a (out_condemned a out) from in
+          inr (same_address a at (omega (arith, high, low))))
+          (cases_lt a.0 bound)
+
+      differs : (a : Addr) → Contains (places js) a → a ≢ at
+      differs a k same =
+          let (j, rest) = mapped_from (λ (j : Joiner). j.at) js a k in
+          let low = before j rest.0 in
+          let e : j.at.0 ≡ at.0 = ap (λ (b : Addr). b.0) (rest.1 ∙ same) in absurd (omega arith)
+
+      once_more : AllPairs (λ x y. x ≢ y) (places js ++ at ∷ [])
+      once_more =
+          all_pairs_push (λ x y. x ≢ y) (places js) at found.once
+          (λ k d low. differs (get_or (places js) k d) (Contains-get_or (places js) k d low))
+
+      -- there is room for one more
+      pub found_room : length js < len h.objects
+      found_room =
+          let few : length (places js ++ at ∷ []) ≤ len h.objects =
+          few_differ h (places js ++ at ∷ []) once_more
+          (λ a k. ⊎_elim (λ early.
+          let (j, rest) = mapped_from (λ (j : Joiner). j.at) js a early in
+          subst (λ b. has_object h b ≡ true) rest.1 (ap is_some (found.outside j rest.0).is_stored))
+          (λ same. subst (λ b. has_object h b ≡ true) same (and_parts _ _ next.member).0)
+          (Contains-push_cases (places js) at a k)) in
+          omega (arith, few, length_push (places js) at, length-map js (λ (j : Joiner). j.at))
+
+      pub found_more : (id : Id) → id ≡ id_at h at → is_out h p at ≡ true
+          → IsFinding h n p (at.0 + 1) (js ++ record { id = id; at = at } ∷ [])
+      found_more id identity out =
+          let new : Joiner = record { id = id; at = at } in
+          let joined : places (js ++ new ∷ []) ≡ places js ++ at ∷ [] =
+          map_push (λ (j : Joiner). j.at) js new in
+          record {
+            once = subst (λ xs. AllPairs (λ x y. x ≢ y) xs) (sym joined) once_more;
+            outside = λ j k. ⊎_elim (λ early. found.outside j early)
+                (λ same. subst (λ (i : Joiner). IsOut (object_at h) n p i.at) same
+                (out_from at next.member out))
+                (Contains-push_cases js new j k);
+            identified = λ j k. ⊎_elim (λ early. found.identified j early)
+                (λ same. subst (λ (i : Joiner). i.id ≡ id_at h i.at) same identity)
+                (Contains-push_cases js new j k);
+            below = λ j k. ⊎_elim (λ early. let low = before j early in omega (arith, low))
+                (λ same. let e = ap (λ (i : Joiner). i.at.0) same in omega (arith, e))
+                (Contains-push_cases js new j k);
+            all = λ a is low. subst (λ xs. Contains xs a) (sym joined)
+                (⊎_elim (λ early. Contains-append_left (places js) (at ∷ []) a early)
+                (λ same. subst (λ b. Contains (places js ++ at ∷ []) b) (sym same)
+                (Contains-push (places js) at))
+                (known a is low));
+          }
+
+      pub found_past : is_out h p at ≡ false → IsFinding h n p (at.0 + 1) js
+      found_past inside = record {
+        once = found.once;
+        outside = found.outside;
+        identified = found.identified;
+        below = λ j k. let low = before j k in omega (arith, low);
+        all = λ a is low. ⊎_elim (λ early. early)
+            (λ same. absurd
+            (both_ways _ inside (out_is at (subst (λ b. IsOut (object_at h) n p b) same is))))
+            (known a is low);
+      }
+
+-- ---- in a region
+
+-- what a walk returns, of the heap and the region that it is known to go over
+pub first_here : {h k : Heap} {r s end : ℕ} {o : ObjectHeader} → h ≡ k → r ≡ s → IsFirstObject h r end o
+    → IsFirstObject k s end o
+first_here {k = k} {r = r} {end = end} {o = o} same one is =
+    subst (λ (x : ℕ). IsFirstObject k x end o) one (subst (λ (x : Heap). IsFirstObject x r end o) same is)
+
+pub none_here : {h k : Heap} {r s : ℕ} (end : ℕ) → h ≡ k → r ≡ s → IsFirstIn h r end None
+    → IsFirstIn k s end None
+none_here {k = k} {r = r} end same one is =
+    subst (λ (x : ℕ). IsFirstIn k x end None) one (subst (λ (x : Heap). IsFirstIn x r end None) same is)
+
+module _ (h : Heap) (n : ℕ) (p : Addr → Bool) (sound : IsSound h) {r : ℕ} (young : region_generation h r ≤ n)
+    {end : ℕ} {js : List Joiner} (found : IsFinding h n p (r * REGION + end) js) where
+  module _ {o : ObjectHeader} (is : IsFirstObject h r end o) where
+    pub room_here : length js < len h.objects
+    room_here = found_room h n p found (next_from h n sound young is)
+
+    -- the next object of the region joins, or not
+    module _ {past : ℕ} (past_is : past ≡ end_in r o) where
+      pub joins_here : (id : Id) → id ≡ (placed_at h o.at).id → is_out h p o.at ≡ true → (more : List Joiner)
+          → more ≡ js ++ record { id = id; at = o.at } ∷ [] → IsFinding h n p (r * REGION + past) more
+      joins_here id same out more more_is =
+          subst (λ (k : ℕ). IsFinding h n p (r * REGION + k) more) (sym past_is)
+          (subst (λ (ks : List Joiner). IsFinding h n p (r * REGION + end_in r o) ks) (sym more_is)
+          (finding_past h n p
+          (found_more h n p found (next_from h n sound young is) id
+          (same ∙ sym {A = Id} (id_there h o.at is.object)) out) (r * REGION + end_in r o)
+          (end_later h n sound young is).1 (none_inside h n sound young is)))
+
+      pub passes_here : is_out h p o.at ≡ false → IsFinding h n p (r * REGION + past) js
+      passes_here inside =
+          subst (λ (k : ℕ). IsFinding h n p (r * REGION + k) js) (sym past_is)
+          (finding_past h n p (found_past h n p found (next_from h n sound young is) inside)
+          (r * REGION + end_in r o) (end_later h n sound young is).1 (none_inside h n sound young is))
+
+  -- and there are no more
+  pub region_found : end ≤ REGION → IsFirstIn h r end None → IsFinding h n p ((r + 1) * REGION) js
+  region_found within none =
+      finding_past h n p found ((r + 1) * REGION) (omega (arith, within)) (none_left h n r end none)
+
+-- ---- region by region
+
+pub next_later : (after r : ℕ) → after < r → end_past after ≤ r * REGION
+next_later zero r less = omega arith
+next_later (suc k) r less = omega (arith, less)
+
+pub end_of : (r : ℕ) → 0 < r → (r + 1) * REGION ≡ end_past r
+end_of zero some = absurd (omega (arith, some))
+end_of (suc k) some = omega arith
+
+module _ (h : Heap) (n : ℕ) (sound : IsSound h) where
+  -- what is condemned is in a region from 1 on
+  low_region : (a : Addr) → is_condemned h n a ≡ true → 0 < region_of a
+  low_region a condemned = (sound.numbers (region_of a) (sound.held a (and_parts _ _ condemned).0)).0
+
+  -- between the regions that were come to and the next one none is condemned
+  pub none_between : (after r : ℕ) → IsNextRegion h n after r → (a : Addr) → is_condemned h n a ≡ true
+      → end_past after ≤ a.0 → r * REGION ≤ a.0
+  unfolding region_of
+  none_between after r next a condemned from =
+      let low = next.least a condemned (by after (low_region a condemned) from) in
+      within low
+    where
+      by : (k : ℕ) → 0 < region_of a → end_past k ≤ a.0 → k < region_of a
+      by zero some up = some
+      by (suc k) some up = omega (arith, up)
+
+      within : r ≤ region_of a → r * REGION ≤ a.0
+      within low = omega (arith, low)
+
+  -- after the last such region none is condemned
+  pub none_later : (after : ℕ) → ((a : Addr) → is_condemned h n a ≡ true → region_of a ≤ after)
+      → (a : Addr) → is_condemned h n a ≡ true → a.0 < end_past after
+  unfolding region_of
+  none_later after last a condemned = by after (low_region a condemned) (last a condemned)
+    where
+      by : (k : ℕ) → 0 < region_of a → region_of a ≤ k → a.0 < end_past k
+      by zero some low = absurd (omega (arith, some, low))
+      by (suc k) some low = omega (arith, low)
+
+  -- the next such region is in use, and young
+  pub next_held : (after r : ℕ) → IsNextRegion h n after r
+      → (is_in_use h r ≡ true) × (region_generation h r ≤ n)
+  next_held after r next =
+      let (there, young) = and_parts _ _ next.member in (
+        subst (λ k. is_in_use h k ≡ true) next.region (sound.held next.at there),
+        subst (λ k. region_generation h k ≤ n) next.region
+            (let same = generation_is h next.at there in let low = leb-true _ _ young in omega (arith, same, low)),
+      )

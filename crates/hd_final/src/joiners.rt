@@ -1,14 +1,15 @@
 // The objects that join the queue in one collection: all are found before any is promoted, since
 // what one leads to joins too.
-ghost use Rattle.std.specs.Prelude.{◌≡◌, ◌+◌, ◌≤◌, ◌++◌, true, length, Contains, not, ◌&&◌, vec_len, vec_capacity, IfSome};
+ghost use Rattle.std.specs.Prelude.{◌≡◌, ◌+◌, ◌*◌, ◌≤◌, ◌++◌, true, length, Contains, not, ◌&&◌, vec_len, vec_capacity};
 ghost use Rattle.std.specs.FinMap as map;
 ghost use Rattle.std.specs.{List.Sorted.IsPermutation, List.Sorted.IsNonDecreasingBy, VecDeque.deque_len, VecDeque.deque_capacity};
-ghost use Rattle.hd_model.specs.Heap.{Basis, has_object, objects_of, placed_at};
+ghost use Rattle.hd_model.specs.declared.limits.TheConstants.{REGION};
+ghost use Rattle.hd_model.specs.Heap.{Basis, has_object, is_in_use, objects_of, placed_at, region_generation};
+ghost use Rattle.hd_heap.specs.Sound.{IsSound};
 ghost use Rattle.hd_model.specs.{Leads.Grows, Scene.is_object, Scene.IsYoungField};
-ghost use Rattle.hd_heap.specs.Calls.{AreSurveyed};
-ghost use Rattle.hd_final.specs.{declared.joiners.Joiner.Joiner as JoinerValue, Joiners.IsFound, Joiners.places};
+ghost use Rattle.hd_final.specs.{declared.joiners.Joiner.Joiner as JoinerValue, Joiners.IsFinding, Joiners.IsFound, Joiners.places};
 
-use hd_heap::{CondemnedObject, Heap};
+use hd_heap::Heap;
 use hd_model::{Addr, Id, Marker};
 use std::collections::VecDeque;
 
@@ -19,55 +20,9 @@ pub(crate) struct Joiner {
     pub(crate) at: Addr,
 }
 
-/// Collects the registered condemned objects that are not promoted, in the order of addresses: from
-/// a survey of the heap, where there is one.
-pub(crate) fn find<M: Marker>(
-    joiners: &mut Vec<Joiner>,
-    heap: &Heap,
-    marker: &M,
-    n: u8,
-    survey: Option<&[CondemnedObject]>,
-)
-    requires settled { M.settled marker.now }
-    requires basis { M.basis marker.now ≡ record { heap = heap.now; condemned = n } }
-    requires room { map.len heap.now.objects ≤ vec_capacity joiners.old }
-    requires survey { IfSome survey (λ s. AreSurveyed heap.now n s.now) }
-    ensures found { IsFound heap.now n (M.promoted marker.now) joiners.new.items }
-    ensures capacity { vec_capacity joiners.new ≡ vec_capacity joiners.old }
-{
-    match survey {
-        Some(objects) => find_among(joiners, heap, marker, n, objects),
-        None => find_in_heap(joiners, heap, marker, n),
-    }
-}
-
-// Collects them from a survey.
-fn find_among<M: Marker>(
-    joiners: &mut Vec<Joiner>,
-    heap: &Heap,
-    marker: &M,
-    n: u8,
-    objects: &[CondemnedObject],
-)
-    requires settled { M.settled marker.now }
-    requires basis { M.basis marker.now ≡ record { heap = heap.now; condemned = n } }
-    requires room { map.len heap.now.objects ≤ vec_capacity joiners.old }
-    requires survey { AreSurveyed heap.now n objects.now }
-    ensures found { IsFound heap.now n (M.promoted marker.now) joiners.new.items }
-    ensures capacity { vec_capacity joiners.new ≡ vec_capacity joiners.old }
-{
-    joiners.clear();
-    for object in objects {
-        if !is_out(heap, marker, object.at, object.registered) {
-            continue;
-        }
-        let id = heap.id(object.at);
-        joiners.push_reserved(Joiner { id, at: object.at });
-    }
-}
-
-// Collects them by a walk over the condemned objects.
-fn find_in_heap<M: Marker>(joiners: &mut Vec<Joiner>, heap: &Heap, marker: &M, n: u8)
+/// Collects the registered condemned objects that are not promoted, in the order of addresses. None
+/// is looked at where no object may be registered.
+pub(crate) fn find<M: Marker>(joiners: &mut Vec<Joiner>, heap: &Heap, marker: &M, n: u8)
     requires settled { M.settled marker.now }
     requires basis { M.basis marker.now ≡ record { heap = heap.now; condemned = n } }
     requires room { map.len heap.now.objects ≤ vec_capacity joiners.old }
@@ -75,17 +30,41 @@ fn find_in_heap<M: Marker>(joiners: &mut Vec<Joiner>, heap: &Heap, marker: &M, n
     ensures capacity { vec_capacity joiners.new ≡ vec_capacity joiners.old }
 {
     joiners.clear();
-    let mut after = None;
-    while let Some(at) = heap.next_condemned(after, n) {
-        if is_out(heap, marker, at, heap.registered(at)) {
+    if !heap.may_have_registered() {
+        return;
+    }
+    let mut after = 0;
+    while let Some(region) = heap.next_condemned_region(after, n) {
+        find_in_region(joiners, heap, marker, region);
+        after = region;
+    }
+}
+
+// Collects those of a condemned region.
+fn find_in_region<M: Marker>(joiners: &mut Vec<Joiner>, heap: &Heap, marker: &M, region: u32)
+    requires settled { M.settled marker.now }
+    requires basis { (M.basis marker.now).heap ≡ heap.now }
+    requires sound { IsSound heap.now }
+    requires held { is_in_use heap.now region ≡ true }
+    requires young { region_generation heap.now region ≤ (M.basis marker.now).condemned }
+    requires room { map.len heap.now.objects ≤ vec_capacity joiners.old }
+    requires so_far { IsFinding heap.now (M.basis marker.now).condemned (M.promoted marker.now)
+        (region * REGION) joiners.old.items }
+    ensures finding { IsFinding heap.now (M.basis marker.now).condemned (M.promoted marker.now)
+        ((region + 1) * REGION) joiners.new.items }
+    ensures capacity { vec_capacity joiners.new ≡ vec_capacity joiners.old }
+{
+    let mut objects = heap.objects_of(region);
+    while let Some(object) = objects.next() {
+        let at = object.at;
+        if is_out(heap, marker, at, object.registered) {
             let id = heap.id(at);
             joiners.push_reserved(Joiner { id, at });
         }
-        after = Some(at);
     }
 }
 
-// Whether an object is registered, as its header says, and not promoted.
+// Whether an object is registered and not promoted.
 fn is_out<M: Marker>(_heap: &Heap, marker: &M, at: Addr, registered: bool) -> bool
     requires settled { M.settled marker.now }
     requires object { has_object _heap.now at ≡ true }

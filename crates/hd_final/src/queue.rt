@@ -1,15 +1,14 @@
 // The queue, seen by its callers as the list of the queued addresses and its room.
 ghost use Rattle.std.specs.Prelude.{◌≡◌, ℕ, ◌<◌, ◌≤◌, true, [], ◌∷◌, length, drop, map, max, slice_index_or, Contains};
-ghost use Rattle.std.specs.Prelude.{IfOk, IfSome, MatchOption, MatchResult};
+ghost use Rattle.std.specs.Prelude.{IfOk, MatchOption, MatchResult};
 ghost use Rattle.std.specs.FinMap as map;
 ghost use Rattle.hd_model.specs.{Counting.Counts, declared.data.Addr.Addr};
 ghost use Rattle.hd_model.specs.Heap.{HasIdentities, has_object, id_at, object_at};
-ghost use Rattle.hd_heap.specs.Calls.{AreSurveyed};
 ghost use Rattle.hd_final.specs.{Queue.IsQueue, Resurrection.IsOut, Resurrection.Resurrects, Settling.Unregisters};
 
 use crate::joiners;
 use crate::joiners::Joiner;
-use hd_heap::{CondemnedObject, Heap};
+use hd_heap::Heap;
 use hd_model::{Addr, Forward, Marker, Memory};
 use std::alloc::Global;
 use std::collections::VecDeque;
@@ -93,34 +92,7 @@ impl Final {
             (M.promoted marker.old) (M.promoted marker.new) self.old.queued self.new.queued }
         ensures count { Counts (IsOut (object_at heap.now) n (M.promoted marker.old)) result }
     {
-        self.revive_among(heap, marker, n, None)
-    }
-
-    /// The same from a survey of the heap, where there is one.
-    pub fn revive_among<M: Marker>(
-        &mut self,
-        heap: &Heap,
-        marker: &mut M,
-        n: u8,
-        survey: Option<&[CondemnedObject]>,
-    ) -> u32
-        requires survey { IfSome survey (λ s. AreSurveyed heap.now n s.now) }
-        requires settled { M.settled marker.old }
-        requires basis { M.basis marker.old ≡ record { heap = heap.now; condemned = n } }
-        requires room { map.len heap.now.objects ≤ self.old.room }
-        requires objects { (a : Addr) → Contains self.old.queued a → has_object heap.now a ≡ true }
-        requires promoted { (a : Addr) → Contains self.old.queued a →
-            M.promoted marker.old a ≡ true }
-        requires identities { HasIdentities heap.now }
-        ensures settled { M.settled marker.new }
-        ensures basis { M.basis marker.new ≡ M.basis marker.old }
-        ensures pinned { M.pinned marker.new ≡ M.pinned marker.old }
-        ensures room { self.new.room ≡ self.old.room }
-        ensures resurrects { Resurrects (λ a. (id_at heap.now a).0) (object_at heap.now) n
-            (M.promoted marker.old) (M.promoted marker.new) self.old.queued self.new.queued }
-        ensures count { Counts (IsOut (object_at heap.now) n (M.promoted marker.old)) result }
-    {
-        joiners::find(&mut self.joiners, heap, marker, n, survey);
+        joiners::find(&mut self.joiners, heap, marker, n);
         joiners::sort(&mut self.joiners);
         joiners::join(&self.joiners, &mut self.queued, marker);
         self.joiners.len() as u32

@@ -20,7 +20,7 @@ pub use Rattle.hd_gc.specs.Ready.{IsReady, Parts, basis_of, parts, scene_of}
 pub use Rattle.hd_gc.specs.RelocateAll.{IsRenamed, NamesKept, RelocatedAll}
 pub use Rattle.hd_gc.specs.Steps.{collected_steps, marked_steps, task_visits}
 pub use Rattle.hd_gc.specs.declared.mark_and_clear.Found.{Found}
-pub use Rattle.hd_heap.specs.Calls.{AreSurveyed, IsNext, IsWalk, is_after, is_old_carded}
+pub use Rattle.hd_heap.specs.Calls.{IsExtent, IsNext, IsWalk, is_after, is_old_carded}
 pub use Rattle.hd_mark.specs.Marks.{IsSettledMarks, MarksOf, first_marks, pinned_in, promoted_in}
 pub use Rattle.hd_model.proofs.EdgeChains.{grows_like, leads_on}
 pub use Rattle.hd_model.proofs.EdgeInvariants.{grown_within, leads_like}

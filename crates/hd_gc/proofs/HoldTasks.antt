@@ -1,5 +1,5 @@
 -- The passes of the tasks that promote come to all handles that hold their target.
-use Rattle.hd_gc.proofs.Basics.{Addr, Basis, Bool, Handle, Holds, IsHeld, IsPinned, IsSettledMarks, IsYoungField, List, MarksOf, Rows, Table, Task, false, get_or, grows_like, has_role, holds, inl, inr, length, marked_table, objects_of, pins_hold, promoted_in, refl, role, root_tasks, row_at, subst, sym, take, takes, takes_any, ℕ, ⊎_elim, ◌+◌, ◌<◌, ◌∙◌, ◌≡◌}
+use Rattle.hd_gc.proofs.Basics.{Addr, Basis, Bool, Handle, Holds, IsHeld, IsPinned, IsSettledMarks, IsYoungField, List, MarksOf, Rows, Table, Task, get_or, grows_like, has_role, holds, inl, inr, length, marked_table, objects_of, pins_hold, promoted_in, refl, role, root_tasks, row_at, subst, sym, take, takes, takes_any, ℕ, ⊎_elim, ◌+◌, ◌<◌, ◌∙◌, ◌≡◌}
 use Rattle.hd_scan.specs.Whole.{IsTargetOf, IsPinTargetOf, WholeRoots}
 use Rattle.hd_scan.proofs.TaskRoles.{roots_cover}
 use Rattle.hd_scan.proofs.TestedPasses.{roots_twice, taken_more}

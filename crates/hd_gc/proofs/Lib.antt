@@ -15,3 +15,4 @@ pub mod LostRegistrations
 pub mod KeptScene
 pub mod CollectedScene
 pub mod FreeRegions
+pub mod ReportCounts

@@ -1,9 +1,25 @@
 -- The phases between the start of the marks and the plan, one after another.
-use Rattle.hd_gc.proofs.Basics.{Addr, Basis, Bool, CLUMP, Clears, Contains, Counts, FoundSets, IsAllDetached, IsClosed, IsCondemned, IsField, IsKeeping, IsLaid, IsLostAt, IsOut, IsPinned, IsReady, IsSameTable, List, MarkedAndCleared, MarksOf, MayVisitDue, Objects, Parts, PlanOf, Queue, Resurrected, Resurrection, Scene, Table, Traced, [], ap, arith, basis_of, cases_lt, counts_like, due_again, generation_at, has_role, held, id_at, inl, is_object, kept_in, long, long_tasks, marked_steps, object_at, objects_of, parts, pinned_held, pinned_in, place_in, promoted_in, queued, reached_on, refl, root_reached, row_at, same_table_on, scene_of, short, short_tasks, stays_in, subst, sym, task_visits, true, visits_of, visits_same, ℕ, ⊎_elim, ◌*◌, ◌+◌, ◌∙◌, ◌≡◌, ◌≤◌}
+use Rattle.hd_gc.proofs.Basics.{Addr, Basis, Bool, CLUMP, Clears, Contains, Counts, FoundSets, IsAllDetached, IsClosed, IsCondemned, IsEdge, IsField, IsKeeping, IsLaid, IsLostAt, IsOut, IsPinned, IsReady, IsSameTable, List, MarkedAndCleared, MarksOf, MayVisitDue, Objects, Parts, PlanOf, Queue, Resurrected, Resurrection, Scene, Table, Traced, [], ap, arith, basis_of, cases_lt, counts_like, due_again, generation_at, has_role, held, id_at, inl, is_object, kept_in, long, long_tasks, marked_steps, object_at, objects_of, parts, pinned_held, pinned_in, place_in, promoted_in, queued, reached_on, refl, root_reached, row_at, same_table_on, scene_of, short, short_tasks, stays_in, subst, sym, task_visits, true, visits_of, visits_same, ℕ, ⊎_elim, ◌*◌, ◌+◌, ◌∙◌, ◌≡◌, ◌≤◌}
+use Rattle.std.proofs.Common.{length}
+use Rattle.hd_mark.specs.Marks.{IsSettledMarks, log_of}
 use Rattle.hd_gc.proofs.ClearedRows.{ready_due, cleared_due, tasks_alike}
-use Rattle.hd_gc.proofs.KeptObjects.{is_out, resurrected_decides, kept_decides, joins_decide, resurrections_counted}
+use Rattle.hd_gc.proofs.KeptObjects.{edge_before, is_out, resurrected_decides, kept_decides, joins_decide, resurrections_counted}
 use Rattle.hd_gc.proofs.LostTargets.{cleared_rows, short_losses, long_losses, dependent_losses}
 use Rattle.hd_model.specs.declared.data.Kind.TheVariants as kind
+
+-- what is kept is in the log of settled marks, each once
+pub log_counts : (m : MarksOf) (g : Basis) (count : ℕ) → m.basis ≡ g → IsSettledMarks m
+    → count ≡ length (log_of m)
+    → Counts (λ x. IsCondemned (objects_of g) g.condemned x × (promoted_in m x ≡ true)) count
+log_counts m g count over s is =
+    subst (λ (b : Basis). Counts (λ x. IsCondemned (objects_of b) b.condemned x × (promoted_in m x ≡ true))
+    count) over (record {
+      members = log_of m;
+      apart = s.log.apart;
+      each = s.log.each;
+      all = λ x w. s.log.all x w.0 w.1;
+      number = sym is;
+    })
 
 -- up to the clearing of short handles
 module _ {A : Parts} {n s0 s1 : ℕ} {m1 : MarksOf} (ready : IsReady A) (tr : Traced A n m1 s0 s1)
@@ -28,6 +44,11 @@ module _ {A : Parts} {n s0 s1 : ℕ} {m1 : MarksOf} (ready : IsReady A) (tr : Tr
 
   pub fields2 : IsClosed (IsField O) (promoted_in m1)
   fields2 x y e f = (tr.reach_is y).1 (reached_on n S x y ((tr.reach_is x).0 e) (inl f))
+
+  pub edges2 : IsClosed (IsEdge O (row_at t1)) (promoted_in m1)
+  edges2 x y e f =
+      (tr.reach_is y).1 (reached_on n S x y ((tr.reach_is x).0 e)
+      (edge_before short (promoted_in m1) (row_at A.table) (row_at t1) clear1.whole.swept refl O x y f))
 
   pub queued2 : (x : Addr) → Contains A.queue.queued x → promoted_in m1 x ≡ true
   queued2 x is_queued = (tr.reach_is x).1 (root_reached n S x (queued is_queued))
@@ -59,9 +80,15 @@ module _ {A : Parts} {n s0 s1 : ℕ} {m1 : MarksOf} (ready : IsReady A) (tr : Tr
     -- up to that of dependent ones
     module _ {t3 : Table} {dep_n : ℕ} (detaches : IsAllDetached Kept (row_at t2) (row_at t3))
         (same3 : IsSameTable t2 t3) (lost : Counts (IsLostAt (row_at t2) Kept) dep_n)
-        {resurrected_n : ℕ} (resurrections : Counts (IsOut O n Reach) resurrected_n) where
-      pub sets : FoundSets A n
-          (record { short = short_n; long = long_n; dep = dep_n; revived = resurrected_n })
+        {resurrected_n : ℕ} (resurrections : Counts (IsOut O n Reach) resurrected_n) {kept_n : ℕ}
+        (kept : Counts (λ x. IsCondemned O n x × (Kept x ≡ true)) kept_n) where
+      pub sets : FoundSets A n (record {
+        kept = kept_n;
+        short = short_n;
+        long = long_n;
+        dep = dep_n;
+        revived = resurrected_n;
+      })
       sets = record {
         decision = record
             { reach = Reach; resurrected = is_out O n Reach; kept = Kept; joins = resurrection.joins };
@@ -125,8 +152,13 @@ module _ {A : Parts} {n s0 s1 : ℕ} {m1 : MarksOf} (ready : IsReady A) (tr : Tr
         pub marked_and_cleared : {q2 : Queue} {s4 s5 : ℕ} → q2.queued ≡ after → q2.room ≡ A.queue.room
             → s2 ≡ s1 + task_visits A.table A.ages n short_tasks
             → s4 ≡ s3 + task_visits t1 A.ages n long_tasks → s5 ≡ s4 + visits_of t2 A.ages n kind.Dependent
-            → MarkedAndCleared A (record A { table = t3; queue = q2 }) n plan
-            (record { short = short_n; long = long_n; dep = dep_n; revived = resurrected_n }) s0 s5
+            → MarkedAndCleared A (record A { table = t3; queue = q2 }) n plan (record {
+              kept = kept_n;
+              short = short_n;
+              long = long_n;
+              dep = dep_n;
+              revived = resurrected_n;
+            }) s0 s5
         unfolding sets
         marked_and_cleared is_after room e2 e4 e5 = record {
           sets = sets;
@@ -139,5 +171,8 @@ module _ {A : Parts} {n s0 s1 : ℕ} {m1 : MarksOf} (ready : IsReady A) (tr : Tr
           plan_kept = plan_kept;
           pinned = pinned_target;
           stays = stays_are;
+          kept = counts_like (λ x. IsCondemned O n x × (Kept x ≡ true))
+              (λ x. IsCondemned O n x × (kept_in plan x ≡ true)) kept_n
+              (λ x w. (w.0, plan_kept x ∙ w.1)) (λ x w. (w.0, sym (plan_kept x) ∙ w.1)) kept;
           steps = steps_marked e2 e4 e5;
         }

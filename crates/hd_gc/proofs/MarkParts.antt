@@ -1,5 +1,7 @@
 -- What the marking comes to, part by part.
-use Rattle.hd_gc.proofs.Basics.{Bool, Contains, Decides, Grows, IsClosure, IsEdge, IsField, IsHeld, IsOut, IsReached, IsRoot, IsYoungField, Leads, List, Objects, Resurrection, Resurrects, Rows, Scene, Some, decides_reached, generation_at, grown_within, held, inl, inr, leads_like, leads_on, named, older, queued, reached_on, root_reached, true, ℕ, ⊎_elim, ◌<◌, ◌≡◌}
+use Rattle.std.proofs.lemmas.List.{nil_from_length}
+use Rattle.hd_model.proofs.Members.{not_in_none}
+use Rattle.hd_gc.proofs.Basics.{Bool, Contains, Counts, Decides, Grows, IsClosed, IsClosure, IsEdge, IsField, IsHeld, IsOut, IsReached, IsRoot, IsYoungField, Leads, List, Objects, Resurrection, Resurrects, Rows, Scene, Some, decides_reached, generation_at, grown_within, held, inl, inr, leads_like, leads_on, named, older, queued, reached_on, root_reached, subst, true, ℕ, ⊎_elim, ◌<◌, ◌≡◌}
 
 -- a field of a condemned object is an edge
 pub young_edge : {N : Type 0} (o : Objects N) (rows : Rows N) (n : ℕ) (x y : N) → IsYoungField o n x y
@@ -85,3 +87,24 @@ resurrection {N} {rank} s {n} {p} by_out closure = record {
   joins_are = λ x. (by_out.each x, by_out.all x);
   rising = by_out.rising;
 }
+
+-- nothing has a property that is counted to be of nothing
+nobody : {N : Type 0} {P : N → Type 0} → Counts P 0 → (x : N) → P x → ⊥
+nobody none x has =
+    not_in_none x (subst (λ xs. Contains xs x) (nil_from_length none.members none.number) (none.all x has))
+
+-- nothing is out: then nothing joins, and what was closed is its own closure
+module _ {N : Type 0} {rank : N → ℕ} (s : Scene N) {n : ℕ} {p r : N → Bool} {after : List N}
+    (by_out : Resurrects rank s.object n p r s.queue after) (none : Counts (IsOut s.object n p) 0) where
+  as_before : (x : N) → r x ≡ true → p x ≡ true
+  as_before x h =
+      ⊎_elim (λ was. was)
+      (λ (w : (z : N) × (IsOut s.object n p z × Leads (IsYoungField s.object n) z x)).
+      absurd (nobody none w.0 w.1.0)) (by_out.grows.only x h)
+
+  pub closure_alone : IsClosed (IsEdge s.object s.handle) p → IsClosure (IsEdge s.object s.handle) r r
+  closure_alone closed = record {
+    keeps = λ x h. h;
+    closed = λ x y h e. by_out.grows.keeps y (closed x y (as_before x h) e);
+    only = λ x h. (x, (h, Leads.here));
+  }

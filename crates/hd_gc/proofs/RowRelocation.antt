@@ -1,5 +1,5 @@
 -- The relocations of one kind after another update every row in a visited slot.
-use Rattle.hd_gc.proofs.Basics.{Addr, Bool, Handle, IsRenamed, IsSameTable, Kind, List, NamesKept, None, Option, Some, Table, and_parts, ap, arith, cases_Bool, cases_lt, cond, eq-eqb, eqb-true, false, few_kinds, is_due, is_kind, kind_number, le-ltb, lt-ltb, mapped_value, nat_lt, option_map, or_left, or_right, refl, rename_handle, row_at, same_table_on, subst, sym, true, true≢false, ℕ, ⊎_elim, ◌&&◌, ◌+◌, ◌||◌, ◌∙◌, ◌≡◌}
+use Rattle.hd_gc.proofs.Basics.{Addr, Bool, Handle, IsSameTable, Kind, List, NamesKept, None, Option, Some, Table, and_parts, ap, arith, cases_Bool, cases_lt, cond, eq-eqb, eqb-true, false, is_due, is_kind, kind_number, le-ltb, lt-ltb, mapped_value, nat_lt, option_map, or_left, or_right, refl, rename_handle, row_at, same_table_on, subst, sym, true, true≢false, ℕ, ⊎_elim, ◌&&◌, ◌+◌, ◌||◌, ◌∙◌, ◌≡◌}
 use Rattle.hd_scan.specs.Relocation.{relocated, Relocates, CanRelocate, KeepsNames}
 
 module _ (place : Addr → Addr) (ages : List ℕ) (n : ℕ) where

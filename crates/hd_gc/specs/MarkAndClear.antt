@@ -40,6 +40,7 @@ pub record MarkedAndCleared (p q : Parts) (n : ℕ) (plan : PlanOf) (found : Fou
   pub plan_kept : (x : Addr) → kept_in plan x ≡ sets.kept x
   pub pinned : (x : Addr) → IsPinned (row_at p.table) x → place_in plan x ≡ x
   pub stays : Counts (λ x. IsCondemned (object_at p.heap) n x × IsPinned (row_at p.table) x) (stays_in plan)
+  pub kept : Counts (λ x. IsCondemned (object_at p.heap) n x × (kept_in plan x ≡ true)) found.kept
   pub steps : after ≡ marked_steps p.table p.ages n before
 
 -- the numbers of a report: what the plan keeps and what it does not, and what was found

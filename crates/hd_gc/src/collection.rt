@@ -1,7 +1,8 @@
 // A whole collection.
-ghost use Rattle.std.specs.Prelude.{◌≡◌, ◌≤◌, MatchResult};
+ghost use Rattle.std.specs.Prelude.{◌≡◌, ◌≤◌, true, MatchResult};
 ghost use Rattle.hd_gc.specs.{Ready.IsReady, Ready.parts, Collected.Collected, MarkAndClear.Reports};
-ghost use Rattle.hd_plan.specs.Plan.{IsLaid};
+ghost use Rattle.hd_model.specs.{Counting.Counts, Heap.objects_of, Scene.IsCondemned};
+ghost use Rattle.hd_plan.specs.Plan.{IsLaid, kept_in};
 
 use crate::mark_and_clear::{Found, mark_and_clear};
 use crate::moving::relocate_all;
@@ -53,12 +54,15 @@ pub fn collect<L: Ledger>(
 
 // The report of what a plan keeps and does not, and of what was found.
 fn report(plan: &Plan, found: Found) -> Report
-    requires { IsLaid plan.now }
+    requires laid { IsLaid plan.now }
+    requires kept { let of = plan.now.basis in
+        Counts (λ x. IsCondemned (objects_of of) of.condemned x × (kept_in plan.now x ≡ true))
+        found.kept }
     ensures { Reports plan.now found result }
 {
     Report {
-        kept: plan.kept(),
-        removed: plan.removed(),
+        kept: found.kept,
+        removed: plan.extent().objects - found.kept,
         short: found.short,
         long: found.long,
         dep: found.dep,

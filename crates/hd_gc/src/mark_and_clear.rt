@@ -1,33 +1,33 @@
 // What is kept: it is marked, and the handles of all else are cleared.
-ghost use Rattle.std.specs.Prelude.{◌≡◌, ◌*◌, ◌≤◌, true, [], Contains, IfOk, OnErr};
+ghost use Rattle.std.specs.Prelude.{◌≡◌, ◌*◌, ◌<◌, ◌≤◌, ◌^◌, true, [], Contains, IfOk, OnErr};
 ghost use Rattle.std.specs.FinMap.{len};
 ghost use Rattle.hd_model.specs.declared.data.Kind.TheVariants as kind;
-ghost use Rattle.hd_model.specs.{Counting.Counts, Scene.IsField, Leads.IsClosed, Visits.MayVisitDue, Visits.visits_of, Ages.HasSoundCards};
+ghost use Rattle.hd_model.specs.{Counting.Counts, Scene.IsField, Reach.IsEdge, Table.row_at, Leads.IsClosed, Visits.MayVisitDue, Visits.visits_of, Ages.HasSoundCards};
 ghost use Rattle.hd_final.specs.Resurrection.{IsOut};
 ghost use Rattle.hd_model.specs.Heap.{HasIdentities, is_carded, object_at};
-ghost use Rattle.hd_heap.specs.Calls.{AreSurveyed};
 ghost use Rattle.hd_mark.specs.Marks.{IsSettledMarks, promoted_in};
 ghost use Rattle.hd_plan.specs.Plan.{IsTakenPlan};
 ghost use Rattle.hd_gc.specs.{Ready.IsReady, Ready.parts, Marking.Resurrected, MarkAndClear.MarkedAndCleared};
 
 use crate::clearing::{clear_long, clear_short};
 use crate::marking::trace;
-use hd_ages::AgeMap;
+use hd_ages::{AgeMap, pass_due};
 use hd_dep::{DependentIndex, clear, follow};
 use hd_final::Final;
-use hd_heap::{CondemnedObject, Heap};
+use hd_heap::Heap;
 use hd_mark::Marks;
 use hd_model::limits::CLUMP;
-use hd_model::{Addr, Memory, Steps};
+use hd_model::{Addr, Kind, Memory, PromotionLog, Steps};
 use hd_plan::Plan;
 use hd_seg::Seg;
 use std::alloc::Global;
 use std::sync::ledger::Ledger;
 
-/// How many handles lost their target, by what they are to a collection, and how many objects are
-/// resurrected.
+/// How many condemned objects are kept, how many handles lost their target, by what they are to a
+/// collection, and how many objects are resurrected.
 #[derive(Clone, Copy, Debug, PartialEq, Eq)]
 pub(crate) struct Found {
+    pub(crate) kept: u32,
     pub(crate) short: u32,
     pub(crate) long: u32,
     pub(crate) dep: u32,
@@ -41,18 +41,17 @@ fn revive<L: Ledger>(
     seg: &Seg,
     ages: &AgeMap,
     fin: &mut Final,
-    objects: &[CondemnedObject],
     marks: &mut Marks,
     index: &mut DependentIndex,
     n: u8,
     steps: &mut Steps<L>,
 ) -> u32
-    requires survey { AreSurveyed heap.now n objects.now }
     requires settled { IsSettledMarks marks.old }
     requires basis { marks.old.basis ≡ record { heap = heap.now; condemned = n } }
     requires due { MayVisitDue marks.old.basis seg.now ages.now n }
     requires cards { HasSoundCards (object_at heap.now) (is_carded heap.now) }
     requires fields { IsClosed (IsField (object_at heap.now)) (promoted_in marks.old) }
+    requires edges { IsClosed (IsEdge (object_at heap.now) (row_at seg.now)) (promoted_in marks.old) }
     requires queued { (x : Addr) → Contains fin.old.queued x → promoted_in marks.old x ≡ true }
     requires identities { HasIdentities heap.now }
     requires room { len heap.now.objects ≤ fin.old.room }
@@ -62,7 +61,12 @@ fn revive<L: Ledger>(
         marks.new fin.new.queued steps.old steps.new }
     ensures count { Counts (IsOut (object_at heap.now) n (promoted_in marks.old)) result }
 {
-    let revived = fin.revive_among(heap, marks, n, Some(objects));
+    let revived = fin.revive(heap, marks, n);
+    if revived == 0 {
+        // Nothing was promoted since the last pass, so this one looks at no row of its clumps.
+        pass_due(seg, ages, Kind::Dependent, n, steps);
+        return revived;
+    }
     follow(seg, ages, index, marks, n, steps);
     revived
 }
@@ -81,6 +85,7 @@ pub(crate) fn mark_and_clear<L: Ledger>(
     steps: &mut Steps<L>,
 ) -> Result<Found, Memory>
     requires ready { IsReady (parts heap.now seg.old ages.now fin.old roots.now) }
+    requires few { len heap.now.objects < 2 ^ 32 }
     requires taken { IsTakenPlan plan.old }
     requires basis { plan.old.basis ≡ record { heap = heap.now; condemned = n } }
     ensures found { IfOk result (λ found. MarkedAndCleared
@@ -89,20 +94,19 @@ pub(crate) fn mark_and_clear<L: Ledger>(
     ensures memory { OnErr result ((seg.new ≡ seg.old) × (fin.new ≡ fin.old)
         × (steps.new ≡ steps.old)) }
 {
-    let objects = plan.objects();
-    let mut marks = Marks::over(alloc, heap, n, objects)?;
+    let mut marks = Marks::over(alloc, heap, n, plan.extent())?;
     let mut index = DependentIndex::open(alloc, seg, ages, n)?;
     trace(
         heap, seg, ages, fin, roots, &mut marks, &mut index, n, steps,
     );
     let short = clear_short(seg, ages, &marks, n, steps);
-    let revived = revive(
-        heap, seg, ages, fin, objects, &mut marks, &mut index, n, steps,
-    );
+    let revived = revive(heap, seg, ages, fin, &mut marks, &mut index, n, steps);
     let long = clear_long(seg, ages, &marks, n, steps);
     let dep = clear(seg, ages, &marks, n, steps);
+    let kept = marks.logged() as u32;
     plan.lay(heap, &marks);
     Ok(Found {
+        kept,
         short,
         long,
         dep,

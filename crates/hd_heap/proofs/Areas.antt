@@ -1,6 +1,7 @@
 -- Lemmas on one region of a heap.
-use Rattle.hd_heap.proofs.Basics.{Area, BeginsIn, Bool, CARD, Contents, IsArea, IsLaidOut, IsObject, IsPutInto, IsTaken, IsWritten, List, None, Object, Option, Some, [], ap, arith, both_ways, card_in, cases_eq, cond, contents, empty_region, false, false_from_ne_true, found_later, get_or, inl, inr, is_some, len_less, length, nat_cmp, nat_cmp_total, no_object, object_at, refl, replicate, share, size_of, still_some, subst, suc, sum-at, sum-insert, sum-many, sum-taken, sum_by, sym, true, true_from_ne_false, unwrap_or, without_object, zero, ℕ, ◌+◌, ◌-◌, ◌/◌, ◌∙◌, ◌∷◌, ◌≡◌, ◌≢◌, ◌≤◌}
+use Rattle.hd_heap.proofs.Basics.{Area, BeginsIn, Bool, CARD, Contents, IsArea, IsLaidOut, IsObject, IsPutInto, IsTaken, IsWritten, List, None, Object, Option, Some, Wanted, [], ap, arith, both_ways, card_in, cases_eq, cond, contents, empty_region, eqb-true, false, false_from_ne_true, found_later, get_or, inl, inr, is_some, len_less, length, nat_cmp, nat_cmp_total, nat_eq, no_object, not, object_at, refl, replicate, share, size_of, still_some, subst, suc, sum-at, sum-insert, sum-many, sum-taken, sum_by, sym, true, true_from_ne_false, unwrap_or, wants, without_object, zero, ℕ, ◌+◌, ◌-◌, ◌/◌, ◌∙◌, ◌∷◌, ◌≡◌, ◌≢◌, ◌≤◌}
 use Rattle.std.proofs.Common.{map as each}
+use Rattle.hd_heap.proofs.WantedObjects.{unwanted}
 use Rattle.std.specs.FinMap as map
 
 -- the object at an offset
@@ -213,3 +214,12 @@ area_taken a b at cells is t =
         last = λ none. false_from_ne_true _ (λ set. let b = t.begins set in none b.at b.object b.in_card);
       },
     )
+
+-- without cells in use nothing is wanted
+pub nothing_wanted : (a : Area) (w : Wanted) → IsArea a → not (nat_eq a.live 0) ≡ false → (k : ℕ)
+    → wants w a k ≡ false
+nothing_wanted a w is zero_live k = unwanted w a k (none_live a is (eqb-true a.live 0 (flipped _ zero_live)) k)
+  where
+    flipped : (b : Bool) → not b ≡ false → b ≡ true
+    flipped true e = refl
+    flipped false e = absurd (cc e)

@@ -12,17 +12,18 @@ pub use Rattle.hd_cells.specs.Headers.{IsEnd, IsHeader}
 pub use Rattle.hd_cells.specs.Object.{Object, no_object, size_of, with_field, with_value}
 pub use Rattle.hd_cells.specs.Region.{Contents, IsFirstFrom, IsLaidOut, IsObject, empty_region, fields_at, object_at, with_object, with_put, without_object}
 pub use Rattle.hd_heap.specs.Areas.{BeginsIn, IsArea, address, area_at, card_in, cards_in, contents, heap_of, objects_in, placed_in, placed_of, region_in, regions_in}
-pub use Rattle.hd_heap.specs.Calls.{AreFull, AreSurveyed, HasCondemned, IsMade, IsNext, IsRemoved, IsSurvey, IsWalk, NamesBelow, cells_surveyed, empty_heap, forwarded, is_after, is_condemned, new_object, surveyed, with_card, with_copy, with_fresh, with_generation, with_moved, without_region}
+pub use Rattle.hd_heap.specs.Calls.{AreFull, HasAmount, HasCondemned, IsExtent, IsFirstIn, IsFirstObject, IsMade, IsNext, IsRemoved, IsWalk, NamesBelow, empty_heap, forwarded, is_after, is_condemned, new_object, with_card, with_copy, with_fresh, with_generation, with_moved, without_region}
 pub use Rattle.hd_heap.specs.Forwarding.{MayForward, region_forwarded, stored_place}
 pub use Rattle.hd_heap.specs.Kept.{IsKept, IsSpare}
 pub use Rattle.hd_heap.specs.Places.{flagged, from_one, places_of, tables}
 pub use Rattle.hd_heap.specs.Sound.{IsSound, StartsIn}
-pub use Rattle.hd_heap.specs.Steps.{AreOthersFull, HasCondemnedBelow, HasPart, HasRoom, IsCopiedInto, IsFirstAt, IsFirstSince, IsFreed, IsLeastBetween, IsLeastFrom, IsListed, IsObjectOf, IsPutInto, IsRoom, IsSurveyedTo, IsSurveying, IsTaken, IsWritten, MayCopy, is_below, is_wanted, region_with_part, wants, with_part}
+pub use Rattle.hd_heap.specs.Steps.{AreOthersFull, HasCondemnedBelow, HasFlags, HasPart, HasRoom, IsExtentBelow, IsFirstAt, IsFirstSince, IsFreed, IsLeastBetween, IsLeastFrom, IsObjectOf, IsPutInto, IsRoom, IsTaken, IsWritten, is_below, is_wanted, region_with_part, wants, with_part}
 pub use Rattle.hd_heap.specs.declared.area.Area.{Area}
+pub use Rattle.hd_heap.specs.declared.area.Part.{Part}
 pub use Rattle.hd_heap.specs.declared.area.Wanted.{Wanted}
 pub use Rattle.hd_heap.specs.declared.area.Wanted.TheVariants.{Any, Carded, Condemned}
-pub use Rattle.hd_heap.specs.declared.survey.CondemnedObject.{CondemnedObject}
-pub use Rattle.hd_heap.specs.declared.survey.Survey.{Survey}
+pub use Rattle.hd_heap.specs.declared.condemned.ObjectHeader.{ObjectHeader}
+pub use Rattle.hd_heap.specs.declared.condemned.Extent.{Extent}
 pub use Rattle.hd_model.proofs.MapEntries.{found_first, found_later}
 pub use Rattle.hd_model.proofs.IndexedItems.{find-numbered_below, get-by_place}
 pub use Rattle.hd_model.proofs.Members.{first_in, later_in, mapped_in, member_cases, not_in_none}

@@ -1,6 +1,5 @@
 -- Lemmas on the fields of an object, of which the first ones have their forwarding addresses.
-use Rattle.hd_heap.proofs.Basics.{Addr, Bool, Contains, Contains-get_or, Contents, HEADER, Heap, IsField, IsObject, List, MayForward, None, Object, Option, Some, [], address, ap, arith, drop, fields_at, first_in, forwarded, get_inserted, get_or, is_some, later_in, length, length-replicate, length-set, map, mapped_in, no_object, object_at, option_map, placed_of, refl, region_forwarded, replicate, set, size_of, stored_place, subst, suc, sym, take, true, unwrap_or, with_field, with_object, with_put, with_value, zero, ℕ, ◌++◌, ◌+◌, ◌<◌, ◌∙◌, ◌∷◌, ◌≡◌, ◌≢◌, ◌≤◌}
-use Rattle.hd_cells.specs.Object.{new_object}
+use Rattle.hd_heap.proofs.Basics.{Addr, Bool, Contains, Contains-get_or, Contents, HEADER, Heap, IsField, IsObject, List, MayForward, None, Object, Option, Some, [], address, ap, arith, drop, fields_at, first_in, forwarded, get_inserted, get_or, is_some, later_in, length, length-set, map, mapped_in, no_object, object_at, option_map, placed_of, refl, region_forwarded, set, size_of, stored_place, subst, suc, sym, take, true, unwrap_or, with_field, with_object, with_put, zero, ℕ, ◌++◌, ◌+◌, ◌<◌, ◌∙◌, ◌∷◌, ◌≡◌, ◌≢◌, ◌≤◌}
 use Rattle.hd_model.specs.{Scene.fields_at as fields_at_heap, Heap.object_at as object_at_heap}
 use Rattle.hd_heap.proofs.{HeapValues.put_same, HeapValues.put_twice, RegionReads.address_is}
 use Rattle.std.specs.FinMap as fin
@@ -124,28 +123,6 @@ module _ {having : Object → Contents} {at : ℕ} (placing : IsPlacing having a
   pub forwarding_ends : length from ≤ i → r ≡ having (record base { fields = map g from })
   forwarding_ends past =
       f.is ∙ ap (λ xs. having (record base { fields = xs })) (partly_all g i from into f.long past)
-
--- a copy before its fields are written
-pub forwarding_copy : (g : ℕ → ℕ) (r put new : Contents) (at id n v : ℕ) (on : Bool) (o : Object)
-    → at ≡ r.fill
-    → put ≡ with_put r (new_object id n on) → new ≡ with_object put at (with_value (object_at put at) v)
-    → id ≡ o.identity → n ≡ length o.fields → on ≡ o.registered → v ≡ o.value
-    → IsForwarding (with_put r) g o o.fields (replicate n 0) 0 new
-forwarding_copy g r put new at id n v on o offset put_is written id_is n_is on_is v_is =
-    let placing = puts_object r at offset in
-    let start = new_object id n on in
-    let nulls = length-replicate n (let z : ℕ = 0 in z) in
-    record {
-      is = written ∙ (λ i. with_object (put_is i) at (with_value (placed_is placing put start put_is i) v))
-          ∙ placing.again start (with_value start v) refl
-          ∙ (λ i. with_put r (record {
-            identity = id_is i;
-            fields = replicate n 0;
-            value = v_is i;
-            registered = on_is i;
-          }));
-      long = sym n_is ∙ sym nulls;
-    }
 
 -- a reference in a field that is read is kept
 pub field_kept : (kept : Addr → Bool) (fields : List ℕ) → MayForward kept fields → (i n : ℕ)

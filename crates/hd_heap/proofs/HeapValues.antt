@@ -5,7 +5,7 @@ use Rattle.hd_heap.specs.Calls.{with_object, with_put, with_field}
 use Rattle.hd_heap.proofs.{Areas.some_of, RegionReads.has-get}
 use Rattle.std.specs.FinMap as fin
 
-abbrev no_placed : Placed
+abbrev pub no_placed : Placed
 no_placed = record { id = record { 0 = 0 }; fields = []; value = 0; registered = false }
 
 -- two addresses of one number are one

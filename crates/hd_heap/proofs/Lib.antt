@@ -13,8 +13,11 @@ pub mod RegionWalk
 pub mod RegionReserve
 pub mod HeapValues
 pub mod FullRegions
+pub mod HeapFlags
 pub mod FieldForward
 pub mod HeapReferences
+pub mod RunCopies
 pub mod RegionCopy
-pub mod ObjectSurvey
-pub mod SurveyWalk
+pub mod CondemnedWalk
+pub mod NextObjects
+pub mod CondemnedSums

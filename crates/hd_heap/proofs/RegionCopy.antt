@@ -1,146 +1,272 @@
--- Lemmas on a list of regions that is split, and on a copy from one part into the other.
-use Rattle.hd_heap.proofs.Basics.{Addr, Area, Bool, Contents, FIELDS, HEADER, Heap, IsArea, IsCopiedInto, IsField, IsObject, IsPutInto, List, MayCopy, MayForward, Object, REGION, Region, ap, arith, cells_of, contents, forwarded, get_or, get_or-append_right, get_or_append_left, get_or_read, length, length-map, placed_at, refl, region_at, region_forwarded, set, set-append_left, set-append_right, size_of, stored_place, subst, sym, true, with_moved, ℕ, ◌%◌, ◌++◌, ◌+◌, ◌<◌, ◌∙◌, ◌≡◌, ◌≢◌, ◌≤◌}
+-- Lemmas on a list of regions that is split, and on copies from one region of a heap into another one.
+use Rattle.std.proofs.lemmas.List.{set-get_or, set-set}
+use Rattle.hd_heap.proofs.Basics.{Addr, Area, Bool, Contains, HasFlags, Heap, IsLaidOut, IsPutInto, List, Object, Option, Placed, REGION, Region, ap, arith, cells_of, contents, forwarded, get_or, get_or-append_right, get_or_append_left, has_object, length, length-map, length-set, option_map, placed_at, refl, region_at, region_forwarded, set, set-append_left, set-append_right, size_of, stored_place, subst, suc, sym, true, unwrap_or, with_moved, zero, ℕ, ◌%◌, ◌*◌, ◌++◌, ◌+◌, ◌-◌, ◌/◌, ◌<◌, ◌∙◌, ◌≡◌, ◌≢◌, ◌≤◌}
 use Rattle.hd_cells.specs.Region.{object_at as object_in_region}
-use Rattle.hd_model.specs.Heap.{object_at}
-use Rattle.hd_heap.proofs.{RegionReads.IsHeap, RegionReads.IsHeldAt, RegionReads.IsFound, RegionReads.object_of, RegionSums.cells_placed, RegionChanges.object_put, RegionUse.heap_lists, FieldForward.field_of, FieldForward.forwarded_placed}
+use Rattle.hd_model.specs.Heap.{region_of}
+use Rattle.hd_heap.specs.{declared.moves.Move.Move, Moves.move_at}
+use Rattle.hd_heap.specs.Runs.{AreLaidOut, ArePutBetween, IsRun, MayPutRun, MayRun, area_run, cells_run, object_of, put_run, run_copied}
+use Rattle.hd_heap.proofs.{Areas.absent, Areas.area_put, RunCopies.run_one, RunCopies.run_part, RunCopies.run_regions, RunCopies.run_fill, RegionReads.IsHeap, RegionReads.IsHeldAt, RegionReads.IsFound, RegionReads.IsPlace, RegionReads.place_reads, RegionReads.area_here, RegionReads.area_other, RegionReads.found_at, RegionReads.has_there, RegionReads.located_by, RegionReads.found_read, RegionReads.held_read, RegionReads.object_of as found_object, RegionSums.cells_placed, RegionChanges.object_put, FieldForward.field_of, FieldForward.forwarded_placed, HeapFlags.flags_written, HeapValues.get_same, HeapValues.get_other, HeapValues.no_placed}
+use Rattle.std.specs.FinMap as fin
 
--- a list in two parts, the first of this length
-pub record IsSplit (xs low high : List Area) (mid : ℕ) : Type 0 where
-  pub whole : xs ≡ low ++ high
-  pub front : length low ≡ mid
-  pub within : mid < length xs
+-- two regions of a list, and the list with another one in the place of the second
+pub record IsPair (xs : List Area) (i j : ℕ) (a b : Area) (out : Area → List Area) : Type 0 where
+  pub source : a ≡ get_or xs i a
+  pub target : b ≡ get_or xs j b
+  pub written : (z : Area) → out z ≡ set xs j z
 
-pub split_of : {xs low high : List Area} {mid : ℕ} → xs ≡ low ++ high → length low ≡ mid → mid < length xs
-    → IsSplit xs low high mid
-split_of whole front within = record { whole = whole; front = front; within = within }
+-- one of the first part of a list, and the first of the other part
+module _ {xs : List Area} (low high : List Area) {mid k : ℕ} {r q : Area} (whole : xs ≡ low ++ high)
+    (front : length low ≡ mid) (below : k < mid) (is_r : r ≡ get_or low k r) (is_q : q ≡ get_or high 0 q) where
+  read_low : get_or low k r ≡ get_or xs k (get_or low k r)
+  read_low = ap (get_or low k) is_r ∙ sym (ap (λ ys. get_or ys k (get_or low k r)) whole
+      ∙ get_or_append_left low high (get_or low k r) k (omega arith))
 
-module _ {xs low high : List Area} {mid : ℕ} (s : IsSplit xs low high mid) where
-  -- what is read of the parts
-  pub read_low : (k : ℕ) (a : Area) → k < mid → a ≡ get_or low k a → a ≡ get_or xs k a
-  read_low k a below is = is ∙ sym (ap (λ ys. get_or ys k a) s.whole
-      ∙ get_or_append_left low high a k (omega (arith, below, s.front)))
+  read_high : get_or high 0 q ≡ get_or xs mid (get_or high 0 q)
+  read_high = ap (get_or high 0) is_q ∙ sym (ap (λ ys. get_or ys mid (get_or high 0 q)) whole
+      ∙ get_or-append_right low high mid mid (get_or high 0 q) front (omega arith)
+      ∙ ap (λ n. get_or high n (get_or high 0 q)) (omega arith))
 
-  pub read_high : (a : Area) → a ≡ get_or high 0 a → a ≡ get_or xs mid a
-  read_high a is = is ∙ sym (ap (λ ys. get_or ys mid a) s.whole
-      ∙ get_or-append_right low high mid mid a s.front (omega arith)
-      ∙ ap (λ n. get_or high n a) (omega arith))
-
-  -- and written
-  pub written_low : (k : ℕ) (b : Area) → k < mid → set low k b ++ high ≡ set xs k b
-  written_low k b below = sym (ap (λ ys. set ys k b) s.whole
-      ∙ set-append_left low high k b (omega (arith, below, s.front)))
-
-  pub written_high : (b : Area) → low ++ set high 0 b ≡ set xs mid b
-  written_high b =
-      sym (ap (λ ys. set ys mid b) s.whole ∙ set-append_right low high mid mid b s.front (omega arith)
-      ∙ ap (λ n. low ++ set high n b) (omega arith))
-
--- a region of the list is the one that is read there
-pub one_area : (xs : List Area) (k : ℕ) (a b : Area) → k < length xs → a ≡ get_or xs k a → b ≡ get_or xs k b
-    → a ≡ b
-one_area xs k a b below is_a is_b = get_or_read xs k a below is_a b ∙ sym is_b
-
--- an object may be copied from a region with these contents into the region that is read
-pub record IsReady (kept : Addr → Bool) (s : Contents) (b : Area) (from : ℕ) : Type 0 where
-  pub object : IsObject s from
-  pub area : IsArea b
-  pub held : b.held ≡ true
-  pub room : (contents b).fill + size_of (object_in_region s from) ≤ REGION
-  pub fields : MayForward kept (object_in_region s from).fields
-
-pub ready : {kept : Addr → Bool} {a c b d : Area} {from : ℕ} {s : Contents} → MayCopy kept a b from → a ≡ c
-    → b ≡ d → s ≡ contents c → IsReady kept s d from
-ready {kept} {a} {c} {b} {d} {from} {s} may is_a is_b is =
-    subst (λ (x : Area). IsReady kept s x from) is_b
-    (subst (λ (x : Contents). IsReady kept x b from) (ap contents is_a ∙ sym is) record {
-      object = may.object;
-      area = may.target;
-      held = may.held;
-      room = may.room;
-      fields = may.fields;
-    })
-
--- the copy is that of the object in the region that was read
-pub same_copy : (place : Addr → Addr) (a : Area) (s : Contents) (from : ℕ) → contents a ≡ s
-    → region_forwarded place (object_in_region s from)
-    ≡ region_forwarded place (object_in_region (contents a) from)
-same_copy place a s from is = ap (λ (x : Contents). region_forwarded place (object_in_region x from)) (sym is)
-
-pub copied : {xs new : List Area} {b d after : Area} {o q : Object} {target off cells : ℕ}
-    → q ≡ o → b ≡ d → IsArea after → new ≡ set xs target after → IsPutInto d after q → off ≡ (contents d).fill
-    → cells ≡ size_of q → IsCopiedInto xs new target b o off cells
-copied {xs} {new} {b} {d} {after} {o} {q} {target} {off} {cells} is_o is_b area list put off_is cells_is =
-    subst (λ (x : Area). IsCopiedInto xs new target x o off cells) (sym is_b)
-    (subst (λ (x : Object). IsCopiedInto xs new target d x off cells) is_o record {
-      after = after;
-      area = area;
-      list = list;
-      put = put;
-      offset_is = off_is;
-      cells_is = cells_is;
-    })
-
-pub copied_there : {old xs new : List Area} {b : Area} {o q : Object} {target m off cells : ℕ}
-    → IsCopiedInto old new target b o off cells → old ≡ xs → o ≡ q → target ≡ m
-    → IsCopiedInto xs new m b q off cells
-copied_there {old} {xs} {new} {b} {o} {q} {target} {m} {off} {cells} c list object index =
-    subst (λ (ys : List Area). IsCopiedInto ys new m b q off cells) list
-    (subst (λ (x : Object). IsCopiedInto old new m b x off cells) object
-    (subst (λ (n : ℕ). IsCopiedInto old new n b o off cells) index c))
-
--- a copy from one region of a heap into another one
-module _ {areas : List Area} {spares : List ℕ} {limit capacity cells objects holds current : ℕ} {h : Heap}
-    (heap : IsHeap areas spares limit capacity (cells, objects, holds) current h) {from : Addr} {r k m : ℕ}
-    {a b : Area} (f : IsFound areas h from k a) (t : IsHeldAt areas h r m b)
-    (room : (region_at h r).fill + cells_of (placed_at h from) ≤ REGION) where
-  size_is : cells_of (placed_at h from) ≡ size_of (object_in_region (contents a) (from.0 % REGION))
-  size_is = ap cells_of f.placed ∙ cells_placed (object_in_region (contents a) (from.0 % REGION))
-
-  fill_is : (region_at h r).fill ≡ (contents b).fill
-  fill_is = ap (λ (x : Region). x.fill) t.region
-
-  pub may_copy : (kept : Addr → Bool) (off : ℕ) → off ≡ from.0 % REGION
-      → ((y : Addr) → IsField (object_at h) from y → kept y ≡ true) → MayCopy kept a b off
-  may_copy kept off off_is each = subst (MayCopy kept a b) (sym off_is) record {
-    source = f.located.area;
-    object = f.object;
-    target = t.area;
-    held = t.held;
-    room = omega (arith, room, size_is, fill_is);
-    fields = field_of (λ y. kept y ≡ true) h from (object_in_region (contents a) (from.0 % REGION)).fields
-        (object_of from f).fields each;
+  pub pair_high : IsPair xs k mid (get_or low k r) (get_or high 0 q) (λ z. low ++ set high 0 z)
+  pair_high = record {
+    source = read_low;
+    target = read_high;
+    written = λ z. sym (ap (λ ys. set ys mid z) whole ∙ set-append_right low high mid mid z front (omega arith)
+        ∙ ap (λ n. low ++ set high n z) (omega arith));
   }
 
-  -- the copy with forwarding addresses
-  abbrev pub copy_by : (Addr → Addr) → Object
-  copy_by place = region_forwarded place (object_in_region (contents a) (from.0 % REGION))
+  pub pair_low : IsPair xs mid k (get_or high 0 q) (get_or low k r) (λ z. set low k z ++ high)
+  pair_low = record {
+    source = read_high;
+    target = read_low;
+    written = λ z. sym (ap (λ ys. set ys k z) whole ∙ set-append_left low high k z (omega arith));
+  }
 
-  copy_size : (place : Addr → Addr)
-      → size_of (copy_by place) ≡ size_of (object_in_region (contents a) (from.0 % REGION))
-  copy_size place = ap (λ n. n + HEADER)
-      (length-map (object_in_region (contents a) (from.0 % REGION)).fields (stored_place place))
+pub put_between : {place : Addr → Addr} {xs : List Area} {i j first n cells : ℕ} {a b z : Area}
+    {out : Area → List Area} {ms : List Move} → IsPair xs i j a b out
+    → z ≡ area_run place (contents a) ms first n b → AreLaidOut place (contents a) ms first n (contents b)
+    → cells ≡ cells_run (contents a) ms first n → ArePutBetween place xs (out z) i j ms first n cells
+put_between {xs = xs} {j = j} {a = a} {b} {z} p put laid cells = record {
+  from = a;
+  before = b;
+  source_is = p.source;
+  target_is = p.target;
+  list = p.written z ∙ ap (set xs j) put;
+  laid_out = laid;
+  cells_is = cells;
+}
 
-  -- where the copy is, what it takes, and the heap with it
-  pub record IsMoved (place : Addr → Addr) (new : List Area) (start size : ℕ) : Type 0 where
-    pub start_is : start ≡ (region_at h r).fill
-    pub low : (contents b).fill < REGION
-    pub few : size ≤ FIELDS + HEADER
-    pub lists : IsHeap new spares limit capacity (cells + size, objects + 1, holds) current
-        (with_moved h from r place)
+plus_none : (n : ℕ) → n ≡ n + 0
+plus_none n = omega arith
 
-  pub object_moved : (place : Addr → Addr) (new : List Area) (size : ℕ)
-      → ((y : Addr) → IsField (object_at h) from y → (place y).0 ≢ 0) → (start : ℕ)
-      → IsCopiedInto areas new m b (copy_by place) start size → IsMoved place new start size
-  object_moved place new size each start c =
+-- the cells of a copy
+copy_size : (place : Addr → Addr) (o : Object) → size_of (region_forwarded place o) ≡ size_of o
+copy_size place o = omega (arith, length-map o.fields (stored_place place))
+
+-- an object of one region of a heap is copied into another one
+module _ {areas : List Area} {spares : List ℕ} {limit capacity cells objects holds current : ℕ} {h : Heap}
+    (heap : IsHeap areas spares limit capacity (cells, objects, holds) current h) {from : Addr} {r k m : ℕ}
+    {a b : Area} (f : IsFound areas h from k a) (t : IsHeldAt areas h r m b) where
+  pub object_moved : (place : Addr → Addr) (x : Area)
+      → let o = object_in_region (contents a) (from.0 % REGION) in
+      ((n : ℕ) → Contains o.fields n → n ≢ 0 → (place (record { 0 = n })).0 ≢ 0)
+      → (contents b).fill + size_of o ≤ REGION → IsLaidOut (contents x)
+      → IsPutInto b x (region_forwarded place o)
+      → IsHeap (set areas m x) spares limit capacity (cells + size_of o, objects + 1, holds) current
+      (with_moved h from r place)
+  object_moved place x some room laid put =
       let o = object_in_region (contents a) (from.0 % REGION) in
-      let some = field_of (λ y. (place y).0 ≢ 0) h from o.fields (object_of from f).fields each in
-      let small = f.located.area.laid_out.well_formed (from.0 % REGION) f.object in
-      record {
-        start_is = c.offset_is ∙ sym fill_is;
-        low = omega (arith, room, size_is, fill_is);
-        few = omega (arith, c.cells_is, copy_size place, small.few_fields);
-        lists = heap_lists c.list refl
-            (object_put heap c.after (copy_by place) (forwarded place (placed_at h from))
-            (forwarded_placed place o some ∙ ap (forwarded place) (sym f.placed)) size c.cells_is t c.area
-            (omega (arith, room, size_is, fill_is, c.cells_is, copy_size place)) c.put);
-      }
+      let free = absent (contents b) (contents b).fill (λ there. omega (
+        arith,
+        t.area.laid_out.below_fill (contents b).fill there,
+      )) in
+      object_put heap x (region_forwarded place o) (forwarded place (placed_at h from))
+      (forwarded_placed place o some ∙ ap (forwarded place) (sym f.placed)) (size_of o)
+      (sym (copy_size place o)) t (area_put b x (region_forwarded place o) t.area t.held free laid put) room put
+
+-- a run from one region of a heap into another one
+module _ {areas : List Area} {spares : List ℕ} {limit capacity cells objects holds current : ℕ} {h : Heap}
+    (heap : IsHeap areas spares limit capacity (cells, objects, holds) current h) (ms : List Move)
+    (first : ℕ) {k m : ℕ} {a b : Area} (f : IsFound areas h (move_at ms first).from k a)
+    (t : IsHeldAt areas h (region_of (move_at ms first).to) m b) (place : Addr → Addr) where
+  module _ {kept : Addr → Bool} (may : MayRun kept place h ms first) where
+    found_in : (j : ℕ) → IsRun ms first (j + 1) → IsFound areas h (move_at ms j).from k a
+    found_in j run = found_at heap (move_at ms j).from
+        (subst (λ q. IsPlace areas q k a) (sym (run_regions ms first j run).0) f.located.place)
+        (may.objects j run)
+
+    size_in : (j : ℕ) → IsRun ms first (j + 1)
+        → cells_of (placed_at h (move_at ms j).from) ≡ size_of (object_of (contents a) ms j)
+    size_in j run = ap cells_of (found_in j run).placed ∙ cells_placed (object_of (contents a) ms j)
+
+    -- where the next copy goes, and what is elsewhere
+    record IsRead (n : ℕ) (x : Heap) : Type 0 where
+      fill : (region_at x (region_of (move_at ms first).to)).fill
+          ≡ (contents b).fill + cells_run (contents a) ms first n
+      others : (q : ℕ) → q / REGION ≢ region_of (move_at ms first).to
+          → fin.get x.objects q ≡ fin.get h.objects q
+
+    reads : (n : ℕ) → IsRun ms first (first + n + 1) → IsRead n (run_copied place h ms first n)
+    unfolding run_copied cells_run region_of
+    reads zero run = record {
+      fill = omega (arith, ap (λ (g : Region). g.fill) t.region);
+      others = λ q apart. refl;
+    }
+    reads (suc n) run =
+        let before = run_part ms first (first + n + 1) _ run (omega arith) (omega arith) in
+        let was = reads n before in
+        let from = (move_at ms (first + n)).from in
+        let r = region_of (move_at ms first).to in
+        let x = run_copied place h ms first n in
+        let (there, to) = run_regions ms first (first + n) before in
+        let room = may.room n before in
+        let stays : placed_at x from ≡ placed_at h from =
+        ap (λ (o : Option Placed). unwrap_or o no_placed) (was.others from.0 (λ e. may.apart (sym there ∙ e))) in
+        let size = length-map (placed_at x from).fields (option_map place) in
+        subst (IsRead (suc n)) (ap (λ q. with_moved x from q place) (sym to)) (record {
+          fill = ap (λ (o : Option Region). (unwrap_or o (record { generation = 0; fill = 0 })).fill)
+              (get_same x.regions r r _ refl)
+              ∙ omega (arith, was.fill, size, ap cells_of stays, size_in (first + n) before);
+          others = λ q apart. get_other x.objects (r * REGION + (region_at x r).fill) q _
+              (λ e. apart (omega (arith, e, room))) ∙ was.others q apart;
+        })
+
+    pub may_put : MayPutRun kept (contents a) (contents b) ms first
+    may_put = record {
+      within = may.within;
+      objects = λ j run. (found_in j run).object;
+      fields = λ j run. field_of (λ y. kept y ≡ true) h (move_at ms j).from (object_of (contents a) ms j).fields
+          (found_object (move_at ms j).from (found_in j run)).fields (may.kept_fields j run);
+      room = λ j run.
+          let some = run.some in
+          let n = j - first in
+          let at : j ≡ first + n = omega arith in
+          let same = subst (λ i. IsRun ms first (i + 1)) at run in
+          omega (
+            arith,
+            may.room n same,
+            (reads n same).fill,
+            size_in j run,
+            ap (λ i. cells_of (placed_at h (move_at ms i).from)) at,
+          );
+    }
+
+  -- the heap after n copies
+  pub record IsUnderWay (n : ℕ) : Type 0 where
+    pub heap_is : IsHeap (set areas m (area_run place (contents a) ms first n b)) spares limit capacity
+        (cells + cells_run (contents a) ms first n, objects + n, holds) current (run_copied place h ms first n)
+    pub flags : {c g : Bool} → HasFlags h c g → HasFlags (run_copied place h ms first n) c g
+
+  module _ {kept : Addr → Bool} (may : MayPutRun kept (contents a) (contents b) ms first)
+      (places : (y : Addr) → kept y ≡ true → (place y).0 ≢ 0)
+      (apart : (move_at ms first).from.0 / REGION ≢ region_of (move_at ms first).to) where
+    -- one copy more
+    goes_on : {n : ℕ} → IsUnderWay n → IsRun ms first (first + n + 1)
+        → IsLaidOut (put_run place (contents a) ms first (suc n) (contents b)) → IsUnderWay (suc n)
+    unfolding run_copied cells_run put_run
+    goes_on {n} g run laid =
+        let j = first + n in
+        let from = (move_at ms j).from in
+        let o = object_of (contents a) ms j in
+        let r = region_of (move_at ms first).to in
+        let x = run_copied place h ms first n in
+        let y = area_run place (contents a) ms first n b in
+        let z = area_run place (contents a) ms first (suc n) b in
+        let long = length-set areas m y in
+        let (there, to) = run_regions ms first j run in
+        let source : IsPlace (set areas m y) (from.0 / REGION) k a =
+        subst (λ q. IsPlace (set areas m y) q k a) (sym there) (record {
+          number = f.located.place.number;
+          within = omega (arith, long, f.located.place.within);
+          here = area_other t.place y _ apart ∙ f.located.place.here;
+        }) in
+        let target : IsPlace (set areas m y) r m y = record {
+          number = t.place.number;
+          within = omega (arith, long, t.place.within);
+          here = area_here t.place y;
+        } in
+        let has : has_object x from ≡ true = has_there g.heap_is from a source.here ∙ may.objects j run in
+        let into : IsPutInto y z (region_forwarded place o) = record {
+          contents_are = refl;
+          held = refl;
+          generation = refl;
+          live = omega (arith, copy_size place o);
+          count = omega arith;
+          cards = refl;
+        } in
+        let cells_before = ap (cells_run (contents a) ms first) (let e : j - first ≡ n = omega arith in e) in
+        let fill = run_fill place (contents a) ms first n (contents b) in
+        let moved = object_moved g.heap_is (found_at g.heap_is from source has)
+        (located_by g.heap_is target t.held) place z (λ i has nz. places _ (may.fields j run i has nz))
+        (omega (arith, may.room j run, cells_before, fill)) laid into in
+        let whole : with_moved x from r place ≡ run_copied place h ms first (suc n) =
+        ap (λ q. with_moved x from q place) (sym to) in
+        let sum : (cells + cells_run (contents a) ms first n) + size_of o
+        ≡ cells + cells_run (contents a) ms first (suc n) = omega arith in
+        let count : (objects + n) + 1 ≡ objects + suc n = omega arith in
+        record {
+          heap_is = subst (λ (w : List Area × ℕ × ℕ × Heap).
+              IsHeap w.0 spares limit capacity (w.1, w.2, holds) current w.3)
+              (λ i. (set-set areas m y z i, sum i, count i, whole i)) moved;
+          flags = λ {c} {g = e} flags. subst (λ (w : Heap). HasFlags w c e) whole
+              (flags_written x (with_moved x from r place) _ _ refl refl (λ off. off)
+              (λ off. (g.flags flags).registrations off from has) (g.flags flags));
+        }
+
+    under_way : (n : ℕ) → (0 < n → IsRun ms first (first + n))
+        → AreLaidOut place (contents a) ms first n (contents b) → IsUnderWay n
+    unfolding run_copied cells_run put_run
+    under_way zero run laid =
+        let same : areas ≡ set areas m b =
+        sym (ap (set areas m) (place_reads t.place) ∙ set-get_or areas m b) in
+        record {
+          heap_is = subst (λ (w : List Area × ℕ × ℕ). IsHeap w.0 spares limit capacity (w.1, w.2, holds) current h)
+              (λ i. (
+                (same ∙ ap (set areas m) (λ q. record b {
+                  live = plus_none b.live q;
+                  count = plus_none b.count q;
+                })) i,
+                plus_none cells i,
+                plus_none objects i,
+              )) heap;
+          flags = λ flags. flags;
+        }
+    under_way (suc n) run laid =
+        let here : IsRun ms first (first + n + 1) =
+        subst (IsRun ms first) (let e : first + suc n ≡ first + n + 1 = omega arith in e) (run (omega arith)) in
+        goes_on (under_way n (λ some. run_part ms first (first + n) _ here (omega arith) (omega arith))
+        (λ j below. laid j (omega arith))) here (laid n (omega arith))
+
+-- the heap after the copies of a run
+module _ {areas : List Area} {spares : List ℕ} {limit capacity cells objects holds current : ℕ} {h : Heap}
+    (heap : IsHeap areas spares limit capacity (cells, objects, holds) current h) (ms : List Move)
+    (first : ℕ) {kept : Addr → Bool} {place : Addr → Addr} (may : MayRun kept place h ms first) where
+  -- the regions of the list that are read
+  pub source_read : {old : List Area} {i : ℕ} {a : Area} → old ≡ areas → a ≡ get_or old i a
+      → i ≡ (move_at ms first).from.0 / REGION - 1 → IsFound areas h (move_at ms first).from i a
+  source_read {i = i} {a} same is e =
+      found_read heap (move_at ms first).from (may.objects first (run_one ms first may.within)) e
+      (is ∙ ap (λ xs. get_or xs i a) same)
+
+  pub target_read : {old : List Area} {j : ℕ} {b : Area} → old ≡ areas → b ≡ get_or old j b
+      → j ≡ (move_at ms first).to.0 / REGION - 1 → IsHeldAt areas h (region_of (move_at ms first).to) j b
+  unfolding region_of
+  target_read {j = j} {b} same is e = held_read heap may.held e (is ∙ ap (λ xs. get_or xs j b) same)
+
+  pub run_moved : ((y : Addr) → kept y ≡ true → (place y).0 ≢ 0) → {old new : List Area} {i j n size : ℕ}
+      → old ≡ areas → i ≡ (move_at ms first).from.0 / REGION - 1 → j ≡ (move_at ms first).to.0 / REGION - 1
+      → ArePutBetween place old new i j ms first n size → IsRun ms first (first + n)
+      → IsHeap new spares limit capacity (cells + size, objects + n, holds) current
+      (run_copied place h ms first n)
+      × ((d e : Bool) → HasFlags h d e → HasFlags (run_copied place h ms first n) d e)
+  unfolding region_of
+  run_moved places {j = j} {n} same source target c run =
+      let f = source_read same c.source_is source in
+      let t = target_read same c.target_is target in
+      let is = under_way heap ms first f t place (may_put heap ms first f t place may) places may.apart n
+      (λ some. run) c.laid_out in
+      let list = ap (λ xs. set xs j (area_run place (contents c.from) ms first n c.before)) (sym same)
+      ∙ sym c.list in (
+        subst (λ (w : List Area × ℕ). IsHeap w.0 spares limit capacity (cells + w.1, objects + n, holds) current
+            (run_copied place h ms first n)) (λ i. (list i, sym c.cells_is i)) is.heap_is,
+        λ d e flags. is.flags flags,
+      )

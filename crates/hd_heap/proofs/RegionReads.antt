@@ -1,5 +1,5 @@
 -- Lemmas on a heap that is read from its regions.
-use Rattle.hd_heap.proofs.Basics.{Addr, AreOthersFull, Area, Bool, CARDS, Heap, IsArea, IsKept, IsObject, IsObjectOf, List, None, Option, Placed, REGION, Region, Some, [], address, ap, area_at, arith, both_ways, card_in, cards_in, cases_lt, cond, contents, deque_capacity, false, fields_in, from_one, generation_in, get-by_place, get_or, get_or-map, get_or-set_other, get_or-set_same, get_or_past, has_object, heap_of, inl, inr, is_in_use, is_set, is_some, length, length-map, length-set, map, map-set, object_in, objects_in, option_map, placed_at, placed_in, placed_of, refl, region_at, region_generation, region_in, regions_in, set, subst, suc, sym, tables, true, unwrap_or, used_of, zero, ℕ, ◌%◌, ◌+◌, ◌-◌, ◌/◌, ◌<◌, ◌∙◌, ◌∷◌, ◌≡◌, ◌≢◌}
+use Rattle.hd_heap.proofs.Basics.{Addr, AreOthersFull, Area, Bool, CARDS, HasFlags, Heap, IsArea, IsKept, IsObject, IsObjectOf, List, None, Option, Placed, REGION, Region, Some, [], address, ap, area_at, arith, both_ways, card_in, cards_in, cases_lt, cond, contents, deque_capacity, false, fields_in, from_one, generation_in, get-by_place, get_or, get_or-map, get_or-set_other, get_or-set_same, get_or_past, has_object, heap_of, inl, inr, is_in_use, is_set, is_some, length, length-map, length-set, map, map-set, object_in, objects_in, option_map, placed_at, placed_in, placed_of, refl, region_at, region_generation, region_in, regions_in, set, subst, suc, sym, tables, true, unwrap_or, used_of, zero, ℕ, ◌%◌, ◌+◌, ◌-◌, ◌/◌, ◌<◌, ◌∙◌, ◌∷◌, ◌≡◌, ◌≢◌}
 use Rattle.hd_cells.specs.Region.{object_at as object_in_region}
 use Rattle.hd_model.specs.Heap.{region_of}
 use Rattle.hd_heap.specs.declared.heap.Heap.TheInside.{Inside}
@@ -102,7 +102,7 @@ pub record IsFound (areas : List Area) (h : Heap) (at : Addr) (k : ℕ) (a : Are
   pub get : fin.get h.objects at.0 ≡ Some (placed_of (object_in_region (contents a) (at.0 % REGION)))
   pub placed : placed_at h at ≡ placed_of (object_in_region (contents a) (at.0 % REGION))
 
-is_some_map : {A B : Type 0} (f : A → B) (o : Option A) → is_some (option_map f o) ≡ is_some o
+pub is_some_map : {A B : Type 0} (f : A → B) (o : Option A) → is_some (option_map f o) ≡ is_some o
 is_some_map f None = refl
 is_some_map f (Some x) = refl
 
@@ -120,6 +120,7 @@ pub record IsHeap (areas : List Area) (spares : List ℕ) (limit capacity : ℕ)
 pub opened : (s : Inside) {h : Heap} → heap_of s.areas.items s.spare.items s.limit ≡ h
     → IsKept s.areas.items s.spare.items (deque_capacity s.spare) s.used s.count s.held
     × AreOthersFull (heap_of s.areas.items s.spare.items s.limit) s.current
+    × HasFlags (heap_of s.areas.items s.spare.items s.limit) s.carding s.registering
     → IsHeap s.areas.items s.spare.items s.limit (deque_capacity s.spare)
     (s.used, s.count, s.held) s.current h
 opened s view invariant = record { view = view; kept = invariant.0; full = invariant.1 }

@@ -4,7 +4,7 @@ use Rattle.hd_model.specs.Heap.{region_of, card_of, object_at}
 use Rattle.hd_heap.proofs.{RegionReads.IsPlace, RegionReads.IsHeap, RegionReads.found, RegionReads.found_at, RegionReads.has_there, RegionReads.set_at, RegionReads.object_of, WantedObjects.unwanted}
 
 -- what is asked second is asked only where the first holds
-and_first : (b c : Bool) → (b && c) ≡ true → b ≡ true
+pub and_first : (b c : Bool) → (b && c) ≡ true → b ≡ true
 and_first true c e = refl
 and_first false c e = absurd (cc e)
 
@@ -27,7 +27,7 @@ wants_low w a off is want = elim (cases_lt off REGION) [
 ]
 
 -- the region of an address
-placed : {areas : List Area} {r k : ℕ} {a : Area} → IsPlace areas r k a → (b : Addr) → b.0 / REGION ≡ r
+pub placed : {areas : List Area} {r k : ℕ} {a : Area} → IsPlace areas r k a → (b : Addr) → b.0 / REGION ≡ r
     → IsPlace areas (b.0 / REGION) k a
 placed {areas} p b same = record {
   number = same ∙ p.number;

@@ -1,16 +1,16 @@
 -- What the calls of a heap return, and how they leave it.
-use Rattle.std.specs.Prelude.{◌≡◌, ◌≢◌, ℕ, ◌+◌, ◌*◌, ◌^◌, ◌/◌, ◌<◌, ◌≤◌, ◌&&◌, ◌++◌, ◌∷◌, Bool, true, false, not, if◌then◌else◌, List, [], map as each, drop, length, replicate, slice_set, slice_index, slice_index_or, sum_by, nat_lt, nat_le, nat_eq, Option, Some, None, MatchOption, option_map}
+use Rattle.std.specs.Prelude.{◌≡◌, ◌≢◌, ℕ, ◌+◌, ◌*◌, ◌/◌, ◌<◌, ◌≤◌, ◌&&◌, ◌++◌, ◌∷◌, Bool, true, false, not, if◌then◌else◌, List, [], map as each, drop, length, replicate, slice_set, slice_index, sum_by, nat_lt, nat_le, nat_eq, AllPairs, Contains, Option, Some, None, MatchOption, option_map}
 use Rattle.std.specs.FinMap as map
 use Rattle.std.specs.FinSet as set
-use Rattle.hd_model.specs.declared.limits.TheConstants.{REGION, LEFT, HEADER}
+use Rattle.hd_model.specs.declared.limits.TheConstants.{REGION, REGIONS, LEFT}
 use Rattle.hd_model.specs.declared.data.Id.{Id}
 use Rattle.hd_model.specs.declared.data.Addr.{Addr}
 use Rattle.hd_model.specs.Scene.{generation_at, IsField}
 use Rattle.hd_model.specs.Counting.{Counts}
 use Rattle.hd_model.specs.Heap.{Placed, Heap, region_of, card_of, region_at, region_generation, is_in_use, has_object, object_at, placed_at, cells_of, used_of, is_set, is_carded}
 use Rattle.hd_heap.specs.declared.area.TheConstants.{CARDS}
-use Rattle.hd_heap.specs.declared.survey.CondemnedObject.{CondemnedObject}
-use Rattle.hd_heap.specs.declared.survey.Survey.{Survey}
+use Rattle.hd_heap.specs.declared.condemned.ObjectHeader.{ObjectHeader}
+use Rattle.hd_heap.specs.declared.condemned.Extent.{Extent}
 use Rattle.hd_heap.specs.declared.fault.NewFault.{NewFault}
 use Rattle.hd_heap.specs.declared.fault.NewFault.TheVariants.{Full, Memory}
 
@@ -172,27 +172,46 @@ pub record NamesBelow (h : Heap) (at : Addr) (n : ℕ) : Type 0 where
 abbrev pub HasCondemned : Heap → ℕ → ℕ → Type 0
 HasCondemned h n r = (a : Addr) × ((is_condemned h n a ≡ true) × (region_of a ≡ r))
 
--- the k-th object of a survey
-abbrev pub surveyed : List CondemnedObject → ℕ → CondemnedObject
-surveyed s k = slice_index_or s k (record { at = record { 0 = 0 }; fields = 0; registered = false })
+-- the objects of a property: how many they are, and the cells that they take together
+pub record HasAmount (h : Heap) (P : Addr → Type 0) (objects cells : ℕ) : Type 0 where
+  pub members : List Addr
+  pub apart : AllPairs (λ x y. x ≢ y) members
+  pub each : (a : Addr) → Contains members a → P a
+  pub all : (a : Addr) → P a → Contains members a
+  pub number : length members ≡ objects
+  pub sum : sum_by (λ a. cells_of (placed_at h a)) members ≡ cells
 
--- the cells of an object of a survey
-abbrev pub cells_surveyed : CondemnedObject → ℕ
-cells_surveyed o = o.fields + HEADER
+-- how many objects are condemned and the cells that they take together, the number of their regions, and a
+-- number above that of each region with objects
+pub record IsExtent (h : Heap) (n : ℕ) (e : Extent) : Type 0 where
+  pub objects : HasAmount h (λ a. is_condemned h n a ≡ true) e.objects e.cells
+  pub regions : Counts (HasCondemned h n) e.regions
+  pub above : (a : Addr) → has_object h a ≡ true → region_of a < e.end
+  pub small : e.end ≤ REGIONS
 
--- the condemned objects of generation n or a younger one, each once, in rising address, with what their
--- headers say
-pub record AreSurveyed (h : Heap) (n : ℕ) (s : List CondemnedObject) : Type 0 where
-  pub condemned : (k : ℕ) → k < length s → is_condemned h n (surveyed s k).at ≡ true
-  pub rising : (j k : ℕ) → j < k → k < length s → (surveyed s j).at.0 < (surveyed s k).at.0
-  pub all : (a : Addr) → is_condemned h n a ≡ true → (k : ℕ) × ((k < length s) × ((surveyed s k).at ≡ a))
-  pub fields : (k : ℕ) → k < length s → (surveyed s k).fields ≡ length (placed_at h (surveyed s k).at).fields
-  pub registered : (k : ℕ) → k < length s
-      → (surveyed s k).registered ≡ (placed_at h (surveyed s k).at).registered
-  pub few : length s < 2 ^ 32
+-- the first region past a number that has a condemned object, or None where there is none
+pub record IsNextRegion (h : Heap) (n after r : ℕ) : Type 0 where
+  pub at : Addr
+  pub member : is_condemned h n at ≡ true
+  pub region : region_of at ≡ r
+  pub beyond : after < r
+  pub least : (a : Addr) → is_condemned h n a ≡ true → after < region_of a → r ≤ region_of a
 
--- these objects, the cells that they take together, and the number of regions that have one
-pub record IsSurvey (h : Heap) (n : ℕ) (s : Survey) : Type 0 where
-  pub objects : AreSurveyed h n s.objects.items
-  pub cells : s.cells ≡ sum_by cells_surveyed s.objects.items
-  pub regions : Counts (HasCondemned h n) s.regions
+abbrev pub IsRegionWalk : Heap → (n after : ℕ) → Option ℕ → Type 0
+IsRegionWalk h n after answer =
+    MatchOption answer ((a : Addr) → is_condemned h n a ≡ true → region_of a ≤ after)
+    (λ r. IsNextRegion h n after r)
+
+-- the first object of a region from an offset on, as its header says, or None where there is none
+pub record IsFirstObject (h : Heap) (r from : ℕ) (o : ObjectHeader) : Type 0 where
+  pub object : has_object h o.at ≡ true
+  pub region : region_of o.at ≡ r
+  pub beyond : r * REGION + from ≤ o.at.0
+  pub least : (a : Addr) → has_object h a ≡ true → r * REGION + from ≤ a.0 → o.at.0 ≤ a.0
+  pub fields : o.fields ≡ length (placed_at h o.at).fields
+  pub registered : o.registered ≡ (placed_at h o.at).registered
+
+abbrev pub IsFirstIn : Heap → (r from : ℕ) → Option ObjectHeader → Type 0
+IsFirstIn h r from answer =
+    MatchOption answer ((a : Addr) → has_object h a ≡ true → region_of a ≡ r → a.0 < r * REGION + from)
+    (λ o. IsFirstObject h r from o)

@@ -5,3 +5,6 @@ pub mod Areas
 pub mod Kept
 pub mod Steps
 pub mod Forwarding
+pub mod Moves
+pub mod Runs
+pub mod Walks

@@ -1,9 +1,9 @@
 -- What the private steps of a heap do.
-use Rattle.std.specs.Prelude.{◌≡◌, ◌≢◌, ℕ, ◌+◌, ◌*◌, ◌/◌, ◌<◌, ◌≤◌, ◌&&◌, Bool, true, false, if◌then◌else◌, nat_lt, nat_le, List, map, length, slice_index, slice_set, sum_by, ⊤, Option, Some, None, MatchOption}
+use Rattle.std.specs.Prelude.{◌≡◌, ◌≢◌, ℕ, ◌+◌, ◌*◌, ◌/◌, ◌<◌, ◌≤◌, ◌&&◌, Bool, true, false, if◌then◌else◌, nat_lt, nat_le, List, map, length, slice_index, ⊤, Option, Some, None, MatchOption}
 use Rattle.std.specs.FinMap.{contains_key}
-use Rattle.hd_model.specs.declared.limits.TheConstants.{REGION, CARD, LEFT, HEADER}
+use Rattle.hd_model.specs.declared.limits.TheConstants.{REGION, REGIONS, CARD, LEFT}
 use Rattle.hd_model.specs.declared.data.Addr.{Addr}
-use Rattle.hd_model.specs.Heap.{Placed, Heap, offset_of, has_object, placed_at, object_at, is_in_use, region_at, region_generation}
+use Rattle.hd_model.specs.Heap.{Placed, Heap, offset_of, has_object, placed_at, object_at, is_in_use, is_set, region_at, region_generation}
 use Rattle.hd_model.specs.Scene.{fields_at, generation_at}
 use Rattle.hd_heap.specs.declared.area.Area.{Area}
 use Rattle.hd_heap.specs.declared.area.Part.{Part}
@@ -13,10 +13,8 @@ use Rattle.hd_heap.specs.declared.area.Wanted.TheVariants.{Any, Carded, Condemne
 use Rattle.hd_cells.specs.Region.{IsObject, object_at as object_in_region, with_object as region_with_object, with_put as region_with_put, without_object, empty_region}
 use Rattle.hd_cells.specs.Object.{Object, size_of, with_value, with_registered, with_field as region_with_field}
 use Rattle.hd_heap.specs.Areas.{contents, card_in, address, placed_of, IsArea}
-use Rattle.hd_heap.specs.Forwarding.{region_forwarded, MayForward}
-use Rattle.hd_heap.specs.Calls.{is_old_carded, with_field, with_fresh, is_condemned, surveyed, cells_surveyed, HasCondemned, AreFull}
-use Rattle.hd_heap.specs.declared.survey.CondemnedObject.{CondemnedObject}
-use Rattle.hd_heap.specs.declared.survey.Survey.{Survey}
+use Rattle.hd_heap.specs.Calls.{is_old_carded, with_field, with_fresh, is_condemned, HasAmount, HasCondemned, AreFull}
+use Rattle.hd_heap.specs.declared.condemned.Extent.{Extent}
 use Rattle.hd_model.specs.Counting.{Counts}
 
 -- a region in use of generation 0 with `cells` cells left
@@ -30,6 +28,12 @@ abbrev pub AreOthersFull : Heap → ℕ → Type 0
 AreOthersFull h current =
     (r : ℕ) → current ≢ 0 → is_in_use h r ≡ true → region_generation h r ≡ 0 → r ≢ current
     → LEFT ≤ (region_at h r).fill
+
+-- what is noted of set cards and of registered objects: nothing is said where a flag is true
+pub record HasFlags (h : Heap) (carding registering : Bool) : Type 0 where
+  pub cards : carding ≡ false → (card : ℕ) → is_set h card ≡ false
+  pub registrations : registering ≡ false → (a : Addr) → has_object h a ≡ true
+      → (placed_at h a).registered ≡ false
 
 -- there is such a region. It was in use; or all of generation 0 are full, and it is the first free one, or
 -- one for which memory was taken
@@ -109,6 +113,12 @@ with_part p (Value v) = record p { value = v }
 with_part p (Registered on) = record p { registered = on }
 with_part p (Field i n) = with_field p i (address n)
 
+-- whether it registers the object
+abbrev pub registers : Part → Bool
+registers (Value v) = false
+registers (Registered on) = on
+registers (Field i n) = false
+
 abbrev pub region_with_part : Object → Part → Object
 region_with_part o (Value v) = with_value o v
 region_with_part o (Registered on) = with_registered o on
@@ -146,54 +156,22 @@ pub record IsFreed (a : Area) : Type 0 where
   pub live : a.live ≡ 0
   pub count : a.count ≡ 0
 
--- an object of a region may be copied into another one
-pub record MayCopy (kept : Addr → Bool) (a b : Area) (from : ℕ) : Type 0 where
-  pub source : IsArea a
-  pub object : IsObject (contents a) from
-  pub target : IsArea b
-  pub held : b.held ≡ true
-  pub room : (contents b).fill + size_of (object_in_region (contents a) from) ≤ REGION
-  pub fields : MayForward kept (object_in_region (contents a) from).fields
-
--- the object is put into a region of a list, which takes these cells from an offset on
-pub record IsCopiedInto (old new : List Area) (target : ℕ) (b : Area) (o : Object)
-    (offset cells : ℕ) : Type 0 where
-  pub after : Area
-  pub area : IsArea after
-  pub list : new ≡ slice_set old target after
-  pub put : IsPutInto b after o
-  pub offset_is : offset ≡ (contents b).fill
-  pub cells_is : cells ≡ size_of o
-
 -- a reference to an object of a generation below n
 abbrev pub is_below : Heap → Option Addr → ℕ → Bool
 is_below h None n = false
 is_below h (Some y) n = nat_lt (generation_at (object_at h) y) n
 
--- what a survey says of a condemned object below an address
-pub record IsListed (h : Heap) (n bound : ℕ) (o : CondemnedObject) : Type 0 where
-  pub condemned : is_condemned h n o.at ≡ true
-  pub below : o.at.0 < bound
-  pub fields : o.fields ≡ length (placed_at h o.at).fields
-  pub registered : o.registered ≡ (placed_at h o.at).registered
-
--- the condemned objects below an address are surveyed, and these cells are theirs; no region has the
--- addresses below REGION
-pub record IsSurveyedTo (h : Heap) (n bound : ℕ) (s : List CondemnedObject) (cells : ℕ) : Type 0 where
-  pub each : (k : ℕ) → k < length s → IsListed h n bound (surveyed s k)
-  pub rising : (j k : ℕ) → j < k → k < length s → (surveyed s j).at.0 < (surveyed s k).at.0
-  pub all : (a : Addr) → is_condemned h n a ≡ true → a.0 < bound
-      → (k : ℕ) × ((k < length s) × ((surveyed s k).at ≡ a))
-  pub sum : cells ≡ sum_by cells_surveyed s
-  pub small : cells + REGION ≤ bound
-  pub few : HEADER * length s ≤ cells
-
 -- a region that begins below an address has a condemned object
 abbrev pub HasCondemnedBelow : Heap → (n bound : ℕ) → ℕ → Type 0
 HasCondemnedBelow h n bound r = HasCondemned h n r × (r * REGION < bound)
 
--- how far a survey has come
-pub record IsSurveying (h : Heap) (n bound : ℕ) (s : Survey) : Type 0 where
-  pub objects : IsSurveyedTo h n bound s.objects.items s.cells
-  pub regions : Counts (HasCondemnedBelow h n bound) s.regions
-  pub fewer : (s.regions + 1) * REGION ≤ bound
+-- what is condemned in the regions below a number, and a number above those of all; no region has the addresses
+-- below REGION
+pub record IsExtentBelow (h : Heap) (n r : ℕ) (e : Extent) : Type 0 where
+  pub objects : HasAmount h (λ a. (is_condemned h n a ≡ true) × (a.0 < r * REGION)) e.objects e.cells
+  pub regions : Counts (HasCondemnedBelow h n (r * REGION)) e.regions
+  pub above : (a : Addr) → has_object h a ≡ true → a.0 / REGION < e.end
+  pub small : e.end ≤ REGIONS
+  pub fewer : e.regions < r
+  pub cells : e.cells + REGION ≤ r * REGION
+  pub few : e.objects ≤ e.cells

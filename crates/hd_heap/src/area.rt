@@ -1,5 +1,5 @@
 // A region of a heap, with what the heap keeps of it.
-ghost use Rattle.std.specs.Prelude.{◌≡◌, ◌≢◌, ℕ, ◌+◌, ◌/◌, ◌<◌, ◌≤◌, ◌&&◌, ◌⊎◌, true, false, nat_lt, nat_eq, not};
+ghost use Rattle.std.specs.Prelude.{◌≡◌, ◌≢◌, ℕ, ◌+◌, ◌-◌, ◌/◌, ◌<◌, ◌≤◌, ◌&&◌, ◌⊎◌, true, false, nat_lt, nat_eq, not};
 ghost use Rattle.std.specs.Prelude.{Some, None, IfSome, IsTrue, length};
 ghost use Rattle.std.specs.FinMap as map;
 ghost use Rattle.hd_cells.specs.Object.{new_object, size_of};
@@ -7,11 +7,13 @@ ghost use Rattle.hd_cells.specs.Region.{IsFirstFrom, IsLaidOut, IsObject, empty_
 ghost use Rattle.hd_cells.specs.Region.{object_at, with_object};
 ghost use Rattle.hd_heap.specs.Areas.{contents, card_in, BeginsIn, IsArea};
 ghost use Rattle.hd_heap.specs.Steps.{wants, HasPart, IsAsked, IsFirstAt, IsFirstSince, IsTaken};
-ghost use Rattle.hd_heap.specs.Steps.{IsFreed, IsPutInto, IsWritten, region_with_part};
+ghost use Rattle.hd_heap.specs.Steps.{IsFreed, IsPutInto, IsWritten, region_with_part, registers};
+ghost use Rattle.hd_heap.specs.Runs.{area_run, cells_run, AreLaidOut, IsRun, MayPutRun};
 ghost use Rattle.hd_heap.specs.Forwarding.{region_forwarded, MayForward};
 ghost use Rattle.hd_heap.specs.declared.area.Wanted.TheVariants.{Condemned};
 
-use crate::forwarding::{copy_forwarded, forward_fields};
+use crate::forwarding::{copy_run, forward_fields};
+use crate::moves::Move;
 use hd_cells::Region;
 use hd_model::Forward;
 use hd_model::limits::{CARD, FIELDS, HEADER, OLDEST, REGION};
@@ -48,6 +50,19 @@ pub(crate) enum Part {
     Value(u64),
     Registered(bool),
     Field(u32, u32),
+}
+
+impl Part {
+    /// Whether it registers the object.
+    #[inline(always)]
+    pub(crate) fn registers(self) -> bool
+        ensures { result ≡ registers self }
+    {
+        match self {
+            Part::Registered(on) => on,
+            Part::Value(_) | Part::Field(_, _) => false,
+        }
+    }
 }
 
 /// The offset of the first object after an offset. Where an object begins at the offset, this takes
@@ -142,36 +157,34 @@ impl Area {
         self.region.put_object(id, fields, registered)
     }
 
-    /// Puts a copy of an object of another region after all others, with its fields as `forward`
-    /// moves them, and returns its offset and its size.
-    pub(crate) fn put_forwarded<F: Forward>(
+    /// Puts copies of the objects of some moves after all others, with their fields as `forward`
+    /// moves them, as far as they go with the one at an index. Returns the index after them and the
+    /// cells that they take.
+    pub(crate) fn put_run<F: Forward>(
         &mut self,
-        source: &Region,
-        from: u32,
+        source: &Area,
+        moves: &[Move],
+        first: usize,
         forward: &F,
-    ) -> (u32, u32)
+    ) -> (usize, u32)
         requires area { IsArea self.old }
-        requires held { self.old.held ≡ true }
-        requires object { IsObject source.now from }
-        requires room { (contents self.old).fill + size_of (object_at source.now from) ≤ REGION }
+        requires run { let kept = F.kept forward.now in
+            MayPutRun kept (contents source.now) (contents self.old) moves.now first }
         requires laid { F.laid forward.now }
-        requires kept { MayForward (F.kept forward.now) (object_at source.now from).fields }
-        ensures area { IsArea self.new }
-        ensures offset { result.0 ≡ (contents self.old).fill }
-        ensures size { let object =
-            region_forwarded (F.place forward.now) (object_at source.now from)
-            in result.1 ≡ size_of object }
-        ensures put { let object =
-            region_forwarded (F.place forward.now) (object_at source.now from)
-            in IsPutInto self.old self.new object }
+        ensures run { IsRun moves.now first result.0 }
+        ensures put { let place = F.place forward.now in let n = result.0 - first in
+            self.new ≡ area_run place (contents source.now) moves.now first n self.old }
+        ensures laid_out { let place = F.place forward.now in let n = result.0 - first in
+            AreLaidOut place (contents source.now) moves.now first n (contents self.old) }
+        ensures cells { let n = result.0 - first in
+            result.1 ≡ cells_run (contents source.now) moves.now first n }
     {
-        let cells = source.fields(from) + HEADER;
+        let before = self.region.fill();
+        let end = copy_run(&mut self.region, &source.region, moves, first, forward);
+        let cells = self.region.fill() - before;
         self.live += cells;
-        self.count += 1;
-        (
-            copy_forwarded(&mut self.region, source, from, forward),
-            cells,
-        )
+        self.count += (end - first) as u32;
+        (end, cells)
     }
 
     /// Gives the fields of an object their forwarding addresses.
@@ -184,7 +197,8 @@ impl Area {
         ensures written { let object = object_at (contents self.old) at in
             IsWritten self.old self.new at (region_forwarded (F.place forward.now) object) }
     {
-        forward_fields(&mut self.region, at, forward);
+        let fields = self.region.fields(at);
+        forward_fields(&mut self.region, at, fields, forward);
     }
 
     /// Writes a part of an object.
@@ -255,14 +269,14 @@ impl Area {
         }
     }
 
-    /// Whether the region is in use and of no generation above `n`.
-    pub(crate) fn is_condemned(&self, n: u8) -> bool
+    /// Whether there is an object of no generation above `n`.
+    pub(crate) fn has_condemned(&self, n: u8) -> bool
         requires { IsArea self.now }
-        ensures held { result ≡ true → self.now.held ≡ true }
         ensures young { result ≡ true → self.now.generation ≤ n }
+        ensures some { result ≡ true → self.now.live ≢ 0 }
         ensures none { result ≡ false → (k : ℕ) → wants (Condemned n) self.now k ≡ false }
     {
-        self.held && self.generation <= n
+        self.generation <= n && self.live != 0
     }
 
     /// Whether there may be an object that is wanted, as far as can be said without a look at any.
@@ -274,7 +288,7 @@ impl Area {
         match wanted {
             Wanted::Any => self.live != 0,
             Wanted::Carded(n) => self.generation > n && self.has_set_card(),
-            Wanted::Condemned(n) => self.generation <= n && self.live != 0,
+            Wanted::Condemned(n) => self.has_condemned(n),
         }
     }
 

@@ -1,5 +1,5 @@
 // A heap, seen by its callers as maps from addresses to objects and from numbers to regions in use.
-ghost use Rattle.std.specs.Prelude.{◌≡◌, ◌≢◌, ℕ, ◌+◌, ◌-◌, ◌*◌, ◌/◌, ◌%◌, ◌<◌, ◌≤◌, ◌↔◌, ◌++◌, ◌∷◌, []};
+ghost use Rattle.std.specs.Prelude.{◌≡◌, ◌≢◌, ℕ, ◌+◌, ◌-◌, ◌*◌, ◌/◌, ◌%◌, ◌<◌, ◌≤◌, ◌↔◌, ◌||◌, ◌++◌, ◌∷◌, []};
 ghost use Rattle.std.specs.Prelude.{Bool, true, false, length, max, take, replicate};
 ghost use Rattle.std.specs.Prelude.{slice_index, slice_index_or};
 ghost use Rattle.std.specs.Prelude.{None, Some, IfOk, IfErr, IfSome, OnOk, OnErr, MatchResult, MatchOption};
@@ -8,22 +8,23 @@ ghost use Rattle.std.specs.Bool.{Decides};
 ghost use Rattle.std.specs.FinMap as map;
 ghost use Rattle.hd_model.specs.Scene.{fields_at, generation_at, IsField};
 ghost use Rattle.hd_model.specs.Heap.{has_object, object_at, placed_at, cells_of, used_of};
-ghost use Rattle.hd_model.specs.Heap.{is_in_use, region_at, region_of, offset_of, region_generation, card_of};
+ghost use Rattle.hd_model.specs.Heap.{is_in_use, is_set, region_at, region_of, offset_of, region_generation, card_of};
 ghost use Rattle.hd_heap.specs.Sound.{IsSound};
 ghost use Rattle.hd_heap.specs.Calls.{empty_heap, new_object, with_object, with_put, with_field};
 ghost use Rattle.hd_heap.specs.Calls.{IsMade, IsRefused, LacksSpare, AreFull};
 ghost use Rattle.hd_heap.specs.Calls.{stored, is_younger, with_card, IsWalk, is_old_carded, is_condemned};
 ghost use Rattle.hd_heap.specs.Calls.{with_fresh, with_copy, IsRemoved, with_generation};
-ghost use Rattle.hd_heap.specs.Calls.{with_moved, forwarded, without_region, NamesBelow, IsSurvey};
-ghost use Rattle.hd_cells.specs.Region.{object_at as object_in_region};
-ghost use Rattle.hd_heap.specs.Areas.{address, contents};
-ghost use Rattle.hd_heap.specs.Forwarding.{region_forwarded};
+ghost use Rattle.hd_heap.specs.Calls.{forwarded, without_region, NamesBelow};
+ghost use Rattle.hd_heap.specs.Areas.{address, contents, IsArea};
 ghost use Rattle.hd_heap.specs.Steps.{HasPart, HasRoom, IsObjectOf, IsRoom, with_part};
 ghost use Rattle.hd_heap.specs.Steps.{is_wanted, IsLeastBetween, IsLeastFrom};
-ghost use Rattle.hd_heap.specs.Steps.{is_below, MayCopy, IsCopiedInto, IsSurveying};
+ghost use Rattle.hd_heap.specs.Steps.{is_below};
+ghost use Rattle.hd_heap.specs.Runs.{run_copied, ArePutBetween, IsRun, MayPutRun, MayRun};
 
+use crate::NewFault;
 use crate::area::{Area, Part, Wanted};
-use crate::{CondemnedObject, NewFault, Survey};
+use crate::fields::ObjectFields;
+use crate::moves::Move;
 use hd_cells::Region;
 use hd_model::limits::{CARD, FIELDS, HEADER, OLDEST, REGION, REGIONS};
 use hd_model::{Addr, Forward, Id, Memory};
@@ -37,7 +38,7 @@ use std::marker::Model;
 #[derive(Drop)]
 pub struct Heap {
     alloc: Global,
-    areas: Vec<Area>,
+    pub(crate) areas: Vec<Area>,
     spare: VecDeque<u32>,
     limit: u32,
     used: u32,
@@ -45,6 +46,9 @@ pub struct Heap {
     held: u32,
     // The region of the last new object, or 0 where other ones may have room for the next.
     current: u32,
+    // Whether a card may be set, and whether an object may be registered for finalisation.
+    carding: bool,
+    registering: bool,
 }
 
 impl Model for Heap {
@@ -58,20 +62,18 @@ impl Model for Heap {
     ghost use Rattle.std.specs.VecDeque.{deque_capacity};
     ghost use Rattle.hd_heap.specs.Areas.{heap_of};
     ghost use Rattle.hd_heap.specs.Kept.{IsKept};
-    ghost use Rattle.hd_heap.specs.Steps.{AreOthersFull};
+    ghost use Rattle.hd_heap.specs.Steps.{AreOthersFull, HasFlags};
 
     ghost view = { λ h. heap_of h.areas.items h.spare.items h.limit };
 
     ghost invariant = { λ h. IsKept h.areas.items h.spare.items (deque_capacity h.spare)
         h.used h.count h.held
-        × AreOthersFull (heap_of h.areas.items h.spare.items h.limit) h.current };
+        × AreOthersFull (heap_of h.areas.items h.spare.items h.limit) h.current
+        × HasFlags (heap_of h.areas.items h.spare.items h.limit) h.carding h.registering };
 }
 
-/// More than the objects that a region can have.
-const MOST: usize = 86;
-
 /// The index in the heap's list of a region, by its number from 1 on.
-fn place_of(region: u32) -> usize
+pub(crate) fn place_of(region: u32) -> usize
     ensures { result ≡ region - 1 }
 {
     region.saturating_sub(1) as usize
@@ -85,7 +87,7 @@ fn offset_of(at: Addr) -> u32
 }
 
 /// The address of a cell of a region.
-fn address_in(region: u32, offset: u32) -> Addr
+pub(crate) fn address_in(region: u32, offset: u32) -> Addr
     requires region { region < REGIONS }
     requires offset { offset < REGION }
     ensures { result.0 ≡ region * REGION + offset }
@@ -101,39 +103,48 @@ fn still_current(current: u32, generation: u8) -> u32
     if generation == 0 { 0 } else { current }
 }
 
+/// A flag after something was noted, or not.
+fn noted(flag: bool, on: bool) -> bool
+    ensures { result ≡ (flag || on) }
+{
+    flag || on
+}
+
 /// What a field as it is stored references.
-fn address_of(cell: u32) -> Option<Addr>
+pub(crate) fn address_of(cell: u32) -> Option<Addr>
     ensures { result ≡ address cell }
 {
     if cell == 0 { None } else { Some(Addr(cell)) }
 }
 
-/// Copies an object from a region of the list to another one, with forwarding addresses, and
-/// returns the offset of the copy and its size.
+/// Copies the objects of some moves from a region of the list to another one, with forwarding
+/// addresses, as far as they go with the one at an index. Returns the index after them and the cells
+/// that they take.
 fn copy_between<F: Forward>(
     areas: &mut [Area],
     source: usize,
-    from: u32,
     target: usize,
+    moves: &[Move],
+    first: usize,
     forward: &F,
-) -> (u32, u32)
+) -> (usize, u32)
     requires source { source < length areas.old }
     requires target { target < length areas.old }
     requires apart { source ≢ target }
     requires laid { F.laid forward.now }
     requires may_copy { (a b : Area) → a ≡ slice_index_or areas.old source a
-        → b ≡ slice_index_or areas.old target b → MayCopy (F.kept forward.now) a b from }
-    ensures { (a b : Area) → a ≡ slice_index_or areas.old source a
-        → b ≡ slice_index_or areas.old target b
-        → let o = region_forwarded (F.place forward.now) (object_in_region (contents a) from) in
-        IsCopiedInto areas.old areas.new target b o result.0 result.1 }
+        → b ≡ slice_index_or areas.old target b → let kept = F.kept forward.now in
+        IsArea b × MayPutRun kept (contents a) (contents b) moves.now first }
+    ensures run { IsRun moves.now first result.0 }
+    ensures put { let place = F.place forward.now in let n = result.0 - first in
+        ArePutBetween place areas.old areas.new source target moves.now first n result.1 }
 {
     if source < target {
         let (low, high) = areas.split_at_mut(target);
-        high[0].put_forwarded(&low[source].region, from, forward)
+        high[0].put_run(&low[source], moves, first, forward)
     } else {
         let (low, high) = areas.split_at_mut(source);
-        low[target].put_forwarded(&high[0].region, from, forward)
+        low[target].put_run(&high[0], moves, first, forward)
     }
 }
 
@@ -152,6 +163,8 @@ impl Heap {
             count: 0,
             held: 0,
             current: 0,
+            carding: false,
+            registering: false,
         })
     }
 
@@ -194,6 +207,19 @@ impl Heap {
     {
         let (area, offset) = self.area_of(at);
         area.region.fields(offset)
+    }
+
+    /// The fields of the object at `at`, for a walk over them.
+    #[inline(always)]
+    pub fn fields_of(&self, at: Addr) -> ObjectFields<'_>
+        requires { has_object self.now at ≡ true }
+        ensures { result ≡ fields_at (object_at self.now) at }
+    {
+        let (area, offset) = self.area_of(at);
+        ObjectFields {
+            region: &area.region,
+            at: offset,
+        }
     }
 
     /// The value of the object at `at`.
@@ -273,7 +299,25 @@ impl Heap {
         ensures { self.new ≡ with_card self.old (card_of at) on }
     {
         let card = (offset_of(at) / CARD) as usize;
+        self.carding = noted(self.carding, on);
         self.areas[place_of(at.0 / REGION)].cards[card] = on;
+    }
+
+    /// Notes that no card is set, so that walks over set cards end at once until one is.
+    pub fn note_no_card(&mut self)
+        requires { (card : ℕ) → is_set self.old card ≡ false }
+        ensures { self.new ≡ self.old }
+    {
+        self.carding = false;
+    }
+
+    /// Whether an object may be registered for finalisation, as far as can be said without a look
+    /// at any: false before the first that was.
+    pub fn may_have_registered(&self) -> bool
+        ensures none { result ≡ false → (a : Addr) → has_object self.now a ≡ true →
+            (placed_at self.now a).registered ≡ false }
+    {
+        self.registering
     }
 
     /// The limit of the sizes of all objects together, in cells.
@@ -318,11 +362,15 @@ impl Heap {
 
     /// The first object past `after`, which may be any address, that is of a generation above `n`
     /// and starts in a set card. A region of another generation or without set cards is passed at
-    /// once.
+    /// once, and none is looked at where no card may be set.
     pub fn next_carded(&self, after: Option<Addr>, n: u8) -> Option<Addr>
         ensures walk { IsWalk (is_old_carded self.now n) after result }
         ensures sound { IsSound self.now }
     {
+        let carding = self.carding;
+        if !carding {
+            return None;
+        }
         self.walk(after, Wanted::Carded(n))
     }
 
@@ -333,26 +381,6 @@ impl Heap {
         ensures sound { IsSound self.now }
     {
         self.walk(after, Wanted::Condemned(n))
-    }
-
-    /// Lists the objects of no generation above `n` in rising address. A region of an older
-    /// generation or without objects is passed at once, and each header is read once. It takes
-    /// memory by the objects that it lists.
-    pub fn survey(&self, n: u8) -> Result<Survey, Memory>
-        ensures survey { IfOk result (λ s. IsSurvey self.now n s) }
-        ensures sound { IsSound self.now }
-    {
-        let mut survey = Survey {
-            objects: Vec::new(self.alloc),
-            cells: 0,
-            regions: 0,
-        };
-        for place in 0..self.areas.len() {
-            if self.areas[place].is_condemned(n) {
-                self.survey_region(place as u32 + 1, n, &mut survey)?;
-            }
-        }
-        Ok(survey)
     }
 
     /// Whether a field of the object at `at` references one of a generation below `n`.
@@ -431,36 +459,24 @@ impl Heap {
         copy
     }
 
-    /// Copies the object at `from` after all others of another region, with the forwarding
-    /// addresses of what it references in its fields. It is in the heap twice from then on. No card
-    /// is set.
-    pub fn copy_moved<F: Forward>(&mut self, from: Addr, region: u32, forward: &F) -> Addr
-        requires object { has_object self.old from ≡ true }
-        requires held { is_in_use self.old region ≡ true }
-        requires other { region_of from ≢ region }
-        requires room { let fill = (region_at self.old region).fill in
-            fill + cells_of (placed_at self.old from) ≤ REGION }
+    /// Copies the object of the move at an index, and those of the moves after it as far as they go
+    /// with it from its region to one other, each after all others of that one, with the forwarding
+    /// addresses of what they reference in their fields. They are in the heap twice from then on. No
+    /// card is set. Returns the index after these moves.
+    pub fn copy_run<F: Forward>(&mut self, moves: &[Move], first: usize, forward: &F) -> usize
+        requires run { MayRun (F.kept forward.now) (F.place forward.now) self.old moves.now first }
         requires laid { F.laid forward.now }
-        requires kept { (y : Addr) → IsField (object_at self.old) from y
-            → F.kept forward.now y ≡ true }
-        requires places { (y : Addr) → IsField (object_at self.old) from y
-            → (F.place forward.now y).0 ≢ 0 }
-        ensures place { result.0 ≡ region * REGION + (region_at self.old region).fill }
-        ensures was_free { has_object self.old result ≡ false }
-        ensures copied { self.new ≡ with_moved self.old from region (F.place forward.now) }
+        requires places { (y : Addr) → F.kept forward.now y ≡ true → (F.place forward.now y).0 ≢ 0 }
+        ensures run { IsRun moves.now first result }
+        ensures copied { let place = F.place forward.now in
+            self.new ≡ run_copied place self.old moves.now first (result - first) }
     {
-        let source = place_of(from.0 / REGION);
-        let target = place_of(region);
-        let (offset, cells) = copy_between(
-            &mut self.areas,
-            source,
-            offset_of(from),
-            target,
-            forward,
-        );
+        let source = place_of(moves[first].from.0 / REGION);
+        let target = place_of(moves[first].to.0 / REGION);
+        let (end, cells) = copy_between(&mut self.areas, source, target, moves, first, forward);
         self.used += cells;
-        self.count += 1;
-        address_in(region, offset)
+        self.count += (end - first) as u32;
+        end
     }
 
     /// Gives the fields of the object at `at` the forwarding addresses of what they reference. No
@@ -523,34 +539,6 @@ impl Heap {
         self.count -= objects;
         self.held -= 1;
         self.spare.push_back_reserved(region);
-    }
-
-    /// Adds the objects of a condemned region to a survey.
-    fn survey_region(&self, region: u32, n: u8, survey: &mut Survey) -> Result<(), Memory>
-        requires held { is_in_use self.now region ≡ true }
-        requires condemned { region_generation self.now region ≤ n }
-        requires so_far { IsSurveying self.now n (region * REGION) survey.old }
-        ensures { IfOk result (λ _. IsSurveying self.now n ((region + 1) * REGION) survey.new) }
-    {
-        if survey.objects.reserve(MOST).is_err() {
-            return Err(Memory);
-        }
-        let objects = &self.areas[place_of(region)].region;
-        let mut end = 0;
-        while let Some(header) = objects.object_from(end) {
-            survey.objects.push_reserved(CondemnedObject {
-                at: address_in(region, header.at),
-                fields: header.fields,
-                registered: header.registered,
-            });
-            let cells = u32::from(header.fields) + HEADER;
-            survey.cells += cells;
-            end = header.at + cells;
-        }
-        if end != 0 {
-            survey.regions += 1;
-        }
-        Ok(())
     }
 
     /// The number of free regions.
@@ -661,6 +649,7 @@ impl Heap {
         ensures put { let generation = region_generation self.old region in
             self.new ≡ with_put self.old region generation (new_object id fields registered) }
     {
+        self.registering = noted(self.registering, registered);
         let offset = self.areas[place_of(region)].put(id.0, fields, registered);
         self.used += fields + HEADER;
         self.count += 1;
@@ -695,7 +684,7 @@ impl Heap {
         requires { has_object self.now at ≡ true }
         ensures { IsObjectOf self.now at result.0.now result.1 }
     {
-        (&self.areas[place_of(at.0 / REGION)], offset_of(at))
+        (&self.areas[(at.0 / REGION - 1) as usize], offset_of(at))
     }
 
     /// A reference to an object, or null, as it is stored in a field: 0 for null.
@@ -728,6 +717,7 @@ impl Heap {
         ensures { let after = with_part (placed_at self.old at) part in
             self.new ≡ with_object self.old at after }
     {
+        self.registering = noted(self.registering, part.registers());
         self.areas[place_of(at.0 / REGION)].write(offset_of(at), part);
     }
 

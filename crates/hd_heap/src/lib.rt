@@ -3,11 +3,15 @@
 #![tactic(auto)]
 
 mod area;
+mod condemned;
 mod fault;
+mod fields;
 mod forwarding;
 mod heap;
-mod survey;
+mod moves;
 
+pub use condemned::{Extent, ObjectHeader, RegionObjects};
 pub use fault::NewFault;
+pub use fields::ObjectFields;
 pub use heap::Heap;
-pub use survey::{CondemnedObject, Survey};
+pub use moves::{Fate, Move};

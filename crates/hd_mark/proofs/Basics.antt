@@ -7,9 +7,8 @@ pub use Rattle.std.specs.FinSet.{FinSet, contains, contains-empty, contains-inse
 pub use Rattle.std.specs.Ordering.{nat_cmp}
 pub use Rattle.std.specs.Prelude.{AllPairs, Contains, IfSome, IsSome, if◌then◌else◌, is_some, map, option_map, ⊤}
 pub use Rattle.hd_heap.proofs.HeapValues.{same_address}
-pub use Rattle.hd_heap.specs.Calls.{AreSurveyed, IsNext, is_after, is_condemned, surveyed}
-pub use Rattle.hd_heap.specs.declared.survey.CondemnedObject.{CondemnedObject}
-pub use Rattle.hd_mark.specs.Inside.{AreMarks, IsTable, bit_of, is_set, is_set_in, left, place_at, seen, set_of}
+pub use Rattle.hd_heap.specs.Calls.{is_condemned}
+pub use Rattle.hd_mark.specs.Inside.{AreMarks, IsTable, bit_of, index_of, indices, is_set, is_set_in, left, place_at, seen, set_of}
 pub use Rattle.hd_mark.specs.Marks.{GoesOn, HasNoneYet, IsSettledMarks, MarksOf, first_marks, is_older, log_of, pinned_also, pinned_in, promoted_in, pushed}
 pub use Rattle.hd_mark.specs.Steps.{IsLog, IsNextDone, IsTraced, advanced, scanned}
 pub use Rattle.hd_model.proofs.Members.{first_in, later_in, member_at, member_cases, not_in_none, pairs_append, pairs_cons, pairs_none, pairs_passing, passing_from, passing_in}

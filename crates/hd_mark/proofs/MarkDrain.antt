@@ -1,5 +1,5 @@
 -- What is true while a stack is drained, and what it comes to.
-use Rattle.hd_mark.proofs.Basics.{Addr, Basis, Bool, Contains, Contains-append_cases, Contains-append_left, Contains-append_right, Contains-push_cases, FinSet, GoesOn, HasClosedFields, HasNoneYet, Heap, IsCondemned, IsField, IsLog, IsNextDone, IsSettledMarks, IsTraced, IsYoungField, List, MarksOf, None, Option, Some, [], advanced, and_from, ap, append-nil, append_assoc, arith, both_ways, cases_eq, cases_lt, contains, contains-empty, drop, empty, false, fields_at, first_in, first_marks, generation_at, generation_in, if◌then◌else◌, inl, inr, insert, is_condemned, is_object, is_older, is_some, later_in, le-leb, le-ltb, length, log_of, lt-ltb, member_cases, nat_cmp, not_in_none, object_at, objects_of, or_cases, or_left, or_right, pairs_none, pinned_also, pinned_in, promoted_in, pushed, refl, same_address, scanned, subst, sym, take, take-append-drop, true, ℕ, ⊎_elim, ◌++◌, ◌<◌, ◌||◌, ◌∙◌, ◌∷◌, ◌≡◌, ◌≢◌, ◌≤◌, ◌⊎◌}
+use Rattle.hd_mark.proofs.Basics.{Addr, Basis, Bool, Contains, Contains-append_cases, Contains-append_left, Contains-append_right, Contains-push_cases, FinSet, GoesOn, HasClosedFields, HasNoneYet, Heap, IsCondemned, IsField, IsLog, IsNextDone, IsSettledMarks, IsTraced, IsYoungField, List, MarksOf, None, Option, Some, [], advanced, ap, append-nil, append_assoc, arith, both_ways, cases_eq, cases_lt, contains, contains-empty, drop, empty, false, fields_at, first_in, first_marks, generation_at, generation_in, if◌then◌else◌, inl, inr, insert, is_object, is_older, is_some, later_in, le-ltb, length, log_of, lt-ltb, member_cases, nat_cmp, not_in_none, object_at, objects_of, or_cases, or_left, or_right, pairs_none, pinned_also, pinned_in, promoted_in, pushed, refl, same_address, scanned, subst, sym, take, take-append-drop, true, ℕ, ⊎_elim, ◌++◌, ◌<◌, ◌||◌, ◌∙◌, ◌∷◌, ◌≡◌, ◌≢◌, ◌≤◌, ◌⊎◌}
 use Rattle.std.proofs.Math.Seq.{take-append_seam}
 use Rattle.hd_model.specs.{State.Object, Leads.Leads, Leads.Grows, Marking.Gains}
 use Rattle.hd_mark.proofs.MarkBits.{insert_here, insert_elsewhere, insert_keeps}
@@ -234,6 +234,39 @@ settled_empty m t empty = record {
   };
 }
 
+-- an object without fields is all that is left to scan, and it is passed
+module _ (m : MarksOf) (at : Addr) (one : m.unscanned ≡ at ∷ []) where
+  pub bare_done : fields_at (objects_of m.basis) at ≡ [] → IsNextDone m
+  bare_done bare = record {
+    next = at;
+    rest = [];
+    unscanned_is = one;
+    done = λ y f. absurd
+        (not_in_none (Some y) (subst (λ (xs : List (Option Addr)). Contains xs (Some y)) bare f));
+  }
+
+  module _ (n : MarksOf) (is : n ≡ advanced m) (t : IsTraced n) where
+    pub bare_settled : IsSettledMarks n
+    bare_settled = settled_empty n t (ap (λ (k : MarksOf). k.unscanned) is ∙ ap (drop 1) one)
+
+    logged : (x : Addr) → Contains m.unscanned x → contains m.marks x.0 ≡ true
+    logged x h =
+        (subst IsTraced is t).log.each x
+        (subst (λ xs. Contains xs x) (sym (same_log m)) (Contains-append_right m.scanned m.unscanned x h))
+
+    pub bare_grows : Grows (YoungEdge m) (λ x. Contains m.unscanned x) (promoted_in m) (promoted_in n)
+    bare_grows =
+        subst (λ (k : MarksOf). Grows (YoungEdge m) (λ x. Contains m.unscanned x) (promoted_in m)
+        (promoted_in k)) (sym is)
+        (record {
+          keeps = λ x h. h;
+          joins = λ x h. or_right (is_older m.basis x) _ (logged x h);
+          only = λ x h. inl h;
+        })
+
+    pub bare_log : GoesOn m n
+    bare_log = ([], ap log_of is ∙ same_log m ∙ sym (append-nil (log_of m)))
+
 -- ---- the calls of a marker
 
 -- nothing is marked at first
@@ -364,6 +397,33 @@ pub promoted_grows : (m j : MarksOf) (q : Addr → Bool) (a : Addr) → j ≡ pu
 promoted_grows m j q a is s =
     subst (λ (i : MarksOf). Grows (YoungEdge i) (λ x. Contains i.unscanned x) (promoted_in i) q
     → Grows (YoungEdge m) (λ x. x ≡ a) (promoted_in m) q) (sym is) (promote_grows m q a s)
+
+pub pushed_basis : (m j : MarksOf) (a : Addr) → j ≡ pushed m a → j.basis ≡ m.basis
+pushed_basis m j a is =
+    subst (λ (i : MarksOf). i.basis ≡ m.basis) (sym is)
+    (push_cases (λ (i : MarksOf). i.basis ≡ m.basis) m a (λ e. refl) (λ e. refl))
+
+-- what a push of settled marks leaves to scan
+pub one_left : (m j : MarksOf) (a : Addr) → j ≡ pushed m a → promoted_in m a ≡ false → m.unscanned ≡ []
+    → j.unscanned ≡ a ∷ []
+one_left m j a is fresh empty =
+    ap (λ (k : MarksOf). k.unscanned) is
+    ∙ ap (λ (t : Bool). (if t then m else marked_also m a).unscanned) fresh ∙ ap (λ xs. xs ++ a ∷ []) empty
+
+-- a push of what is promoted already
+module _ (m j : MarksOf) (a : Addr) (is : j ≡ pushed m a) (before : promoted_in m a ≡ true) where
+  pub already_same : j ≡ m
+  already_same = is ∙ ap (λ (t : Bool). if t then m else marked_also m a) before
+
+  pub already_grown : Grows (YoungEdge m) (λ x. x ≡ a) (promoted_in m) (promoted_in j)
+  already_grown =
+      subst (λ (k : MarksOf). Grows (YoungEdge m) (λ x. x ≡ a) (promoted_in m) (promoted_in k))
+      (sym already_same)
+      (record {
+        keeps = λ x h. h;
+        joins = λ x same. ap (promoted_in m) same ∙ before;
+        only = λ x h. inl h;
+      })
 
 -- for `grind`: what a pin does to settled marks
 pub ruleset pins_settled = (pin_settled, pin_gains)

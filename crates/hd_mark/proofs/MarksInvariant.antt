@@ -1,5 +1,5 @@
 -- What marks keep of their bits and their log.
-use Rattle.hd_mark.proofs.Basics.{Addr, AreMarks, BITS, Basis, FinSet, Heap, IfSome, IsNextDone, IsTraced, List, MarksOf, None, Option, REGION, Some, WORDS, [], advanced, and_parts, ap, arith, bit_of, contains, drop, drop-append-le, drop_more, empty, false, first_marks, get_or, if◌then◌else◌, insert, is_condemned, is_object, is_older, is_set, is_some, leb-true, left, length, length-append, length-drop, log_of, nat_cmp, objects_of, offset_of, option_map, or_parts, pinned_also, pinned_in, place_at, promoted_in, pushed, refl, seen, set_of, subst, sym, take, take-append-drop, take-append-le, take_more, true, ℕ, ◌%◌, ◌*◌, ◌++◌, ◌+◌, ◌<◌, ◌||◌, ◌∙◌, ◌∷◌, ◌≡◌, ◌≢◌, ◌≤◌}
+use Rattle.hd_mark.proofs.Basics.{Addr, AreMarks, BITS, Basis, FinSet, Heap, IfSome, IsNextDone, IsTraced, List, MarksOf, None, Option, REGION, Some, WORDS, [], advanced, and_parts, ap, arith, bit_of, contains, indices, drop, drop-append-le, drop_more, empty, false, first_marks, if◌then◌else◌, insert, is_condemned, is_object, is_older, is_set, is_some, leb-true, left, length, length-append, length-drop, nat_cmp, objects_of, offset_of, option_map, or_parts, pinned_also, pinned_in, place_at, promoted_in, pushed, refl, seen, set_of, subst, sym, take, take-append-le, take_more, true, ℕ, ◌%◌, ◌*◌, ◌++◌, ◌+◌, ◌<◌, ◌||◌, ◌∙◌, ◌∷◌, ◌≡◌, ◌≢◌, ◌≤◌}
 use Rattle.hd_model.specs.Heap.{region_of}
 use Rattle.hd_mark.specs.declared.places.Places.{Places}
 use Rattle.hd_mark.proofs.MarkBits.{bit_read, bit_joins, set_of_none}
@@ -23,9 +23,9 @@ first_seen h n places marks pins log unmarked unpinned none =
 
 module _ {b : Basis} {p : Places} {marks pins : List ℕ} {log : List Addr} {next room : ℕ}
     (t : AreMarks b p marks pins log next room) (m : MarksOf)
-    (view : seen b p.places.items marks pins log next ≡ m) where
+    (view : seen b (indices p.places.items) marks pins log next ≡ m) where
   abbrev places : List (Option ℕ)
-  places = p.places.items
+  places = indices p.places.items
 
   again : (marked pinned : List ℕ) (logged : List Addr) (from : ℕ) → length marked ≡ length marks
       → length pinned ≡ length pins → length logged + left (set_of places marked) t.members ≤ room
@@ -35,6 +35,7 @@ module _ {b : Basis} {p : Places} {marks pins : List ℕ} {log : List Addr} {nex
     table = t.table;
     few = t.few;
     covers = t.covers;
+    span = t.span;
     marks_long = same_marks ∙ t.marks_long;
     pins_long = same_pins ∙ t.pins_long;
     members = t.members;
@@ -52,6 +53,11 @@ module _ {b : Basis} {p : Places} {marks pins : List ℕ} {log : List Addr} {nex
         let known = ap length (ap (λ (k : MarksOf). k.unscanned) view ∙ done.unscanned_is) in
         omega (arith, length-drop next log, known)
 
+    last_within : drop 1 m.unscanned ≡ [] → length log ≡ next + 1
+    last_within last =
+        let known = ap length (ap (λ (k : MarksOf). drop 1 k.unscanned) view ∙ last) in
+        omega (arith, next_within, length-drop 1 (drop next log), length-drop next log, known)
+
     pub advance_seen : seen b places marks pins log (next + 1) ≡ advanced m
     advance_seen =
         let one : seen b places marks pins log (next + 1) ≡ advanced (seen b places marks pins log next) =
@@ -67,10 +73,27 @@ module _ {b : Basis} {p : Places} {marks pins : List ℕ} {log : List Addr} {nex
         again marks pins log (next + 1) refl refl t.room_left (let w = next_within in omega arith)
         (subst IsTraced (sym advance_seen) (advance_traced m done (subst IsTraced view t.traced)))
 
+    -- and nothing is left to scan
+    module _ (last : drop 1 m.unscanned ≡ []) (end : ℕ) (whole : end ≡ length log) where
+      passed : next + 1 ≡ end
+      passed = let one = last_within last in omega arith
+
+      pub last_seen : seen b places marks pins log end ≡ advanced m
+      last_seen = subst (λ (k : ℕ). seen b places marks pins log k ≡ advanced m) passed advance_seen
+
+      pub last_kept : AreMarks b p marks pins log end room
+      last_kept = subst (λ (k : ℕ). AreMarks b p marks pins log k room) passed advance_kept
+
   module _ (at : Addr) (object : is_object (objects_of m.basis) at ≡ true) where
+    there : is_object (objects_of b) at ≡ true
+    there = subst (λ (k : MarksOf). is_object (objects_of k.basis) at ≡ true) (sym view) object
+
+    -- its region is in the table
+    pub spanned : region_of at < length p.places.items
+    spanned = t.span at there
+
     covered : is_some (place_at places (region_of at)) ≡ is_condemned b.heap b.condemned at
-    covered =
-        t.covers at (subst (λ (k : MarksOf). is_object (objects_of k.basis) at ≡ true) (sym view) object)
+    covered = t.covers at there
 
     module _ (bit : ℕ) (is : bit_of places at ≡ Some bit) where
       has_place : is_some (place_at places (region_of at)) ≡ true

@@ -1,6 +1,6 @@
 -- No public clause needs what is defined here: how marks and pins are stored in bits, and what is always true
 -- of the fields of marks.
-use Rattle.std.specs.Prelude.{◌≡◌, ◌≢◌, ℕ, ◌+◌, ◌*◌, ◌/◌, ◌%◌, ◌<◌, ◌≤◌, ◌==◌, not, Bool, true, false, List, length, filter, take, drop, slice_index, slice_index_or, AllPairs, Contains, Option, Some, None, is_some, option_map}
+use Rattle.std.specs.Prelude.{◌≡◌, ◌≢◌, ℕ, ◌+◌, ◌*◌, ◌/◌, ◌%◌, ◌<◌, ◌≤◌, ◌==◌, not, Bool, true, false, List, length, filter, take, drop, slice_index, slice_index_or, AllPairs, Contains, Option, Some, None, is_some, option_map, map, zero, suc}
 use Rattle.std.specs.{Int.bit_at, FinSet.FinSet, FinSet.contains, Ordering.nat_cmp}
 use Rattle.hd_model.specs.{declared.limits.TheConstants.REGION, declared.limits.TheConstants.REGIONS, declared.data.Addr.Addr}
 use Rattle.hd_model.specs.Heap.{Heap, Basis, region_of, offset_of, has_object}
@@ -10,6 +10,15 @@ use Rattle.hd_mark.specs.{declared.bits.TheConstants.BITS, declared.bits.TheCons
 -- whether the bit of a number is set: number i has bit i % BITS of word i / BITS
 abbrev pub is_set : List ℕ → ℕ → Bool
 is_set words i = bit_at (slice_index words (i / BITS)) (i % BITS) == 1
+
+-- an index as it is stored: 0 is none
+abbrev pub index_of : ℕ → Option ℕ
+index_of zero = None
+index_of (suc p) = Some (suc p)
+
+-- the indices of the regions, as they are stored
+abbrev pub indices : List ℕ → List (Option ℕ)
+indices places = map index_of places
 
 -- the index of a region among the condemned ones, if it is one
 abbrev pub place_at : List (Option ℕ) → ℕ → Option ℕ
@@ -53,18 +62,19 @@ seen b places marks pins log next = record {
   unscanned = drop next log;
 }
 
--- each condemned object has a mark bit and a pin bit, the log has room for those that are not marked, and
+-- each region of an object is in the table, each condemned object has a mark bit and a pin bit, the log has room for those that are not marked, and
 -- what was scanned names promoted objects alone
 pub record AreMarks (b : Basis) (p : Places) (marks pins : List ℕ) (log : List Addr) (next room : ℕ) : Type 0
   where
-    pub table : IsTable p.places.items p.regions
+    pub table : IsTable (indices p.places.items) p.regions
     pub few : p.regions ≤ REGIONS
-    pub covers : Covers b.heap b.condemned p.places.items
+    pub covers : Covers b.heap b.condemned (indices p.places.items)
+    pub span : (a : Addr) → has_object b.heap a ≡ true → region_of a < length p.places.items
     pub marks_long : length marks ≡ WORDS * p.regions
     pub pins_long : length pins ≡ WORDS * p.regions
     pub members : List ℕ
     pub apart : AllPairs (λ x y. x ≢ y) members
     pub all : (a : Addr) → is_condemned b.heap b.condemned a ≡ true → Contains members a.0
-    pub room_left : length log + left (set_of p.places.items marks) members ≤ room
+    pub room_left : length log + left (set_of (indices p.places.items) marks) members ≤ room
     pub within : next ≤ length log
-    pub traced : IsTraced (seen b p.places.items marks pins log next)
+    pub traced : IsTraced (seen b (indices p.places.items) marks pins log next)

@@ -26,8 +26,9 @@ impl Bits {
         ensures long { IfOk result (λ b. length b.words.items ≡ WORDS * regions) }
         ensures empty { IfOk result (λ b. (i : ℕ) → is_set b.words.items i ≡ false) }
     {
-        match vec![in alloc; 0; (WORDS * regions) as usize] {
-            Ok(words) => Ok(Bits { words }),
+        let mut words = Vec::new(alloc);
+        match words.resize((WORDS * regions) as usize, 0) {
+            Ok(()) => Ok(Bits { words }),
             Err(_) => Err(Memory),
         }
     }

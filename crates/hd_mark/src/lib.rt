@@ -7,4 +7,3 @@ mod marks;
 mod places;
 
 pub use marks::Marks;
-pub use places::end_of;

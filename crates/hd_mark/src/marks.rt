@@ -1,15 +1,15 @@
 // The marks of one collection, as its phases see them.
-ghost use Rattle.std.specs.Prelude.{◌≡◌, ◌∷◌, [], ℕ, Bool, true, IfOk, MatchOption, Contains, length, take, drop};
+ghost use Rattle.std.specs.Prelude.{◌≡◌, ◌∷◌, [], ℕ, Bool, true, false, IfOk, MatchOption, Contains, length, take, drop};
 ghost use Rattle.hd_model.specs.{Leads.Grows, Heap.object_at, Heap.objects_of, Names.HasClosedFields};
 ghost use Rattle.hd_model.specs.Scene.{fields_at, is_object, IsYoungField};
-ghost use Rattle.hd_heap.specs.Calls.{AreSurveyed};
+ghost use Rattle.hd_heap.specs.Calls.{IsExtent};
 ghost use Rattle.hd_mark.specs.Marks.{first_marks, pushed, pinned_also, promoted_in, pinned_in, log_of, GoesOn};
 ghost use Rattle.hd_mark.specs.Marks.{HasNoneYet, IsSettledMarks};
 ghost use Rattle.hd_mark.specs.Steps.{scanned, advanced, IsTraced, IsNextDone};
 
 use crate::bits::Bits;
-use crate::places::{Places, end_of};
-use hd_heap::{CondemnedObject, Heap};
+use crate::places::Places;
+use hd_heap::{Extent, Heap};
 use hd_model::{Addr, Marker, Memory, PromotionLog};
 use std::alloc::Global;
 use std::marker::Model;
@@ -34,14 +34,14 @@ pub struct Marks<'h> {
 
 impl<'h> Model for Marks<'h> {
     ghost use Rattle.std.specs.Prelude.{vec_capacity};
-    ghost use Rattle.hd_mark.specs.{Marks.MarksOf, Marks.marks_code, Inside.seen, Inside.AreMarks};
+    ghost use Rattle.hd_mark.specs.{Marks.MarksOf, Marks.marks_code, Inside.seen, Inside.indices, Inside.AreMarks};
 
     ghost Value = { MarksOf };
 
     ghost coded = { marks_code };
 
     ghost view = { λ m. seen (record { heap = m.heap.now; condemned = m.condemned })
-        m.places.places.items m.marks.words.items m.pins.words.items m.log.items m.next };
+        (indices m.places.places.items) m.marks.words.items m.pins.words.items m.log.items m.next };
 
     ghost invariant = { λ m. AreMarks (record { heap = m.heap.now; condemned = m.condemned })
         m.places m.marks.words.items m.pins.words.items m.log.items m.next
@@ -57,27 +57,21 @@ impl<'h> Marks<'h> {
         ensures settled { IfOk result IsSettledMarks }
         ensures none { IfOk result HasNoneYet }
     {
-        let survey = heap.survey(n)?;
-        Marks::over(alloc, heap, n, &survey.objects)
+        Marks::over(alloc, heap, n, heap.extent(n))
     }
 
-    /// The same over a survey of the heap.
-    pub fn over(
-        alloc: Global,
-        heap: &'h Heap,
-        n: u8,
-        objects: &[CondemnedObject],
-    ) -> Result<Marks<'h>, Memory>
+    /// The same where it is known how much is condemned.
+    pub fn over(alloc: Global, heap: &'h Heap, n: u8, extent: Extent) -> Result<Marks<'h>, Memory>
         requires fields { HasClosedFields (object_at heap.now) }
-        requires survey { AreSurveyed heap.now n objects.now }
+        requires extent { IsExtent heap.now n extent }
         ensures marks { IfOk result (λ m. m ≡ first_marks heap.now n) }
         ensures settled { IfOk result IsSettledMarks }
         ensures none { IfOk result HasNoneYet }
     {
-        let places = Places::of(alloc, heap, n, end_of(objects))?;
+        let places = Places::of(alloc, heap, n, extent)?;
         let marks = Bits::open(alloc, places.regions)?;
         let pins = Bits::open(alloc, places.regions)?;
-        let Ok(log) = Vec::with_capacity(alloc, objects.len()) else {
+        let Ok(log) = Vec::with_capacity(alloc, extent.objects as usize) else {
             return Err(Memory);
         };
         Ok(Marks {
@@ -92,19 +86,35 @@ impl<'h> Marks<'h> {
     }
 
     /// Promotes an object, which is then to be scanned, unless it is promoted already.
+    #[inline(always)]
     pub fn push(&mut self, at: Addr)
         requires { is_object (objects_of self.old.basis) at ≡ true }
         ensures { self.new ≡ pushed self.old at }
     {
-        if let Some(bit) = self.places.bit(at) {
-            if !self.marks.has(bit) {
-                self.marks.insert(bit);
-                self.log.push_reserved(at);
-            }
+        let _is_new = self.push_new(at);
+    }
+
+    // The same. Returns whether it was not promoted before.
+    #[inline(always)]
+    fn push_new(&mut self, at: Addr) -> bool
+        requires { is_object (objects_of self.old.basis) at ≡ true }
+        ensures after { self.new ≡ pushed self.old at }
+        ensures is_new { result ≡ true → promoted_in self.old at ≡ false }
+        ensures is_old { result ≡ false → promoted_in self.old at ≡ true }
+    {
+        let Some(bit) = self.places.bit(at) else {
+            return false;
+        };
+        if self.marks.has(bit) {
+            return false;
         }
+        self.marks.insert(bit);
+        self.log.push_reserved(at);
+        true
     }
 
     /// Scans until nothing is left to scan.
+    #[inline(always)]
     pub fn drain(&mut self)
         ensures settled { IsSettledMarks self.new }
         ensures basis { self.new.basis ≡ self.old.basis }
@@ -119,7 +129,29 @@ impl<'h> Marks<'h> {
         }
     }
 
+    // The same, where one object alone is left to scan. Where that has no fields, it is passed at
+    // once.
+    #[inline(always)]
+    fn drain_one(&mut self, at: Addr)
+        requires one { self.old.unscanned ≡ at ∷ [] }
+        requires object { is_object (objects_of self.old.basis) at ≡ true }
+        ensures settled { IsSettledMarks self.new }
+        ensures basis { self.new.basis ≡ self.old.basis }
+        ensures pins { self.new.pins ≡ self.old.pins }
+        ensures grows { Grows (IsYoungField (objects_of self.old.basis) self.old.basis.condemned)
+            (λ x. Contains self.old.unscanned x) (promoted_in self.old) (promoted_in self.new) }
+        ensures log { GoesOn self.old self.new }
+    {
+        let bare = self.heap.fields(at) == 0;
+        if bare {
+            self.pass_last();
+            return;
+        }
+        self.drain();
+    }
+
     // The next object to scan.
+    #[inline(always)]
     fn next_unscanned(&self) -> Option<Addr>
         ensures next { MatchOption result (self.now.unscanned ≡ [])
             (λ at. self.now.unscanned ≡ at ∷ drop 1 self.now.unscanned) }
@@ -137,23 +169,37 @@ impl<'h> Marks<'h> {
         requires fields { HasClosedFields (objects_of self.old.basis) }
         ensures { self.new ≡ scanned self.old (fields_at (objects_of self.old.basis) at) }
     {
-        let heap = self.heap;
-        for i in 0..heap.fields(at) {
-            if let Some(y) = heap.load(at, i) {
+        let fields = self.heap.fields_of(at);
+        for i in 0..fields.number() {
+            if let Some(y) = fields.load(i) {
                 self.push(y);
             }
         }
     }
 
     // The next object to scan counts as scanned.
+    #[inline(always)]
     fn advance(&mut self)
         requires { IsNextDone self.old }
-        ensures { self.new ≡ advanced self.old }
+        ensures after { self.new ≡ advanced self.old }
+        ensures traced { IsTraced self.new }
     {
         self.next += 1;
     }
 
+    // The same of the only object to scan.
+    #[inline(always)]
+    fn pass_last(&mut self)
+        requires next { IsNextDone self.old }
+        requires last { drop 1 self.old.unscanned ≡ [] }
+        ensures after { self.new ≡ advanced self.old }
+        ensures traced { IsTraced self.new }
+    {
+        self.next = self.log.len();
+    }
+
     // Promotes an object and what is reached from it, where nothing is left to scan.
+    #[inline(always)]
     fn mark(&mut self, at: Addr)
         requires settled { IsSettledMarks self.old }
         requires object { is_object (objects_of self.old.basis) at ≡ true }
@@ -164,8 +210,9 @@ impl<'h> Marks<'h> {
         ensures pinned { pinned_in self.new ≡ pinned_in self.old }
         ensures log { take (length (log_of self.old)) (log_of self.new) ≡ log_of self.old }
     {
-        self.push(at);
-        self.drain();
+        if self.push_new(at) {
+            self.drain_one(at);
+        }
     }
 
     // Pins an object.
@@ -191,6 +238,7 @@ impl<'h> Marker for Marks<'h> {
     ghost settled = { IsSettledMarks };
 
     // All that has no bit is older.
+    #[inline(always)]
     fn promoted(&self, at: Addr) -> bool {
         match self.places.bit(at) {
             Some(bit) => self.marks.has(bit),
@@ -198,10 +246,12 @@ impl<'h> Marker for Marks<'h> {
         }
     }
 
+    #[inline(always)]
     fn promote(&mut self, at: Addr) {
         self.mark(at);
     }
 
+    #[inline(always)]
     fn pinned(&self, at: Addr) -> bool {
         if let Some(bit) = self.places.bit(at) {
             self.pins.has(bit)
@@ -231,6 +281,7 @@ impl<'h> PromotionLog for Marks<'h> {
         self.log[i]
     }
 
+    #[inline(always)]
     fn promote_logged(&mut self, at: Addr) {
         self.mark(at);
     }

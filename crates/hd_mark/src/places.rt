@@ -1,10 +1,10 @@
 // The condemned regions of a heap: their indices among themselves.
-ghost use Rattle.std.specs.Prelude.{◌≡◌, ℕ, ◌+◌, ◌*◌, ◌/◌, ◌%◌, ◌-◌, ◌<◌, ◌≤◌, true, length, IfOk};
-ghost use Rattle.hd_model.specs.Heap.{region_of};
-ghost use Rattle.hd_heap.specs.Calls.{is_condemned, surveyed};
-ghost use Rattle.hd_mark.specs.Inside.{bit_of, IsTable, Covers};
+ghost use Rattle.std.specs.Prelude.{◌≡◌, ℕ, ◌<◌, ◌≤◌, true, length, IfOk};
+ghost use Rattle.hd_model.specs.Heap.{has_object, region_of};
+ghost use Rattle.hd_heap.specs.Calls.{IsExtent};
+ghost use Rattle.hd_mark.specs.Inside.{bit_of, indices, IsTable, Covers};
 
-use hd_heap::{CondemnedObject, Heap};
+use hd_heap::{Extent, Heap};
 use hd_model::limits::{REGION, REGIONS};
 use hd_model::{Addr, Memory};
 use std::alloc::Global;
@@ -13,47 +13,38 @@ use std::alloc::Global;
 /// has none.
 #[derive(Drop)]
 pub(crate) struct Places {
-    pub(crate) places: Vec<Option<u32>>,
+    pub(crate) places: Vec<u32>,
     pub(crate) regions: u32,
-}
-
-/// A number above those of the regions of objects in rising address.
-#[tactic(auto, unfolding(hd_model::specs::Heap::region_of))]
-pub fn end_of(objects: &[CondemnedObject]) -> u32
-    requires { (j k : ℕ) → j < k → k < length objects.now →
-        (surveyed objects.now j).at.0 < (surveyed objects.now k).at.0 }
-    ensures above { (k : ℕ) → k < length objects.now →
-        region_of (surveyed objects.now k).at < result }
-    ensures small { result ≤ REGIONS }
-{
-    let count = objects.len();
-    if count == 0 {
-        return 0;
-    }
-    objects[count - 1].at.0 / REGION + 1
 }
 
 impl Places {
     /// Gives an index to each region that has an object of no generation above `n`. It takes memory
-    /// for a number for each region below `end`, and time by these regions: of a condemned one it
-    /// looks at the first object alone, and it passes an older or empty one at once.
+    /// for a number for each region of the heap, and time by these regions. No object is looked at,
+    /// and no region where nothing is condemned.
     #[tactic(auto, unfolding(hd_model::specs::Heap::region_of))]
-    pub(crate) fn of(alloc: Global, heap: &Heap, n: u8, end: u32) -> Result<Places, Memory>
-        requires end { (a : Addr) → is_condemned heap.now n a ≡ true → region_of a < end }
-        requires small { end ≤ REGIONS }
-        ensures table { IfOk result (λ p. IsTable p.places.items p.regions) }
+    pub(crate) fn of(alloc: Global, heap: &Heap, n: u8, extent: Extent) -> Result<Places, Memory>
+        requires extent { IsExtent heap.now n extent }
+        ensures table { IfOk result (λ p. IsTable (indices p.places.items) p.regions) }
         ensures few { IfOk result (λ p. p.regions ≤ REGIONS) }
-        ensures covers { IfOk result (λ p. Covers heap.now n p.places.items) }
+        ensures covers { IfOk result (λ p. Covers heap.now n (indices p.places.items)) }
+        ensures span { IfOk result (λ p. (a : Addr) → has_object heap.now a ≡ true
+            → region_of a < length p.places.items) }
     {
-        let Ok(mut places) = vec![in alloc; None; end as usize] else {
+        let mut places = Vec::new(alloc);
+        let Ok(()) = places.resize(extent.end as usize, 0) else {
             return Err(Memory);
         };
-        let mut regions = 0;
-        let mut after = None;
-        while let Some(at) = heap.next_condemned(after, n) {
-            places[(at.0 / REGION) as usize] = Some(regions);
+        if extent.regions == 0 {
+            return Ok(Places { places, regions: 0 });
+        }
+        let mut regions = 1;
+        // The result is not used: the call states to the proof what every heap keeps.
+        let _held = heap.regions();
+        let mut after = 0;
+        while let Some(region) = heap.next_condemned_region(after, n) {
+            places[region as usize] = regions;
             regions += 1;
-            after = Some(last_cell(at));
+            after = region;
         }
         Ok(Places { places, regions })
     }
@@ -61,25 +52,14 @@ impl Places {
     /// The number of the bit of an address, if it lies in a condemned region.
     #[tactic(auto, unfolding(hd_model::specs::Heap::region_of))]
     pub(crate) fn bit(&self, at: Addr) -> Option<u32>
-        requires table { IsTable self.now.places.items self.now.regions }
+        requires table { IsTable (indices self.now.places.items) self.now.regions }
         requires few { self.now.regions ≤ REGIONS }
-        ensures { result ≡ bit_of self.now.places.items at }
+        requires span { region_of at < length self.now.places.items }
+        ensures { result ≡ bit_of (indices self.now.places.items) at }
     {
-        let region = (at.0 / REGION) as usize;
-        if region >= self.places.len() {
-            return None;
-        }
-        match self.places[region] {
-            Some(place) => Some(place * REGION + at.0 % REGION),
-            None => None,
+        match self.places[(at.0 / REGION) as usize] {
+            0 => None,
+            place => Some(place * REGION + at.0 % REGION),
         }
     }
-}
-
-/// The last address in the region of an address.
-#[tactic(auto, unfolding(hd_model::specs::Heap::region_of))]
-fn last_cell(at: Addr) -> Addr
-    ensures { result.0 ≡ region_of at * REGION + (REGION - 1) }
-{
-    Addr(at.0 / REGION * REGION + (REGION - 1))
 }

@@ -3,7 +3,7 @@ pub use Rattle.hd_model.proofs.IdleCollection.{raised_older}
 pub use Rattle.hd_model.proofs.Fates.{young_raised}
 pub use Rattle.std.proofs.lemmas.Option.{same_Some}
 pub use Rattle.std.proofs.Common.{Bool, List, None, Option, Some, T, [], add-one, ap, arith, cond, drop, false, get_or, get_or-set_other, get_or-set_same, inl, inr, length, length-append, length-set, map, min, not, refl, rules, set, subst, suc, sym, take, true, true≢false, vec_capacity, zero, ℕ, ⊎_elim, ◌%◌, ◌&&◌, ◌*◌, ◌++◌, ◌+◌, ◌-◌, ◌/◌, ◌<◌, ◌^◌, ◌||◌, ◌∙◌, ◌∷◌, ◌≡◌, ◌≢◌, ◌≤◌, ◌⊎◌}
-pub use Rattle.std.proofs.lemmas.Bool.{and_from, and_left, and_parts, both_ways, cases_Bool, cases_eq, cases_lt, cases_order, cond-false, cond-true, eq-eqb, eqb-true, false_from_ne_true, false≢true, le-leb, le-ltb, leb-true, lt-ltb, ltb-false, ltb-true, ne_eqb, not-true, or_cases, or_left, or_right}
+pub use Rattle.std.proofs.lemmas.Bool.{and_from, and_left, and_parts, both_ways, cases_Bool, cases_eq, cases_lt, cases_order, cond-false, cond-true, eq-eqb, eqb-true, false_from_ne_true, false≢true, le-leb, le-ltb, leb-true, lt-ltb, ltb-false, ltb-true, ne_eqb, not-true, or_cases, or_left, or_parts, or_right}
 pub use Rattle.std.proofs.lemmas.List.{drop-drop, get_or-drop, get_or-map, get_or-take, get_or_append_left, get_or_at, get_or_default, get_or_read_under, length-drop, length-map, length-take}
 pub use Rattle.std.proofs.lemmas.List.Sums.{length-filter, sum_by-cons, sum_by_push}
 pub use Rattle.std.specs.FinMap.{FinMap, entries, entries_sorted, find, get, get-entries, insert, is_sorted, len, remove, values}
@@ -11,11 +11,11 @@ pub use Rattle.std.specs.Ordering.{eq_by_cmp, is_lt, nat_cmp}
 pub use Rattle.std.specs.Prelude.{AllPairs, Contains, IsSome, count_by, filter, is_some, max, nat_eq, nat_le, nat_lt, option_map, slice_index, slice_index_or, sum_by, unwrap_or, ◌↔◌}
 pub use Rattle.hd_heap.proofs.HeapValues.{fields_placed, get_other, get_same, has_with_object, same_address}
 pub use Rattle.hd_heap.proofs.RegionReads.{has-get}
-pub use Rattle.hd_heap.proofs.SurveyWalk.{before, next_at, none_after}
-pub use Rattle.hd_heap.specs.Calls.{AreSurveyed, HasCondemned, IsMade, IsNext, IsRemoved, IsSurvey, IsWalk, NamesBelow, cells_surveyed, empty_heap, forwarded, is_after, is_condemned, is_old_carded, stored, surveyed, with_card, with_field, with_fresh, with_generation, with_moved, with_object, with_put, without_region}
+pub use Rattle.hd_heap.specs.Calls.{HasCondemned, IsExtent, IsFirstIn, IsFirstObject, IsMade, IsNext, IsRemoved, IsWalk, NamesBelow, empty_heap, forwarded, is_after, is_condemned, is_old_carded, stored, with_card, with_field, with_fresh, with_generation, with_moved, with_object, with_put, without_region}
+pub use Rattle.hd_heap.specs.Runs.{IsRun, MayRun, goes_with}
 pub use Rattle.hd_heap.specs.Sound.{IsSound}
-pub use Rattle.hd_heap.specs.declared.survey.CondemnedObject.{CondemnedObject}
-pub use Rattle.hd_heap.specs.declared.survey.Survey.{Survey}
+pub use Rattle.hd_heap.specs.declared.condemned.Extent.{Extent}
+pub use Rattle.hd_heap.specs.declared.condemned.ObjectHeader.{ObjectHeader}
 pub use Rattle.hd_mark.specs.Marks.{IsSettledMarks, promoted_in}
 pub use Rattle.hd_model.proofs.MapEntries.{both, counts_keys, found_first, found_later, less}
 pub use Rattle.hd_model.proofs.MemberWeights.{lighter}
@@ -33,14 +33,15 @@ pub use Rattle.hd_model.specs.Scene.{IsCondemned, IsField, Objects, fields_at, f
 pub use Rattle.hd_model.specs.State.{Object}
 pub use Rattle.hd_model.specs.declared.data.Addr.{Addr}
 pub use Rattle.hd_plan.specs.Commit.{ChangesRegions, Commits, IsSameShape, NeedsCard, moved_object}
-pub use Rattle.hd_plan.specs.CommitSteps.{AreCarded, AreCopied, AreGivenUp, AreRemovedIn, AreRewritten, AreSettledRegions, CanCopy, HasEnd, HasGone, HasKeptFields, IsExactAt, IsKeptAt, IsLeft, IsStayedAt, MayCard, MayGo, NamesYounger, is_pinned, starts_in}
-pub use Rattle.hd_plan.specs.LaySteps.{AreChosen, AreListedTo, ArePut, CanPut, HasMove, HasPlaces, HasRegionRoom, HasSlack, IsAdded, IsCursor, IsExtent, IsFresh, IsJoined, IsMoveOf, IsPlan, IsPut, IsRoom, WasFree, begun, cell_at, first_at, is_last, last_of, place_among, place_from, spot_in, spot_of}
-pub use Rattle.hd_plan.specs.Layout.{AreMoves, AreRegions, Fits, FitsMove, Followed, HasStay, IsCondemnedRegion, IsRising, Opened, Room, condemned_at, cursor_of, filled, find_move, followed_cursor, has_region, is_kept_by, is_kept_fate, is_moving, is_staying, may_card, move_at, opened_cursor, place_by, put_cursors, put_fate, put_move, region_in, room_at, room_of, stays_among, with_cursor}
+pub use Rattle.hd_plan.specs.CommitSteps.{AreAlike, AreCarded, AreCopied, AreGivenUp, AreRemovedIn, AreRewritten, AreSettledRegions, CanCopy, HasEnd, HasKeptFields, HaveGone, IsKeptAt, IsLeft, IsStayedAt, MayCard, MayGoFrom, MayOpen, NamesYounger, is_pinned, opened_for, starts_in}
+pub use Rattle.hd_plan.specs.LaySteps.{AreChosen, AreMovesTo, ArePut, CanPutAt, HasMoveRoom, HasPlaces, HasRegionRoom, HasSlack, IsCursor, IsFresh, IsLaying, IsMoveOf, IsPlan, IsPut, IsRoom, IsToLay, WasFree, begun, cell_at, cells_laid, first_at, place_among, place_from, spot_in}
+pub use Rattle.hd_plan.specs.Layout.{AreMoves, AreRegions, Fits, FitsMove, Followed, HasStay, IsCondemnedRegion, IsRising, Opened, Room, condemned_at, cursor_of, filled, find_move, followed_cursor, has_region, is_kept_by, opened_cursor, place_by, put_cursors, put_fate, put_move, region_in, room_at, room_of, stays_among, with_cursor}
+pub use Rattle.hd_heap.specs.Moves.{is_following, is_kept_fate, is_moving, is_opening, is_staying, may_card, move_at}
 pub use Rattle.hd_plan.specs.PackedRegions.{IsPacked, IsYoungRegion, is_older_region}
 pub use Rattle.hd_plan.specs.Plan.{HasFreeRegions, HasNoEmptyCondemned, HasNoEmptyRegion, IsLaid, PlanOf, SparesAtMost, Takes, kept_in, place_in, stays_in}
 pub use Rattle.hd_plan.specs.declared.cursors.AllocCursors.{AllocCursors}
 pub use Rattle.hd_plan.specs.declared.moves.Condemned.{Condemned}
-pub use Rattle.hd_plan.specs.declared.moves.Fate.{Fate}
-pub use Rattle.hd_plan.specs.declared.moves.Fate.TheVariants.{Dead, Moves, MovesToNewRegion, Pinned}
-pub use Rattle.hd_plan.specs.declared.moves.Move.{Move}
+pub use Rattle.hd_heap.specs.declared.moves.Fate.{Fate}
+pub use Rattle.hd_heap.specs.declared.moves.Fate.TheVariants.{Dead, Moves, MovesToNewRegion, Pinned}
+pub use Rattle.hd_heap.specs.declared.moves.Move.{Move}
 pub use Rattle.hd_model.specs.declared.limits.TheConstants.{CARD, FIELDS, HEADER, LEFT, OPEN, REGION}

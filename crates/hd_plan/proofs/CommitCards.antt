@@ -1,5 +1,5 @@
 -- Lemmas on cards that are set and cleared.
-use Rattle.hd_plan.proofs.Basics.{Addr, AreCarded, Bool, CARD, Contains, HasClosedFields, Heap, IsExactAt, IsField, IsNext, IsSound, IsWalk, List, MayCard, Move, NamesYounger, NeedsCard, None, Object, Option, Some, and_from, and_left, and_parts, ap, arith, both_ways, cases_eq, cases_lt, eq-eqb, eq_by_cmp, eqb-true, false, false_from_ne_true, fields_in, generation_at, has_object, inl, inr, is_after, is_kept_fate, is_old_carded, is_set, is_some, lt-ltb, ltb-false, ltb-true, move_at, nat_cmp, nat_lt, not, object_at, or_left, refl, same_Some, same_address, starts_in, subst, sym, true, with_card, ℕ, ◌&&◌, ◌*◌, ◌+◌, ◌-◌, ◌/◌, ◌<◌, ◌^◌, ◌||◌, ◌↔◌, ◌∙◌, ◌≡◌, ◌≢◌, ◌≤◌}
+use Rattle.hd_plan.proofs.Basics.{Addr, AreCarded, Bool, CARD, Contains, HasClosedFields, Heap, IsField, IsNext, IsSound, IsWalk, List, MayCard, Move, NamesYounger, NeedsCard, None, Object, Option, Some, and_from, and_left, and_parts, ap, arith, both_ways, cases_eq, cases_lt, eq-eqb, eq_by_cmp, eqb-true, false, false_from_ne_true, fields_in, generation_at, has_object, inl, inr, is_after, is_kept_fate, is_old_carded, is_set, is_some, lt-ltb, ltb-false, ltb-true, move_at, nat_cmp, nat_lt, not, object_at, or_left, or_parts, refl, same_Some, same_address, starts_in, subst, sym, true, with_card, ℕ, ◌&&◌, ◌*◌, ◌+◌, ◌-◌, ◌/◌, ◌<◌, ◌^◌, ◌||◌, ◌↔◌, ◌∙◌, ◌≡◌, ◌≢◌, ◌≤◌}
 use Rattle.std.specs.Cmp.{nat_cmp_total}
 use Rattle.hd_model.specs.Heap.{card_of}
 use Rattle.hd_heap.proofs.IndexedLists.{tied, untied}
@@ -202,11 +202,12 @@ unneeding_ends h card r n =
     (record { target = n.to; field = n.field; younger = n.younger })
 
 -- cards are set only where an object needs them up to the end of the card in which an address is, and
--- everywhere where one does
-pub record IsExactBehind (old h : Heap) (after : Option Addr) : Type 0 where
+-- everywhere where one does; where `some` is false none is set up to there
+pub record IsExactBehind (old h : Heap) (after : Option Addr) (some : Bool) : Type 0 where
   pub end : ℕ
   pub same : h ≡ record old { cards = h.cards }
   pub needed : (c : ℕ) → c < end → is_set h c ≡ true → NeedsCard old c
+  pub none : some ≡ false → (c : ℕ) → c < end → is_set h c ≡ false
   pub kept : (c : ℕ) → NeedsCard old c → is_set h c ≡ true
   pub is : reach_of after ≡ end * CARD
 
@@ -222,8 +223,8 @@ needs_back old h c same n =
     record { from = n.from; to = n.to; in_card = n.in_card; field = n.field; younger = n.younger } in
     subst (λ (x : Heap). NeedsCard x c) (sym same) m
 
-module _ (old h : Heap) (after : Option Addr) (sound : IsSound h) (grown : (a : Addr)
-    → has_object old a ≡ true → 0 < generation_at (object_at old) a) (r : IsExactBehind old h after) where
+module _ {old h : Heap} {after : Option Addr} {some : Bool} (sound : IsSound h) (grown : (a : Addr)
+    → has_object old a ≡ true → 0 < generation_at (object_at old) a) (r : IsExactBehind old h after some) where
   pub exact_fields : HasClosedFields (object_at old) → HasClosedFields (object_at h)
   exact_fields closed = subst (λ (k : Heap). HasClosedFields (object_at k)) (sym r.same) closed
 
@@ -242,7 +243,7 @@ module _ (old h : Heap) (after : Option Addr) (sound : IsSound h) (grown : (a : 
       subst (λ (k : Heap). 0 < generation_at (object_at k) b) (sym r.same) (grown b there) in
       and_from _ _ (and_from _ _ is (lt-ltb 0 (generation_at (object_at h) b) old_enough)) set
 
-  module _ (at : Addr) (found : IsNext (is_old_carded h 0) after at) where
+  module _ {at : Addr} (found : IsNext (is_old_carded h 0) after at) where
     parts : (has_object h at ≡ true) × (is_set h (card_of at) ≡ true)
     parts = let p = and_parts _ _ found.member in ((and_parts _ _ p.0).0, p.1)
 
@@ -261,10 +262,19 @@ module _ (old h : Heap) (after : Option Addr) (sound : IsSound h) (grown : (a : 
         (let place = r.is in let up = above in let low = (address_low h sound at parts.0).1 in
         let card = card_is at in omega arith)
 
-    exact_next : (new : Heap) (needed : Bool) (last : Addr) → last.0 + 1 ≡ (card_of at + 1) * CARD
+    -- no set card is between
+    between : (c : ℕ) → r.end ≤ c → c < card_of at → is_set h c ≡ false
+    between c high low = false_from_ne_true (is_set h c) (λ set.
+        let s = sound.cards c set in
+        let in_card = s.in_card in
+        let up : r.end ≤ card_of s.at = subst (λ k. r.end ≤ k) (sym s.in_card) high in
+        let least = found.least s.at (walked s.at s.object (ap (is_set h) s.in_card ∙ set)) (beyond s.at up) in
+        let order = card_order at s.at least in omega arith)
+
+    pub exact_step : (new : Heap) (last : Addr) (needed : Bool) → last.0 + 1 ≡ (card_of at + 1) * CARD
         → ((needed ≡ true) ↔ NeedsCard h (card_of at)) → new ≡ with_card h (card_of at) needed
-        → IsExactBehind old new (Some last)
-    exact_next new needed last is decides step = record {
+        → IsExactBehind old new (Some last) (some || needed)
+    exact_step new last needed is decides step = record {
       end = card_of at + 1;
       same = only_cards old h new (card_of at) needed r.same step;
       needed = λ c low set. elim (cases_eq c (card_of at)) [
@@ -272,8 +282,22 @@ module _ (old h : Heap) (after : Option Addr) (sound : IsSound h) (grown : (a : 
             let on : needed ≡ true = sym (card_here h new (card_of at) needed step)
             ∙ ap (is_set new) (sym here) ∙ set in
             subst (NeedsCard old) (sym here) (needs_like old h (card_of at) r.same (decides.0 on))
-        | inr apart ↦ between c apart low (sym (card_beside h new (card_of at) c needed apart step) ∙ set)
+        | inr apart ↦
+            let was = sym (card_beside h new (card_of at) c needed apart step) ∙ set in
+            elim (cases_lt c r.end) [
+              | inl before ↦ r.needed c before was
+              | inr high ↦ absurd (both_ways _ (between c high (omega arith)) was)
+            ]
       ];
+      none = λ e c low.
+          let off = or_parts some needed e in
+          elim (cases_eq c (card_of at)) [
+            | inl here ↦ ap (is_set new) here ∙ card_here h new (card_of at) needed step ∙ off.1
+            | inr apart ↦ card_beside h new (card_of at) c needed apart step ∙ elim (cases_lt c r.end) [
+              | inl before ↦ r.none off.0 c before
+              | inr high ↦ between c high (omega arith)
+            ]
+          ];
       kept = λ c n. elim (cases_eq c (card_of at)) [
         | inl here ↦
             let on : needed ≡ true =
@@ -283,38 +307,26 @@ module _ (old h : Heap) (after : Option Addr) (sound : IsSound h) (grown : (a : 
       ];
       is = is;
     }
-      where
-        -- no set card is between
-        between : (c : ℕ) → c ≢ card_of at → c < card_of at + 1 → is_set h c ≡ true → NeedsCard old c
-        between c apart low set = elim (cases_lt c r.end) [
-          | inl before ↦ r.needed c before set
-          | inr high ↦
-              let s = sound.cards c set in
-              let in_card = s.in_card in
-              let up : r.end ≤ card_of s.at = subst (λ k. r.end ≤ k) (sym s.in_card) high in
-              let least = found.least s.at (walked s.at s.object (ap (is_set h) s.in_card ∙ set))
-              (beyond s.at up) in
-              let order = card_order at s.at least in
-              absurd (omega arith)
-        ]
 
-    pub exact_step : (new : Heap) (last : Addr) → last.0 + 1 ≡ (card_of at + 1) * CARD
-        → IsExactAt h new (card_of at) → IsExactBehind old new (Some last)
-    exact_step new last is exact = exact_next new exact.needed last is exact.decides exact.is
-
-  pub exact_ends : ((a : Addr) → is_old_carded h 0 a ≡ true → is_after after a ≡ false) → (c : ℕ)
-      → (is_set h c ≡ true) ↔ NeedsCard h c
-  exact_ends none c = (
-    λ set. needs_back old h c r.same (elim (cases_lt c r.end) [
-      | inl before ↦ r.needed c before set
+  module _ (none : (a : Addr) → is_old_carded h 0 a ≡ true → is_after after a ≡ false) where
+    behind : (c : ℕ) → is_set h c ≡ true → c < r.end
+    behind c set = elim (cases_lt c r.end) [
+      | inl before ↦ before
       | inr high ↦
           let s = sound.cards c set in
           let up : r.end ≤ card_of s.at = subst (λ k. r.end ≤ k) (sym s.in_card) high in
           absurd (both_ways _ (none s.at (walked s.at s.object (ap (is_set h) s.in_card ∙ set)))
           (beyond s.at up))
-    ]),
-    λ n. r.kept c (needs_like old h c r.same n),
-  )
+    ]
+
+    pub exact_ends : (c : ℕ) → (is_set h c ≡ true) ↔ NeedsCard h c
+    exact_ends c = (
+      λ set. needs_back old h c r.same (r.needed c (behind c set) set),
+      λ n. r.kept c (needs_like old h c r.same n),
+    )
+
+    pub none_set : some ≡ false → (c : ℕ) → is_set h c ≡ false
+    none_set e c = false_from_ne_true (is_set h c) (λ set. both_ways _ (r.none e c (behind c set)) set)
 
 -- cards alone were changed, and changed again
 pub cards_alone : (old h new : Heap) → h ≡ record old { cards = h.cards }

@@ -1,6 +1,6 @@
 -- What is removed singly and what is given up with its region come to all that is left.
-use Rattle.hd_plan.proofs.Basics.{Addr, AreGivenUp, AreRemovedIn, Bool, Condemned, Heap, IsLeft, List, None, Option, PlanOf, Some, ap, arith, both_ways, cases_Bool, cases_eq, condemned_at, false, false_from_ne_true, first_at, has-get, has_object, inl, inr, is_in_use, is_pinned, is_some, length, move_at, refl, region_of, subst, sym, true, true≢false, ℕ, ◌+◌, ◌-◌, ◌<◌, ◌∙◌, ◌≡◌, ◌≢◌, ◌≤◌}
-use Rattle.hd_plan.proofs.{CondemnedAddresses.generation_is, KeptMoves.all_put, CommitCopies.has_alike, CommitImage.from_condemned, CommitImage.left_there, CommitShape.AreRemoved, CommitShape.AreSettled, CommitShape.IsCommitting, CommitShape.moves_now, CommitShape.regions_now, CommitGenerations.AreAtPlaces, CommitGenerations.places_same, CommitGenerations.AreMoved}
+use Rattle.hd_plan.proofs.Basics.{Addr, AreGivenUp, AreRemovedIn, Bool, Condemned, Heap, IsLeft, List, None, Option, PlanOf, Some, ap, arith, both_ways, cases_Bool, cases_eq, condemned_at, false, false_from_ne_true, first_at, has-get, has_object, inl, inr, is_in_use, is_pinned, is_some, length, move_at, refl, region_of, sym, true, true≢false, ℕ, ◌+◌, ◌-◌, ◌<◌, ◌∙◌, ◌≡◌, ◌≢◌, ◌≤◌}
+use Rattle.hd_plan.proofs.{KeptMoves.all_put, CommitCopies.has_alike, CommitImage.left_there, CommitShape.AreRemoved, CommitShape.AreSettled, CommitShape.IsCommitting, CommitShape.move_listed, CommitShape.moves_now, CommitShape.regions_now, CommitGenerations.AreAtPlaces, CommitGenerations.places_same, CommitGenerations.AreMoved}
 use Rattle.std.specs.FinMap as fin
 
 none_at : (h : Heap) (a : Addr) → has_object h a ≡ false → fin.get h.objects a.0 ≡ None
@@ -33,28 +33,16 @@ module _ {p : PlanOf} {old h1 h2 h3 : Heap} (c : IsCommitting p old) (m : AreAtP
       let e : first_at firsts (condemned_at p.regions k).region - 1 ≡ k = omega (arith, table.listed k low) in
       ap (λ j. (condemned_at p.regions j).pinned) e
 
-  -- the region of each move is listed
-  move_listed : (j : ℕ) → j < length p.moves → (k : ℕ)
-      × ((k < length p.regions) × ((condemned_at p.regions k).region ≡ region_of (move_at p.moves j).from))
-  move_listed j low =
-      let is = from_condemned p old c j low in
-      let from = (move_at p.moves j).from in
-      let same = generation_is old from is.object in
-      (regions_now p old c).all (region_of from) (record {
-        held = c.sound.held from is.object;
-        young = subst (λ g. g ≤ p.basis.condemned) same is.young;
-      })
-
   pub first_low : (j : ℕ) → j < length p.moves → 0 < first_at firsts (region_of (move_at p.moves j).from)
   first_low j low =
-      let (k, at) = move_listed j low in
+      let (k, at) = move_listed p old c j low in
       let first = ap (first_at firsts) (sym at.1) ∙ table.listed k at.0 in
       omega arith
 
   pub first_high : (j : ℕ) → j < length p.moves
       → first_at firsts (region_of (move_at p.moves j).from) ≤ length p.regions
   first_high j low =
-      let (k, at) = move_listed j low in
+      let (k, at) = move_listed p old c j low in
       let first = ap (first_at firsts) (sym at.1) ∙ table.listed k at.0 in
       let within = at.0 in
       omega arith
@@ -89,7 +77,7 @@ module _ {p : PlanOf} {old h1 h2 h3 : Heap} (c : IsCommitting p old) (m : AreAtP
 
       gone_all : (a : Addr) → IsLeft p.moves (length p.moves) a → fin.get h5.objects a.0 ≡ None
       gone_all a e =
-          let (k, at) = move_listed e.at e.before in
+          let (k, at) = move_listed p old c e.at e.before in
           let inside : (condemned_at p.regions k).region ≡ region_of a = at.1 ∙ ap region_of e.is in
           elim (cases_Bool (condemned_at p.regions k).pinned) [
             | inl pinned ↦

@@ -1,6 +1,8 @@
 -- Lemmas on the copying of objects.
-use Rattle.hd_plan.proofs.Basics.{Addr, AreCopied, Bool, CanCopy, Dead, Fate, Fits, Followed, HEADER, HasGone, HasKeptFields, Heap, IsField, List, MayGo, Move, Moves, MovesToNewRegion, None, Option, Pinned, Placed, REGION, Region, Room, Some, [], add-one, ap, arith, both_ways, cases_eq, cases_lt, cells_of, cond, cursor_of, drop, drop-drop, false, fields_at, fields_in, filled, forwarded, generation_at, generation_in, get_or-drop, get_other, get_same, has-get, has_object, inl, inr, is_in_use, is_moving, is_some, length, length-drop, length-map, member_same, move_at, object_at, object_in, option_map, placed_at, put_fate, put_move, refl, region_at, region_generation, region_in, region_of, same_address, slice_index, subst, sym, true, unwrap_or, with_fresh, with_moved, ℕ, ◌*◌, ◌+◌, ◌<◌, ◌∙◌, ◌≡◌, ◌≢◌, ◌≤◌}
-use Rattle.hd_heap.proofs.Areas.{some_of}
+use Rattle.hd_plan.proofs.Basics.{Addr, AllocCursors, AreCopied, Bool, CanCopy, Dead, Fate, Fits, Followed, HEADER, HasKeptFields, HaveGone, Heap, IsRun, List, MayOpen, MayRun, Move, Moves, MovesToNewRegion, None, Opened, Option, Pinned, Placed, REGION, Region, Room, Some, [], add-one, and_parts, ap, arith, both_ways, cases_eq, cases_lt, cells_of, cond, cursor_of, drop, drop-drop, eqb-true, false, fields_at, fields_in, filled, forwarded, generation_at, generation_in, get_or-drop, get_other, get_same, goes_with, has-get, has_object, inl, inr, is_following, is_in_use, is_moving, is_opening, is_some, length, length-drop, length-map, member_same, move_at, object_at, object_in, opened_for, option_map, placed_at, put_fate, put_move, refl, region_at, region_generation, region_in, region_of, same_address, slice_index, subst, suc, sym, true, unwrap_or, with_fresh, with_moved, zero, ℕ, ◌*◌, ◌+◌, ◌<◌, ◌∙◌, ◌≡◌, ◌≢◌, ◌≤◌}
+use Rattle.std.specs.Prelude.{MatchBool, if◌then◌else◌, ◌-◌}
+use Rattle.hd_heap.specs.Runs.{run_copied}
+use Rattle.hd_heap.proofs.{Areas.some_of, RunCopies.run_part}
 use Rattle.hd_plan.specs.Layout.{room_at}
 use Rattle.hd_plan.proofs.{MoveEnds.ends_more, MoveEnds.ends_here, RoomSteps.region_is, RoomSteps.room_cursor}
 use Rattle.std.specs.FinMap as fin
@@ -61,22 +63,12 @@ generation_alike h k a there region =
     ∙ sym (generation_of (region_generation h (region_of a)) (fin.get h.objects a.0))
 
 -- a region that has come into use
-module _ (h k : Heap) (r g : ℕ) (fresh : k ≡ with_fresh h r g) where
-  region_fresh : region_at k r ≡ record { generation = g; fill = 0 }
-  region_fresh = ap (λ (x : Heap). region_at x r) fresh
-      ∙ ap (λ o. unwrap_or o no_region) (get_same h.regions r r (record { generation = g; fill = 0 }) refl)
+module _ (h : Heap) (r g : ℕ) where
+  region_fresh : region_at (with_fresh h r g) r ≡ record { generation = g; fill = 0 }
+  region_fresh = ap (λ o. unwrap_or o no_region) (get_same h.regions r r _ refl)
 
-  pub fresh_held : is_in_use k r ≡ true
-  fresh_held = ap (λ (x : Heap). is_in_use x r) fresh
-      ∙ ap is_some (get_same h.regions r r (record { generation = g; fill = 0 }) refl)
-
-  pub fresh_room : (a : Addr) → cells_of (placed_at h a) ≤ REGION
-      → (region_at k r).fill + cells_of (placed_at k a) ≤ REGION
-  fresh_room a small =
-      let empty : (region_at k r).fill ≡ 0 = ap (λ (x : Region). x.fill) region_fresh in
-      let same : cells_of (placed_at k a) ≡ cells_of (placed_at h a) =
-      ap (λ (x : Heap). cells_of (placed_at x a)) fresh in
-      omega arith
+  fresh_held : is_in_use (with_fresh h r g) r ≡ true
+  fresh_held = ap is_some (get_same h.regions r r (record { generation = g; fill = 0 }) refl)
 
 -- one step of the room
 room_step : (h : Heap) (ms : List Move) (k : ℕ)
@@ -114,6 +106,11 @@ module _ (place : Addr → Addr) (old h : Heap) (ms : List Move) (i : ℕ) (can 
   first_spare = ap (λ ns. slice_index ns 0) spare_now
       ∙ get_or-drop (room_at old ms i).cursors.opened old.spare 0 0
       ∙ ap (slice_index old.spare) (omega arith)
+
+  fresh_place : Opened old.spare (room_at old ms i).cursors (move_at ms i).to (move_at ms i).generation
+      (cells_of (placed_at old (move_at ms i).from))
+      → region_of (move_at ms i).to ≡ slice_index old.spare (room_at old ms i).cursors.opened
+  fresh_place f = region_is (move_at ms i).to _ 0 (omega (arith, f.place)) (omega arith)
 
   from_same : fin.get h.objects (move_at ms i).from.0 ≡ fin.get old.objects (move_at ms i).from.0
   from_same = r.objects (move_at ms i).from (can.objects i low)
@@ -162,37 +159,38 @@ module _ (place : Addr → Addr) (old h : Heap) (ms : List Move) (i : ℕ) (can 
       both_ways _ free (subst (λ r. is_in_use old r ≡ true) same
       (can.sound.held (move_at ms i).from (can.objects i low)))
 
-  module _ (kept : Addr → Bool) where
-    kept_now : HasKeptFields kept old (move_at ms i).from → HasKeptFields kept h (move_at ms i).from
-    kept_now each y field =
-        let from = (move_at ms i).from in
-        each y (member_same (fields_at (object_at h) from) (fields_at (object_at old) from)
-        (fields_alike old h from from from_same) (Some y) field)
+  -- there is room for the object where it goes, which was not in use
+  room_now : (w : Fate) → Fits w old.spare (room_at old ms i).cursors (move_at ms i).from (move_at ms i).to
+      (move_at ms i).generation (cells_of (placed_at old (move_at ms i).from)) → is_moving w ≡ true
+      → let x = if is_opening w then with_fresh h (slice_index h.spare 0) (move_at ms i).generation else h in
+      let r = region_of (move_at ms i).to in
+      (is_in_use x r ≡ true) × ((region_at x r).fill + cells_of (placed_at x (move_at ms i).from) ≤ REGION)
+      × (is_in_use old r ≡ false)
+  room_now Dead f e = absurd (cc e)
+  room_now Pinned f e = absurd (cc e)
+  room_now MovesToNewRegion f e =
+      let m = move_at ms i in
+      let n = slice_index h.spare 0 in
+      let x = with_fresh h n m.generation in
+      let few = can.sound.few_fields m.from (can.objects i low) in
+      let empty = ap {B = ℕ} (λ (y : Region). y.fill) (region_fresh h n m.generation) in
+      subst (λ r. (is_in_use x r ≡ true) × ((region_at x r).fill + cells_of (placed_at x m.from) ≤ REGION)
+      × (is_in_use old r ≡ false)) (sym (fresh_place f ∙ sym first_spare)) (
+        fresh_held h n m.generation,
+        omega (arith, empty, cells_same),
+        ap (is_in_use old) first_spare ∙ can.sound.spare_free _ f.free,
+      )
+  room_now Moves f e = let now = place_now f in (now.0, now.2, now.3)
 
-    may_by : (w : Fate) → Fits w old.spare (room_at old ms i).cursors (move_at ms i).from (move_at ms i).to
-        (move_at ms i).generation (cells_of (placed_at old (move_at ms i).from))
-        → (is_moving w ≡ true → HasKeptFields kept old (move_at ms i).from) → MayGo w kept h (move_at ms i)
-    may_by Dead f each = tt
-    may_by Pinned f each = tt
-    may_by MovesToNewRegion f each =
-        let few = can.sound.few_fields (move_at ms i).from (can.objects i low) in
-        let cells = cells_same in (
-          from_has,
-          (can.generations i low).1,
-          omega arith,
-          (let known = length-drop (room_at old ms i).cursors.opened old.spare in
-              omega (arith, f.free, ap {B = ℕ} (λ (ns : List ℕ). length ns) spare_now, known)),
-          apart_from (slice_index h.spare 0) (ap (is_in_use old) first_spare
-              ∙ can.sound.spare_free (room_at old ms i).cursors.opened f.free),
-          kept_now (each refl),
-        )
-    may_by Moves f each =
-        let now = place_now f in
-        (from_has, now.0, now.2, apart_from (region_of (move_at ms i).to) now.3, kept_now (each refl))
-
-    pub copied_may : (is_moving (move_at ms i).fate ≡ true → HasKeptFields kept old (move_at ms i).from)
-        → MayGo (move_at ms i).fate kept h (move_at ms i)
-    copied_may each = may_by (move_at ms i).fate (can.fits i low) each
+  opens_now : (w : Fate) → Fits w old.spare (room_at old ms i).cursors (move_at ms i).from (move_at ms i).to
+      (move_at ms i).generation (cells_of (placed_at old (move_at ms i).from)) → is_opening w ≡ true
+      → 0 < length h.spare
+  opens_now Dead f e = absurd (cc e)
+  opens_now Pinned f e = absurd (cc e)
+  opens_now MovesToNewRegion f e =
+      let known = length-drop (room_at old ms i).cursors.opened old.spare in
+      omega (arith, f.free, ap {B = ℕ} (λ (ns : List ℕ). length ns) spare_now, known)
+  opens_now Moves f e = absurd (cc e)
 
   -- an object that does not move
   stays_on : (new : Heap) → is_moving (move_at ms i).fate ≡ false → new ≡ h → AreCopied place old new ms
@@ -288,33 +286,34 @@ module _ (place : Addr → Addr) (old h : Heap) (ms : List Move) (i : ℕ) (can 
   copy_cells = ap (λ n. n + HEADER) (length-map (placed_at h (move_at ms i).from).fields (option_map place))
       ∙ cells_same
 
-  step_by : (w : Fate) (new : Heap) → (move_at ms i).fate ≡ w → Fits w old.spare (room_at old ms i).cursors
+  gone_by : (w : Fate) (new : Heap) → (move_at ms i).fate ≡ w → Fits w old.spare (room_at old ms i).cursors
       (move_at ms i).from (move_at ms i).to (move_at ms i).generation
-      (cells_of (placed_at old (move_at ms i).from)) → HasGone w place h new (move_at ms i)
-      → AreCopied place old new ms (i + 1)
-  step_by Dead new is fits gone = stays_on new (ap is_moving is) gone
-  step_by Pinned new is fits gone = stays_on new (ap is_moving is) gone
-  step_by MovesToNewRegion new is fits gone =
+      (cells_of (placed_at old (move_at ms i).from)) → is_moving w ≡ true
+      → new ≡ with_moved
+      (if is_opening w then with_fresh h (slice_index h.spare 0) (move_at ms i).generation else h)
+      (move_at ms i).from (region_of (move_at ms i).to) place → AreCopied place old new ms (i + 1)
+  gone_by Dead new is fits moves gone = absurd (cc moves)
+  gone_by Pinned new is fits moves gone = absurd (cc moves)
+  gone_by MovesToNewRegion new is fits moves gone =
       let m = move_at ms i in
       let opened = (room_at old ms i).cursors.opened in
       let n = slice_index old.spare opened in
       let start : Region = record { generation = m.generation; fill = 0 } in
-      let empty : (region_at (with_fresh h n m.generation) n).fill ≡ 0 =
-      ap (λ (x : Region). x.fill) (ap (λ o. unwrap_or o no_region) (get_same h.regions n n start refl)) in
+      let empty = ap {B = ℕ} (λ (x : Region). x.fill) (region_fresh h n m.generation) in
       let key : n * REGION + (region_at (with_fresh h n m.generation) n).fill ≡ m.to.0 =
       omega (arith, empty, fits.place) in
       let placed = placed_alike old h m.from from_same in
       let spare : drop 1 h.spare ≡ drop (opened + 1) old.spare = ap (drop 1) spare_now
       ∙ drop-drop 1 opened old.spare in
       moves_on new (ap is_moving is) (gone
-      ∙ ap (λ r. with_moved (with_fresh h r m.generation) m.from r place) first_spare
+      ∙ (λ j. with_moved (with_fresh h (first_spare j) m.generation) m.from (fresh_place fits j) place)
       ∙ (λ j. record h {
         objects = fin.insert h.objects (key j) (forwarded place (placed j));
         regions = filled (fin.insert (regions_now j) n start) n (copy_cells j);
         spare = spare j;
       })
       ∙ moved_room MovesToNewRegion is)
-  step_by Moves new is fits gone =
+  gone_by Moves new is fits moves gone =
       let m = move_at ms i in
       let n = region_of m.to in
       let at : m.to.0 ≡ n * REGION + (region_at h n).fill = (place_now fits).1 in
@@ -327,6 +326,149 @@ module _ (place : Addr → Addr) (old h : Heap) (ms : List Move) (i : ℕ) (can 
       })
       ∙ moved_room Moves is)
 
-  pub copied_step : (new : Heap) → HasGone (move_at ms i).fate place h new (move_at ms i)
+  -- an object that moves is copied
+  pub gone_on : (new : Heap) → is_moving (move_at ms i).fate ≡ true
+      → new ≡ with_moved (opened_for h (move_at ms i)) (move_at ms i).from (region_of (move_at ms i).to) place
       → AreCopied place old new ms (i + 1)
-  copied_step new gone = step_by (move_at ms i).fate new refl (can.fits i low) gone
+  gone_on new moves gone = gone_by (move_at ms i).fate new refl (can.fits i low) moves gone
+
+-- a heap where a region was opened, or not, has the same objects
+opened_objects : (h : Heap) (m : Move) → (opened_for h m).objects ≡ h.objects
+opened_objects h m = by (is_opening m.fate)
+  where
+    by : (b : Bool) → (if b then with_fresh h (slice_index h.spare 0) m.generation else h).objects ≡ h.objects
+    by true = refl
+    by false = refl
+
+-- an object that follows another one moves, and opens no region
+following : (w : Fate) → is_following w ≡ true → (is_moving w ≡ true) × (is_opening w ≡ false)
+following Dead e = absurd (cc e)
+following Pinned e = absurd (cc e)
+following MovesToNewRegion e = absurd (cc e)
+following Moves e = (refl, refl)
+
+following_fits : (w : Fate) → is_following w ≡ true → (spare : List ℕ) (s : AllocCursors) (from to : Addr)
+    (g cells : ℕ) → Fits w spare s from to g cells → Followed s to g cells
+following_fits Dead e spare s from to g cells f = absurd (cc e)
+following_fits Pinned e spare s from to g cells f = absurd (cc e)
+following_fits MovesToNewRegion e spare s from to g cells f = absurd (cc e)
+following_fits Moves e spare s from to g cells f = f
+
+-- a move that goes with the first of its run
+module _ (ms : List Move) (i k : ℕ) (run : IsRun ms i (k + 1)) (after : i < k) where
+  goes : goes_with ms k (move_at ms i) ≡ true
+  goes = run.with_first k after (omega arith)
+
+  follows : is_following (move_at ms k).fate ≡ true
+  follows = (and_parts _ _ (and_parts _ _ (and_parts _ _ goes).0).0).1
+
+  goes_there : region_of (move_at ms k).to ≡ region_of (move_at ms i).to
+  goes_there = eqb-true _ _ (and_parts _ _ goes).1
+
+-- the objects of a run are copied one after another
+module _ {place : Addr → Addr} {old h : Heap} {ms : List Move} {i : ℕ} (can : CanCopy old ms)
+    (r : AreCopied place old h ms i) (moves : is_moving (move_at ms i).fate ≡ true) where
+  run_goes : (n end : ℕ) → end ≡ i + suc n → IsRun ms i end
+      → AreCopied place old (run_copied place (opened_for h (move_at ms i)) ms i (suc n)) ms end
+  unfolding run_copied
+  run_goes zero end is run =
+      let e : i + 0 ≡ i = omega arith in
+      let first = opened_for h (move_at ms i) in
+      subst (AreCopied place old (run_copied place first ms i 1) ms) {x = i + 1} {y = end} (omega (arith, is))
+      (gone_on place old h ms i can (let w = run.within in omega arith) r _ moves
+      (λ j. with_moved first (move_at ms (e j)).from (region_of (move_at ms (e j)).to) place))
+  run_goes (suc p) end is run =
+      let k = i + suc p in
+      let low = run.within in
+      let at : end ≡ k + 1 = omega (arith, is) in
+      let next = subst (IsRun ms i) at run in
+      let before = run_goes p k refl (run_part ms i k end run (omega arith) (omega arith)) in
+      let mid = run_copied place (opened_for h (move_at ms i)) ms i (suc p) in
+      let f = follows ms i k next (omega arith) in
+      subst (AreCopied place old (run_copied place (opened_for h (move_at ms i)) ms i (suc (suc p))) ms) (sym at)
+      (gone_on place old mid ms k can (omega arith) before _ (following _ f).0
+      (ap (λ b. with_moved (if b then with_fresh mid (slice_index mid.spare 0) (move_at ms k).generation else mid)
+      (move_at ms k).from (region_of (move_at ms k).to) place) (sym (following _ f).1)))
+
+  module _ {kept : Addr → Bool} (keeps : (k : ℕ) → k < length ms → is_moving (move_at ms k).fate ≡ true
+      → HasKeptFields kept old (move_at ms k).from) (low : i < length ms) where
+    abbrev first : Heap
+    first = opened_for h (move_at ms i)
+
+    first_same : (a : Addr) → has_object old a ≡ true → fin.get first.objects a.0 ≡ fin.get old.objects a.0
+    first_same a is = ap (λ m. fin.get m a.0) (opened_objects h (move_at ms i)) ∙ r.objects a is
+
+    run_low : (k : ℕ) → IsRun ms i (k + 1) → k < length ms
+    run_low k run = let w = run.within in omega arith
+
+    run_moves : (k : ℕ) → IsRun ms i (k + 1) → is_moving (move_at ms k).fate ≡ true
+    run_moves k run = elim (cases_eq k i) [
+      | inl same ↦ ap (λ j. is_moving (move_at ms j).fate) same ∙ moves
+      | inr other ↦ (following _ (follows ms i k run (let s = run.some in omega arith))).0
+    ]
+
+    room_run : (n : ℕ) → IsRun ms i (i + n + 1)
+        → (region_at (run_copied place first ms i n) (region_of (move_at ms i).to)).fill
+        + cells_of (placed_at first (move_at ms (i + n)).from) ≤ REGION
+    unfolding run_copied
+    room_run zero run =
+        let e : i ≡ i + 0 = omega arith in
+        subst (λ j. (region_at first (region_of (move_at ms i).to)).fill + cells_of (placed_at first (move_at ms j).from)
+        ≤ REGION) e (room_now place old h ms i can low r (move_at ms i).fate (can.fits i low) moves).1
+    room_run (suc p) run =
+        let k = i + suc p in
+        let mid = run_copied place first ms i (suc p) in
+        let before = run_goes p k refl (run_part ms i k (k + 1) run (omega arith) (omega arith)) in
+        let f = follows ms i k run (omega arith) in
+        let from = (move_at ms k).from in
+        let there = can.objects k (run_low k run) in
+        let now = place_now place old mid ms k can (run_low k run) before
+        (following_fits _ f _ _ _ _ _ _ (can.fits k (run_low k run))) in
+        let same = ap cells_of (placed_alike old mid from (before.objects from there)
+        ∙ sym (placed_alike old first from (first_same from there))) in
+        omega (
+          arith,
+          now.2,
+          ap (λ q. (region_at mid q).fill) (goes_there ms i k run (omega arith)),
+          same,
+        )
+
+    pub may_run : MayRun kept place first ms i
+    may_run =
+        let room = room_now place old h ms i can low r (move_at ms i).fate (can.fits i low) moves in
+        record {
+          within = low;
+          apart = apart_from place old h ms i can low r (region_of (move_at ms i).to) room.2;
+          held = room.0;
+          objects = λ k run.
+              let there = can.objects k (run_low k run) in
+              has_alike old first (move_at ms k).from (first_same (move_at ms k).from there) ∙ there;
+          kept_fields = λ k run y field.
+              let from = (move_at ms k).from in
+              let there = can.objects k (run_low k run) in
+              keeps k (run_low k run) (run_moves k run) y
+              (member_same (fields_at (object_at first) from) (fields_at (object_at old) from)
+              (fields_alike old first from from (first_same from there)) (Some y) field);
+          room = room_run;
+        }
+
+    pub may_open : MayOpen h (move_at ms i)
+    may_open opening =
+        ((can.generations i low).1, opens_now place old h ms i can low r (move_at ms i).fate (can.fits i low) opening)
+
+-- the objects of a run of moves are copied, or the object of one move does not move
+pub have_gone : (place : Addr → Addr) (old h new : Heap) (ms : List Move) (i end : ℕ) → CanCopy old ms
+    → i < length ms → AreCopied place old h ms i → i < end → HaveGone place h new ms i end
+    → AreCopied place old new ms end
+have_gone place old h new ms i end can low r after gone = by (is_moving (move_at ms i).fate) refl gone
+  where
+    by : (b : Bool) → is_moving (move_at ms i).fate ≡ b
+        → MatchBool b (IsRun ms i end × (new ≡ run_copied place (opened_for h (move_at ms i)) ms i (end - i)))
+        ((end ≡ i + 1) × (new ≡ h)) → AreCopied place old new ms end
+    by true moves is =
+        let n : end - i ≡ suc (end - i - 1) = omega arith in
+        subst (λ (x : Heap). AreCopied place old x ms end)
+        (sym (is.1 ∙ ap (run_copied place (opened_for h (move_at ms i)) ms i) n))
+        (run_goes can r moves (end - i - 1) end (omega arith) is.0)
+    by false rests is =
+        subst (AreCopied place old new ms) (sym is.0) (stays_on place old h ms i can low r new rests is.1)

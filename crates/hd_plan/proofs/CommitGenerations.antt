@@ -1,6 +1,7 @@
 -- The regions and the cards after the moving: what its last steps leave.
+use Rattle.hd_heap.proofs.NextObjects.{generation_is}
 use Rattle.hd_plan.proofs.Basics.{Addr, AreCopied, AreRewritten, HasStay, Heap, IsCondemnedRegion, IsRoom, IsStayedAt, None, Option, PlanOf, Region, Some, ap, arith, both_ways, cases_lt, cond-false, condemned_at, drop, false, false_from_ne_true, generation_at, inl, inr, is_in_use, is_moving, is_old_carded, is_staying, kept_in, le-ltb, length, min, move_at, nat_lt, object_at, place_in, raised, raised_older, refl, region_at, region_generation, region_of, room_at, subst, sym, true, unwrap_or, ℕ, ◌+◌, ◌<◌, ◌∙◌, ◌≡◌, ◌≤◌}
-use Rattle.hd_plan.proofs.{CondemnedAddresses.generation_is, KeptMoves.moving_or_staying, KeptMoves.all_put, CommitShape.AreRemoved, CommitShape.AreSettled, CommitShape.IsCommitting, CommitShape.moves_now, CommitShape.regions_now, CommitImage.kept_by, CommitImage.place_older, CommitImage.place_move, CommitImage.kept_object, CommitImage.from_condemned, CommitImage.stays_there, CommitImage.to_put}
+use Rattle.hd_plan.proofs.{KeptMoves.moving_or_staying, KeptMoves.all_put, CommitShape.AreRemoved, CommitShape.AreSettled, CommitShape.IsCommitting, CommitShape.moves_now, CommitShape.regions_now, CommitImage.kept_by, CommitImage.place_older, CommitImage.place_move, CommitImage.kept_object, CommitImage.from_condemned, CommitImage.stays_there, CommitImage.to_put}
 use Rattle.std.specs.FinMap as fin
 
 pub raised_above : (n g : ℕ) → g ≤ 2 → g ≤ raised n g
@@ -14,6 +15,12 @@ raised_most : (n g : ℕ) → g ≤ n → (0 < raised n g) × (raised n g ≤ 2)
 raised_most n g young =
     (let e : raised n g ≡ min (g + 1) 2 = cond-false (nat_lt n g) g (min (g + 1) 2) (le-ltb n g young) in
     (omega arith, omega arith))
+
+-- what is older has a generation no younger one gets more than
+pub raised_within : (n g f : ℕ) → g ≤ n → n < f → raised n g ≤ raised n f
+raised_within n g f young older =
+    (let e : raised n g ≡ min (g + 1) 2 = cond-false (nat_lt n g) g (min (g + 1) 2) (le-ltb n g young) in
+    let also = raised_older n f older in omega arith)
 
 pub raised_some : (n g : ℕ) → 0 < raised n g
 raised_some n g = elim (cases_lt n g) [

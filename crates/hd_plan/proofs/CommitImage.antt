@@ -1,7 +1,8 @@
 -- The kept objects at their new addresses: what each step leaves for the next.
-use Rattle.hd_plan.proofs.Basics.{Addr, AreCopied, AreRewritten, Contains, HasStay, Heap, IsCondemned, IsCondemnedRegion, IsField, IsLeft, IsPut, IsStayedAt, List, None, Option, PlanOf, Region, Some, [], and_from, and_parts, ap, arith, both_ways, cases_Bool, cases_lt, cases_order, cells_of, false, fields_at, fields_placed, first_in, forwarded, generation_at, has-get, has_object, has_region, inl, inr, is_carded, is_in_use, is_kept_fate, is_moving, is_old_carded, is_set, is_some, is_staying, kept_in, later_in, length, lt-ltb, ltb-true, map, member_same, move_at, not, object_at, option_map, place_in, placed_at, refl, region_generation, room_at, same_address, subst, sym, true, true≢false, unwrap_or, ℕ, ◌<◌, ◌∙◌, ◌∷◌, ◌≡◌, ◌≢◌, ◌≤◌, ◌⊎◌}
+use Rattle.hd_heap.proofs.NextObjects.{generation_is}
+use Rattle.hd_plan.proofs.Basics.{Addr, AreCopied, AreRewritten, Contains, HasStay, Heap, IsCondemned, IsCondemnedRegion, IsField, IsLeft, IsPut, IsStayedAt, List, None, Option, PlanOf, Region, Some, [], and_from, and_parts, ap, arith, both_ways, cases_Bool, cases_lt, cases_order, cells_of, false, fields_at, fields_placed, first_in, forwarded, generation_at, has-get, has_object, has_region, inl, inr, is_carded, is_in_use, is_kept_fate, is_moving, is_old_carded, is_set, is_some, is_staying, kept_in, later_in, length, lt-ltb, ltb-true, map, member_same, move_at, not, object_at, option_map, place_in, placed_at, refl, region_generation, room_at, subst, sym, true, true≢false, unwrap_or, ℕ, ◌<◌, ◌∙◌, ◌∷◌, ◌≡◌, ◌≢◌, ◌≤◌, ◌⊎◌}
 use Rattle.hd_model.specs.Heap.{region_of, card_of}
-use Rattle.hd_plan.proofs.{LayStep.address_low, RoomSteps.region_low, MoveEnds.ends_decided, CommitRewrites.rewritten_has, CondemnedAddresses.older_or_young, CondemnedAddresses.condemned_is, CondemnedAddresses.generation_is, KeptMoves.IsKeptBy, KeptMoves.moving_or_staying, KeptMoves.moving_kept, KeptMoves.fate_stays, KeptMoves.fate_rests, KeptMoves.unmoved, KeptMoves.kept_cases, KeptMoves.older_kept, KeptMoves.older_place, KeptMoves.move_kept, KeptMoves.move_place, KeptMoves.put_new, KeptMoves.all_put, KeptMoves.is_condemned_at, CommitCopies.get_placed, CommitCopies.has_alike, CommitCopies.fields_alike, CommitCopies.generation_alike, CommitShape.AreRemoved, CommitShape.IsCommitting, CommitShape.moves_now, CommitShape.kept_now, CommitShape.closed_now}
+use Rattle.hd_plan.proofs.{LayStep.address_low, RoomSteps.region_low, MoveEnds.ends_decided, CommitRewrites.rewritten_has, CondemnedAddresses.older_or_young, CondemnedAddresses.condemned_is, KeptMoves.IsKeptBy, KeptMoves.moving_or_staying, KeptMoves.moving_kept, KeptMoves.fate_stays, KeptMoves.fate_rests, KeptMoves.unmoved, KeptMoves.kept_cases, KeptMoves.older_kept, KeptMoves.older_place, KeptMoves.move_kept, KeptMoves.move_place, KeptMoves.put_new, KeptMoves.all_put, KeptMoves.is_condemned_at, CommitCopies.get_placed, CommitCopies.has_alike, CommitCopies.fields_alike, CommitCopies.generation_alike, CommitShape.AreRemoved, CommitShape.IsCommitting, CommitShape.moves_now, CommitShape.kept_now, CommitShape.closed_now}
 use Rattle.std.specs.FinMap as fin
 
 -- fields that reference what stays in place are as they were

@@ -1,6 +1,7 @@
 -- The heap after the moving.
-use Rattle.hd_plan.proofs.Basics.{Addr, AreCarded, ArePut, ChangesRegions, Commits, Contains, HEADER, HasClosedFields, HasNoEmptyRegion, HasSoundCards, HasStay, Heap, IsCondemnedRegion, IsField, IsKeptAt, IsPacked, List, NamesYounger, NeedsCard, None, Option, Placed, PlanOf, Region, Some, [], and_from, and_parts, ap, arith, both_ways, card_of, cases_Bool, cases_lt, cells_of, condemned_at, false, false_from_ne_true, fields_at, fields_in, fields_placed, forwarded, generation_at, has_object, has_region, id_in, inl, inr, is_carded, is_in_use, is_kept_fate, is_moving, is_older_region, is_set, is_some, kept_in, length, length-map, lt-ltb, ltb-false, ltb-true, map, mapped_from, may_card, member_same, move_at, moved_object, nat_lt, object_at, object_in, option_map, place_in, placed_at, raised, raised_older, refl, region_at, region_generation, region_of, room_at, same_Some, same_address, share, stays_in, subst, sym, true, unwrap_or, used_of, ℕ, ◌&&◌, ◌+◌, ◌<◌, ◌↔◌, ◌∙◌, ◌≡◌, ◌≤◌}
-use Rattle.hd_plan.proofs.{CondemnedAddresses.generation_is, CommitCards.has_from, CommitCards.names_back, CommitTotals.sum-coming, KeptMoves.all_put, KeptMoves.moving_kept, KeptMoves.fate_stays, KeptMoves.fate_rests, PackedRegions.IsTaken, PackedRegions.packed, PackedRegions.compact, CommitCopies.get_placed, CommitCopies.has_got, CommitCopies.has_alike, CommitShape.AreSettled, CommitShape.IsCommitting, CommitShape.moves_now, CommitShape.regions_now, CommitShape.closed_now, CommitImage.kept_by, CommitImage.kept_older, CommitImage.place_older, CommitImage.kept_move, CommitImage.place_move, CommitImage.kept_object, CommitImage.from_condemned, CommitImage.stays_there, CommitImage.image_at, CommitImage.image_only, CommitGenerations.AreMoved, CommitGenerations.places_same, CommitGenerations.raised_above, CommitGenerations.raised_some, CommitGenerations.place_generation, CommitGenerations.regions_room, CommitGenerations.region_kept, CommitGenerations.region_older, CommitGenerations.region_raised, CommitGenerations.region_given_up}
+use Rattle.hd_heap.proofs.NextObjects.{generation_is}
+use Rattle.hd_plan.proofs.Basics.{Addr, AreAlike, AreCarded, ArePut, ChangesRegions, Commits, Contains, HEADER, HasClosedFields, HasNoEmptyRegion, HasSoundCards, HasStay, Heap, IsCondemned, IsCondemnedRegion, IsField, IsKeptAt, IsPacked, List, NamesYounger, NeedsCard, None, Option, Placed, PlanOf, Region, Some, [], and_from, and_parts, ap, arith, both_ways, card_of, cases_Bool, cases_lt, cells_of, condemned_at, false, false_from_ne_true, fields_at, fields_in, fields_placed, forwarded, generation_at, has_object, has_region, id_in, inl, inr, is_carded, is_in_use, is_kept_fate, is_moving, is_older_region, is_set, is_some, kept_in, length, length-map, lt-ltb, ltb-false, ltb-true, map, mapped_from, may_card, member_same, move_at, moved_object, nat_lt, object_at, object_in, option_map, place_in, placed_at, raised, raised_older, refl, region_at, region_generation, region_of, room_at, same_Some, same_address, share, stays_in, subst, sym, true, unwrap_or, used_of, ℕ, ◌&&◌, ◌+◌, ◌<◌, ◌↔◌, ◌∙◌, ◌≡◌, ◌≤◌}
+use Rattle.hd_plan.proofs.{CommitCards.has_from, CommitCards.names_back, CommitTotals.sum-coming, KeptMoves.all_put, KeptMoves.moving_kept, KeptMoves.fate_stays, KeptMoves.fate_rests, PackedRegions.IsTaken, PackedRegions.packed, PackedRegions.compact, CommitCopies.get_placed, CommitCopies.has_got, CommitCopies.has_alike, CommitShape.AreSettled, CommitShape.IsCommitting, CommitShape.moves_now, CommitShape.regions_now, CommitShape.closed_now, CommitImage.kept_by, CommitImage.kept_older, CommitImage.place_older, CommitImage.kept_move, CommitImage.place_move, CommitImage.kept_object, CommitImage.from_condemned, CommitImage.stays_there, CommitImage.image_at, CommitImage.image_only, CommitGenerations.AreMoved, CommitGenerations.places_same, CommitGenerations.raised_above, CommitGenerations.raised_within, CommitGenerations.raised_some, CommitGenerations.place_generation, CommitGenerations.regions_room, CommitGenerations.region_kept, CommitGenerations.region_older, CommitGenerations.region_raised, CommitGenerations.region_given_up}
 use Rattle.std.specs.FinMap as fin
 
 -- a field that was rewritten
@@ -148,6 +149,57 @@ module _ (p : PlanOf) (old h1 h2 h3 h4 : Heap) (m : AreMoved p old h1 h2 h3 h4) 
           | inr young ↦
               let grown = ending_grown names.target (ending_closed m.to names.target names.field) in
               let younger = names.younger in
+              absurd (omega arith)
+        ]
+
+    -- where all condemned regions have one next generation none that is kept references a younger object: what
+    -- is older has no lower one
+    listed_generation : (a : Addr) → IsCondemned (object_at old) p.basis.condemned a → (k : ℕ)
+        × ((k < length p.regions)
+        × ((condemned_at p.regions k).generation ≡ raised p.basis.condemned (generation_at (object_at old) a)))
+    listed_generation a is =
+        let same = generation_is old a is.object in
+        let (k, at) = (regions_now p old c).all (region_of a) (record {
+          held = c.sound.held a is.object;
+          young = subst (λ g. g ≤ p.basis.condemned) same is.young;
+        }) in (
+          k,
+          (
+            at.0,
+            (regions_now p old c).generations k at.0
+                ∙ ap (λ r. raised p.basis.condemned (region_generation old r)) at.1
+                ∙ ap (raised p.basis.condemned) (sym same),
+          ),
+        )
+
+    pub ending_alike : AreAlike p.regions → (k : ℕ) → k < length p.moves
+        → is_kept_fate (move_at p.moves k).fate ≡ true → NamesYounger h6 (move_at p.moves k).to → ⊥
+    ending_alike alike k within kept names =
+        let n = p.basis.condemned in
+        let from = (move_at p.moves k).from in
+        let to = (move_at p.moves k).to in
+        let is_young = from_condemned p old c k within in
+        let (j, listed) = listed_generation from is_young in
+        let here : generation_at (object_at h6) to ≡ raised n (generation_at (object_at old) from) =
+        ap (generation_at (object_at h6)) (sym (place_move p old c k within))
+        ∙ ending_generation from (kept_move p old c k within kept) in
+        let (a, is) = ending_only names.target (ending_closed to names.target names.field) in
+        let there : generation_at (object_at h6) names.target ≡ raised n (generation_at (object_at old) a) =
+        ap (generation_at (object_at h6)) (sym is.1) ∙ ending_generation a is.0 in
+        let younger = names.younger in
+        elim (cases_lt n (generation_at (object_at old) a)) [
+          | inl older ↦
+              let most = raised_within n (generation_at (object_at old) from) (generation_at (object_at old) a)
+              is_young.young older in
+              absurd (omega arith)
+          | inr young ↦
+              let (i, also) = listed_generation a (record {
+                object = kept_object p old c a is.0;
+                young = young;
+              }) in
+              let same = alike i j also.0 listed.0 in
+              let one = also.1 in
+              let two = listed.1 in
               absurd (omega arith)
         ]
 

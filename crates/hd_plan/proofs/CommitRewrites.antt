@@ -1,6 +1,6 @@
 -- Lemmas on the rewriting of fields.
-use Rattle.hd_plan.proofs.Basics.{Addr, AreRewritten, Heap, IsField, IsNext, IsRising, IsSound, IsStayedAt, List, Move, None, Option, Placed, Some, and_parts, ap, arith, both_ways, card_of, cases_Bool, cases_eq, cond, false, fields_at, fields_in, forwarded, generation_at, generation_in, get_other, get_same, has-get, has_object, inl, inr, is_after, is_old_carded, is_set, is_some, is_staying, le-ltb, length, member_same, move_at, nat_lt, object_at, object_in, option_map, placed_at, refl, region_generation, region_of, same_address, subst, sym, true, with_object, ℕ, ◌&&◌, ◌+◌, ◌-◌, ◌<◌, ◌^◌, ◌∙◌, ◌≡◌, ◌≢◌, ◌⊎◌}
-use Rattle.hd_plan.proofs.{MoveEnds.ends_more, MoveEnds.ends_here, MoveEnds.ends_cases, MoveEnds.ends_skip, MoveEnds.ends_decided, LayStep.address_low, LayStep.reach_of, LayStep.reach_on, LayStep.after_past, LayStep.reached_cases, CommitCopies.get_placed, CommitCopies.has_alike, CommitCopies.fields_alike, CommitCopies.generation_alike}
+use Rattle.hd_plan.proofs.Basics.{Addr, AreRewritten, Heap, IsField, IsNext, IsRising, IsStayedAt, List, Move, None, Option, Placed, Some, and_parts, ap, arith, both_ways, card_of, cases_Bool, cases_eq, false, fields_at, forwarded, generation_at, get_other, get_same, has-get, has_object, inl, inr, is_after, is_old_carded, is_set, is_some, is_staying, le-ltb, length, member_same, move_at, nat_lt, object_at, option_map, placed_at, refl, region_generation, region_of, same_address, subst, sym, true, with_object, ℕ, ◌&&◌, ◌+◌, ◌<◌, ◌∙◌, ◌≡◌, ◌≢◌, ◌⊎◌}
+use Rattle.hd_plan.proofs.{MoveEnds.ends_more, MoveEnds.ends_here, MoveEnds.ends_cases, MoveEnds.ends_skip, LayStep.after_past, LayStep.reached_cases, CommitCopies.get_placed, CommitCopies.has_alike, CommitCopies.fields_alike, CommitCopies.generation_alike}
 use Rattle.std.specs.FinMap as map_of
 
 -- one object more is rewritten

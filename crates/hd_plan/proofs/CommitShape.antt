@@ -1,5 +1,6 @@
 -- A plan is valid for each heap of the same shape as the one for which it was laid.
-use Rattle.hd_plan.proofs.Basics.{Addr, AllocCursors, AreMoves, AreRegions, AreRemovedIn, AreSettledRegions, Basis, CanCopy, Condemned, Fits, HEADER, HasSoundCards, Heap, IsField, IsLaid, IsSameShape, IsSound, List, Move, None, PlanOf, Room, Some, ap, cells_of, condemned_at, false, fields_at, fields_placed, find_move, generation_at, is_carded, is_condemned, is_in_use, is_kept_by, kept_in, length, member_same, move_at, nat_le, nat_lt, object_at, placed_at, put_fate, raised, region_at, region_generation, region_of, room_of, subst, suc, sym, true, zero, ℕ, ◌&&◌, ◌+◌, ◌<◌, ◌||◌, ◌∙◌, ◌≡◌, ◌≢◌, ◌≤◌}
+use Rattle.hd_heap.proofs.NextObjects.{generation_is}
+use Rattle.hd_plan.proofs.Basics.{Addr, AllocCursors, AreMoves, AreRegions, AreRemovedIn, AreSettledRegions, Basis, CanCopy, Condemned, Fits, HEADER, HasSoundCards, Heap, IsField, IsLaid, IsSameShape, IsSound, List, Move, PlanOf, Room, Some, ap, cells_of, condemned_at, fields_at, fields_placed, find_move, generation_at, is_carded, is_condemned, is_in_use, is_kept_by, is_staying, kept_in, length, member_same, move_at, nat_le, nat_lt, object_at, placed_at, put_fate, raised, region_generation, region_of, room_of, subst, suc, sym, true, zero, ℕ, ◌&&◌, ◌+◌, ◌<◌, ◌||◌, ◌∙◌, ◌≡◌, ◌≤◌}
 use Rattle.hd_plan.specs.Layout.{room_at}
 use Rattle.hd_plan.proofs.{CommitCopies.generation_alike, CommitCards.has_from, KeptMoves.generation_some, KeptMoves.are_put, CondemnedAddresses.condemned_of}
 use Rattle.std.specs.FinMap as fin
@@ -107,6 +108,30 @@ module _ (p : PlanOf) (old : Heap) (c : IsCommitting p old) where
 
   pub closed_now : (a y : Addr) → kept_in p a ≡ true → IsField (object_at old) a y → kept_in p y ≡ true
   closed_now a y kept field = c.laid.closed a y kept (shape_field p.basis.heap old c.same a y field)
+
+  -- the region of each move is listed, and as one that stays where its object does
+  pub move_listed : (j : ℕ) → j < length p.moves → (k : ℕ)
+      × ((k < length p.regions) × ((condemned_at p.regions k).region ≡ region_of (move_at p.moves j).from))
+  move_listed j low =
+      let from = (move_at p.moves j).from in
+      let is = condemned_of old p.basis.condemned from (moves_now.condemned j low) in
+      let same = generation_is old from is.object in
+      regions_now.all (region_of from) (record {
+        held = c.sound.held from is.object;
+        young = subst (λ g. g ≤ p.basis.condemned) same is.young;
+      })
+
+  pub stays_listed : (j : ℕ) → j < length p.moves → is_staying (move_at p.moves j).fate ≡ true → (k : ℕ)
+      × ((k < length p.regions) × ((condemned_at p.regions k).pinned ≡ true))
+  stays_listed j low stays =
+      let (k, at) = move_listed j low in (
+        k,
+        (
+          at.0,
+          (regions_now.pinned k at.0).1
+              (record { at = j; within = low; stays = stays; region = sym at.1 }),
+        ),
+      )
 
   pub can_copy : CanCopy old p.moves
   can_copy = record {

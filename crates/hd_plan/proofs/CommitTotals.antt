@@ -1,7 +1,7 @@
 -- A map whose values map one to one to values of another that are no smaller has no more in all.
 use Rattle.hd_plan.proofs.Basics.{FinMap, List, Some, T, [], ap, arith, both, entries, entries_sorted, find, first_alone, found_first, found_later, get, get-entries, get_left, is_sorted, map, nat_cmp, refl, remove, share, subst, sum-remove, sum_by, sum_by-cons, sym, values, ℕ, ◌∙◌, ◌∷◌, ◌≡◌, ◌≢◌, ◌≤◌}
 use Rattle.std.specs.FinMap.Entries.{below_all}
-use Rattle.std.proofs.{lemmas.Bool.Decides.nat_tests, lemmas.Option.none-some}
+use Rattle.std.proofs.{lemmas.Option.none-some}
 
 module _ {A : Type 0} (f : A → ℕ) (ComesFrom : ℕ → ℕ → Type 0)
     (once : (q s r : ℕ) → ComesFrom q r → ComesFrom s r

@@ -1,5 +1,5 @@
 -- Tests of addresses and of what is condemned.
-use Rattle.hd_plan.proofs.Basics.{Addr, Bool, Heap, IsCondemned, None, Option, Placed, Some, and_from, and_parts, ap, cases_lt, cond, false, generation_at, generation_in, has_object, inl, inr, is_condemned, is_some, le-leb, le-ltb, leb-true, min, nat_le, not, object_at, object_in, option_map, raised, refl, region_generation, region_of, sym, true, ℕ, ◌+◌, ◌<◌, ◌≡◌, ◌≤◌, ◌⊎◌}
+use Rattle.hd_plan.proofs.Basics.{Addr, Bool, Heap, IsCondemned, and_from, and_parts, cases_lt, false, generation_at, has_object, inl, inr, is_condemned, le-leb, leb-true, nat_le, object_at, refl, sym, true, ℕ, ◌<◌, ◌≡◌, ◌⊎◌}
 
 -- two tests that pass alike are one
 pub same_tests : (a b : Bool) → (a ≡ true → b ≡ true) → (b ≡ true → a ≡ true) → a ≡ b
@@ -23,13 +23,3 @@ older_or_young h n a object = elim (cases_lt n (generation_at (object_at h) a)) 
   | inl older ↦ inl older
   | inr young ↦ inr (condemned_is h n a (record { object = object; young = young }))
 ]
-
--- the generation of an object is that of its region
-pub generation_is : (h : Heap) (a : Addr) → has_object h a ≡ true
-    → generation_at (object_at h) a ≡ region_generation h (region_of a)
-generation_is h a is = by (region_generation h (region_of a)) _ is
-  where
-    by : (g : ℕ) (o : Option Placed) → is_some (option_map (object_in g) o) ≡ true
-        → generation_in (option_map (object_in g) o) ≡ g
-    by g None e = absurd (cc e)
-    by g (Some p) e = refl

@@ -1,6 +1,9 @@
 -- All that is condemned has a move, and all regions are listed: the plan is laid.
-use Rattle.hd_plan.proofs.Basics.{Addr, AreChosen, AreListedTo, AreMoves, AreRegions, Bool, Condemned, CondemnedObject, Counts, HasCondemned, HasMove, HasNoEmptyCondemned, HasRegionRoom, Heap, IsClosed, IsCondemned, IsField, IsLaid, IsPlan, IsSettled, IsSound, List, Move, PlanOf, REGION, [], and_from, and_parts, ap, arith, cases_eq, cond, count_by, counts_like, false, first_at, has_object, inl, inr, is_in_use, is_kept_fate, is_staying, kept_in, length, move_at, not, not-true, object_at, objects_of, place_among, place_in, raised, refl, region_generation, region_of, room_at, stays_among, stays_in, subst, suc, sum_by-cons, sym, true, true≢false, zero, ℕ, ◌+◌, ◌-◌, ◌<◌, ◌^◌, ◌∙◌, ◌∷◌, ◌≡◌, ◌≤◌}
-use Rattle.hd_plan.proofs.{CondemnedAddresses.condemned_is, CondemnedAddresses.older_or_young, CondemnedAddresses.same_tests, CondemnedAddresses.generation_is, KeptMoves.is_condemned_at, KeptMoves.kept, KeptMoves.place, KeptMoves.older_kept, KeptMoves.older_place, KeptMoves.move_kept, KeptMoves.move_place, KeptMoves.kept_cases, KeptMoves.keeping, KeptMoves.unmoved, KeptMoves.fate_rests, MoveWeights.counts_moves, MoveWeights.stays_counted, ForwardTable.place_none, ForwardTable.place_some, LayStep.address_low}
+use Rattle.hd_heap.proofs.NextObjects.{condemned_has, generation_is}
+use Rattle.hd_model.specs.declared.limits.TheConstants.{REGIONS}
+use Rattle.hd_plan.specs.LaySteps.{AreRegionsTo, IsLaidTo}
+use Rattle.hd_plan.proofs.Basics.{Addr, AllocCursors, AreChosen, AreMoves, AreRegions, Bool, Condemned, Counts, Extent, HasNoEmptyCondemned, Heap, IsClosed, IsCondemned, IsField, IsLaid, IsPlan, IsSettled, IsSound, List, Move, PlanOf, REGION, [], and_from, and_parts, ap, arith, cases_eq, cond, count_by, false, first_at, has_object, inl, inr, is_kept_fate, is_staying, kept_in, length, move_at, not, not-true, object_at, objects_of, place_among, place_in, refl, region_generation, region_of, room_at, stays_among, stays_in, subst, suc, sum_by-cons, sym, true, true≢false, zero, ℕ, ◌*◌, ◌+◌, ◌-◌, ◌<◌, ◌^◌, ◌∙◌, ◌∷◌, ◌≡◌, ◌≤◌}
+use Rattle.hd_plan.proofs.{CondemnedAddresses.condemned_is, CondemnedAddresses.older_or_young, CondemnedAddresses.same_tests, KeptMoves.is_condemned_at, KeptMoves.kept, KeptMoves.place, KeptMoves.older_kept, KeptMoves.older_place, KeptMoves.move_kept, KeptMoves.move_place, KeptMoves.kept_cases, KeptMoves.keeping, KeptMoves.unmoved, KeptMoves.fate_rests, MoveWeights.counts_moves, MoveWeights.stays_counted, RegionList.place_none, RegionList.place_some, LayStep.address_low, LayStep.to_end, RegionList.region_condemned}
 
 one_of : (b : Bool) → cond {A = ℕ} b 1 0 + cond {A = ℕ} (not b) 1 0 ≡ 1
 one_of true = refl
@@ -15,37 +18,21 @@ passing_or_not p (x ∷ xs) =
     omega (arith, sum_by-cons (λ y. cond (p y) 1 0) x xs, known, passing_or_not p xs, one_of (p x))
 
 module _ (h : Heap) (n : ℕ) (sound : IsSound h) (ms : List Move) (moves : AreMoves h n ms) where
-  pub are_regions : (cs : List Condemned) → HasNoEmptyCondemned h n → AreListedTo ms cs (length ms)
+  pub are_regions : (cs : List Condemned) → HasNoEmptyCondemned h n → AreRegionsTo h n ms cs REGIONS
       → AreRegions h n ms cs
-  are_regions cs full listed = record {
-    condemned = λ k low.
-        let (j, is) = listed.named k low in
-        let at = is_condemned_at h n sound ms moves j is.0 in
-        record {
-          held = subst (λ (r : ℕ). is_in_use h r ≡ true) is.1.0 (sound.held (move_at ms j).from at.object);
-          young = (let y = at.young in
-              omega (arith, generation_is h (move_at ms j).from at.object, ap (region_generation h) is.1.0));
-        };
-    rising = listed.rising;
-    all = λ r is.
-        let start = full r is in
-        let young = is.young in
-        let condemned : IsCondemned (object_at h) n start.at = record {
+  are_regions cs full is = record {
+    condemned = λ k low. region_condemned sound (is.condemned k low);
+    rising = is.rising;
+    all = λ r at.
+        let start = full r at in
+        let young = at.young in
+        let condemned = condemned_is h n start.at (record {
           object = start.object;
           young = omega (arith, generation_is h start.at start.object, ap (region_generation h) start.region);
-        } in
-        let (j, at) = moves.all start.at (condemned_is h n start.at condemned) in
-        let (k, found) = listed.all j at.0 in
-        (k, (found.0, found.1 ∙ ap region_of at.1 ∙ start.region));
-    generations = λ k low.
-        let (j, is) = listed.named k low in
-        let at = is_condemned_at h n sound ms moves j is.0 in
-        is.1.1 ∙ moves.generations j is.0
-        ∙ ap (raised n) (generation_is h (move_at ms j).from at.object ∙ ap (region_generation h) is.1.0);
-    pinned = λ k low. (
-      listed.pinned k low,
-      λ stay. listed.stays stay.at k stay.within low stay.stays (sym stay.region),
-    );
+        }) in
+        is.all r (start.at, (condemned, start.region)) (sound.numbers r at.held).1;
+    generations = is.generations;
+    pinned = is.pinned;
   }
 
   module _ (promoted pinned : Addr → Bool) (chosen : AreChosen promoted pinned ms)
@@ -111,7 +98,7 @@ pub laid_plan : (p : PlanOf) → IsSound p.basis.heap → p.basis.condemned ≤ 
     → AreMoves p.basis.heap p.basis.condemned p.moves → (promoted pinned : Addr → Bool)
     → AreChosen promoted pinned p.moves → IsSettled (objects_of p.basis) p.basis.condemned promoted
     → IsClosed (IsField (objects_of p.basis)) promoted → HasNoEmptyCondemned p.basis.heap p.basis.condemned
-    → AreListedTo p.moves p.regions (length p.moves) → IsLaid p
+    → AreRegionsTo p.basis.heap p.basis.condemned p.moves p.regions REGIONS → IsLaid p
 laid_plan p sound generation moves promoted pinned chosen settled closed full listed = record {
   sound = sound;
   generation = generation;
@@ -122,24 +109,11 @@ laid_plan p sound generation moves promoted pinned chosen settled closed full li
       closed;
 }
 
--- regions with condemned objects are those that have moves
-pub region_room : (h : Heap) (n room cells : ℕ) → IsSound h → (ms : List Move) → AreMoves h n ms
-    → HasRegionRoom (HasCondemned h n) room cells → HasRegionRoom (HasMove ms) room cells
-region_room h n room cells sound ms moves is = record {
-  count = is.count;
-  count_is = counts_like (HasCondemned h n) (HasMove ms) is.count
-      (λ r p. let (k, at) = moves.all p.0 p.1.0 in (k, (at.0, ap region_of at.1 ∙ p.1.1)))
-      (λ r p. ((move_at ms p.0).from, (moves.condemned p.0 p.1.0, p.1.1))) is.count_is;
-  small = is.small;
-  enough = is.enough;
-  table = is.table;
-}
-
 -- the new address of a kept object is found in the table
-pub place_found : (p : PlanOf) (objects : List CondemnedObject) (room_ms room_cs : ℕ) (firsts : List ℕ)
-    (cells : List Addr) → IsLaid p → IsPlan p objects room_ms room_cs firsts cells
+pub place_found : (p : PlanOf) (e : Extent) (room_ms room_cs : ℕ) (firsts : List ℕ)
+    (cells : List Addr) → IsLaid p → IsPlan p e room_ms room_cs firsts cells
     → (a : Addr) → kept_in p a ≡ true → place_among firsts cells a ≡ place_in p a
-place_found p objects room_ms room_cs firsts cells laid is a kept_is =
+place_found p e room_ms room_cs firsts cells laid is a kept_is =
     let h : Heap = p.basis.heap in
     let n : ℕ = p.basis.condemned in
     elim (kept_cases h n laid.sound p.moves laid.moves a kept_is) [
@@ -247,22 +221,26 @@ pub record IsLaidFrom (p : PlanOf) (promoted pinned : Addr → Bool) : Type 0 wh
   pub settled : IsSettled (objects_of p.basis) p.basis.condemned promoted
   pub closed : IsClosed (IsField (objects_of p.basis)) promoted
   pub full : HasNoEmptyCondemned p.basis.heap p.basis.condemned
-  pub listed : AreListedTo p.moves p.regions (length p.moves)
+  pub listed : AreRegionsTo p.basis.heap p.basis.condemned p.moves p.regions REGIONS
 
-pub from_heap : (p : PlanOf) (promoted pinned : Addr → Bool) (h : Heap) → p.basis.heap ≡ h → IsSound h
-    → p.basis.condemned ≤ 2 → AreMoves h p.basis.condemned p.moves → AreChosen promoted pinned p.moves
+pub from_heap : {p : PlanOf} {promoted pinned : Addr → Bool} {h : Heap} {firsts : List ℕ} {cells : List Addr}
+    {cursors : AllocCursors} → p.basis.heap ≡ h → IsSound h → p.basis.condemned ≤ 2
+    → IsLaidTo h p.basis.condemned promoted pinned p.moves p.regions firsts cells cursors REGIONS
     → IsSettled (objects_of p.basis) p.basis.condemned promoted
     → IsClosed (IsField (objects_of p.basis)) promoted → HasNoEmptyCondemned h p.basis.condemned
-    → AreListedTo p.moves p.regions (length p.moves) → IsLaidFrom p promoted pinned
-from_heap p promoted pinned h same sound generation moves chosen settled closed full listed = record {
+    → IsLaidFrom p promoted pinned
+from_heap {p} {promoted} {pinned} {h} same sound generation laid settled closed full = record {
   sound = subst IsSound (sym same) sound;
   generation = generation;
-  moves = subst (λ (x : Heap). AreMoves x p.basis.condemned p.moves) (sym same) moves;
-  chosen = chosen;
+  moves = subst (λ (x : Heap). AreMoves x p.basis.condemned p.moves) (sym same)
+      (to_end h p.basis.condemned p.moves (REGIONS * REGION) laid.laying.to
+      (λ a of. let low = (address_low h sound a (condemned_has h p.basis.condemned a of)).1 in omega arith));
+  chosen = laid.laying.chosen;
   settled = settled;
   closed = closed;
   full = subst (λ (x : Heap). HasNoEmptyCondemned x p.basis.condemned) (sym same) full;
-  listed = listed;
+  listed = subst (λ (x : Heap). AreRegionsTo x p.basis.condemned p.moves p.regions REGIONS) (sym same)
+      laid.regions;
 }
 
 module _ (p : PlanOf) (promoted pinned : Addr → Bool) (from : IsLaidFrom p promoted pinned) where

@@ -16,11 +16,11 @@ pub mod CommitGenerations
 pub mod CommitTotals
 pub mod CommitResult
 pub mod RegionList
-pub mod ForwardTable
 pub mod PackedRegions
-pub mod SurveyCount
+pub mod CondemnedAmounts
 pub mod FreeRegionCount
 pub mod LaidPlan
 pub mod RegionsInUse
 pub mod CommitWalks
 pub mod CommitClears
+pub mod RegionLay

@@ -1,5 +1,5 @@
 -- Lemmas on the ends of the first moves.
-use Rattle.hd_plan.proofs.Basics.{Addr, Bool, Fate, HasEnd, List, Move, Moves, MovesToNewRegion, Pinned, add-one, ap, arith, both_ways, cases_eq, cases_lt, false, inl, inr, is_kept_fate, move_at, refl, same_address, subst, suc, sym, true, zero, ℕ, ◌+◌, ◌≡◌, ◌≤◌, ◌⊎◌}
+use Rattle.hd_plan.proofs.Basics.{Addr, Bool, Fate, HasEnd, List, Move, add-one, ap, arith, both_ways, cases_eq, cases_lt, false, inl, inr, move_at, refl, same_address, subst, suc, sym, true, zero, ℕ, ◌+◌, ◌≡◌, ◌≤◌, ◌⊎◌}
 
 module _ (fate : Fate → Bool) (end : Move → Addr) (ms : List Move) (a : Addr) where
   pub ends_none : HasEnd fate end ms 0 a → ⊥

@@ -1,10 +1,7 @@
 -- How many moves there are, and the words of their objects, against all that is condemned.
-use Rattle.hd_plan.proofs.Basics.{Addr, AllPairs, Bool, Contains, Counts, Heap, IsCondemned, IsRising, List, Move, Takes, [], ap, arith, cases_order, cells_of, cond, count_by, counts_named, filter, get_or, get_or-map, get_or_default, inl, inr, is_staying, length, length-filter, length-map, lighter, map, mapped_from, move_at, object_at, pairs_passing, passing_from, passing_in, placed_at, refl, subst, sum_by, sum_by-cons, sym, true, ℕ, ◌+◌, ◌<◌, ◌∙◌, ◌∷◌, ◌≡◌, ◌≢◌, ◌≤◌}
+use Rattle.hd_plan.proofs.Basics.{Addr, AllPairs, Bool, Contains, Counts, Heap, IsCondemned, IsRising, List, Move, Takes, [], ap, arith, cases_order, cells_laid, cells_of, cond, count_by, counts_named, fewer, filter, get_or, get_or-map, get_or_default, inl, inr, is_condemned, is_staying, length, length-filter, length-map, lighter, map, mapped_from, move_at, object_at, pairs_passing, passing_from, passing_in, placed_at, refl, subst, sum_by, sum_by-cons, sym, true, ℕ, ◌+◌, ◌<◌, ◌∙◌, ◌∷◌, ◌≡◌, ◌≢◌, ◌≤◌}
 use Rattle.hd_plan.specs.Layout.{stays_among}
-
--- the words of the objects of these moves
-abbrev pub cells_laid : Heap → List Move → ℕ
-cells_laid h ms = sum_by (λ m. cells_of (placed_at h m.from)) ms
+use Rattle.hd_plan.proofs.CondemnedAddresses.{condemned_is}
 
 pub sum_map : {A B : Type 0} (f : A → B) (w : B → ℕ) (xs : List A)
     → sum_by w (map f xs) ≡ sum_by (λ x. w (f x)) xs
@@ -93,3 +90,11 @@ module _ (ms : List Move) (rising : IsRising ms) where
         lighter (λ a. cells_of (placed_at h a)) froms takes.members froms_once
         (λ a c. takes.all a (froms_in a c)) in
         omega (arith, known, takes.sum, sum_map (λ (m : Move). m.from) (λ a. cells_of (placed_at h a)) ms)
+
+    -- they are at most as many as that
+    pub moves_fit : (count : ℕ) → Counts (λ a. is_condemned h n a ≡ true) count → length ms ≤ count
+    moves_fit count counts =
+        let within =
+        fewer froms counts.members froms_once
+        (λ a c. counts.all a (condemned_is h n a (froms_in a c))) in
+        omega (arith, within, counts.number, length-map ms (λ (m : Move). m.from))

@@ -1,290 +1,253 @@
--- The regions of moves are listed one after another.
-use Rattle.hd_plan.proofs.Basics.{Addr, AreListedTo, Bool, Condemned, Contains, Counts, HasMove, HasStay, IsAdded, IsJoined, IsRising, List, Move, [], and_parts, ap, arith, cases_eq, cases_lt, cases_order, condemned_at, counts_le, eq-eqb, eqb-true, false, get_or-map, get_or-set_other, get_or-set_same, get_or_append_left, get_or_at, get_or_default, inl, inr, is_last, is_staying, last_of, length, length-append, length-map, length-set, lt-ltb, ltb-true, map, mapped_from, move_at, or_right, refl, set, subst, suc, sym, true, true≢false, ℕ, ◌&&◌, ◌++◌, ◌+◌, ◌-◌, ◌<◌, ◌||◌, ◌∙◌, ◌∷◌, ◌≡◌, ◌≢◌, ◌≤◌, ◌⊎◌}
+-- Condemned regions are laid one after another: each is listed, and its objects have their new addresses in
+-- the table.
+use Rattle.hd_plan.proofs.Basics.{Addr, AllocCursors, Bool, Condemned, Contains, Counts, HasCondemned, HasPlaces, HasStay, Heap, IsCondemnedRegion, IsLaying, IsSound, List, Move, REGION, [], ap, arith, cases_eq, cases_lt, cell_at, condemned_at, false, first_at, fewer, get_or-map, get_or-set_other, get_or-set_same, inl, inr, is_condemned, is_in_use, length, length-map, map, member_cases, move_at, pairs_cons, place_among, place_from, raised, refl, region_generation, set, slice_index_or, spot_in, subst, suc, sym, true, ℕ, ⊎_elim, ◌*◌, ◌++◌, ◌+◌, ◌/◌, ◌<◌, ◌∙◌, ◌∷◌, ◌≡◌, ◌≢◌, ◌≤◌, ◌↔◌}
+use Rattle.std.proofs.Common.{replicate, zero}
 use Rattle.hd_model.specs.Heap.{region_of}
+use Rattle.hd_heap.proofs.NextObjects.{condemned_has, generation_is}
+use Rattle.hd_model.specs.declared.limits.TheConstants.{REGIONS}
+use Rattle.hd_plan.specs.Layout.{room_at}
+use Rattle.hd_plan.specs.LaySteps.{AreLaidIn, AreRegionsTo, HasLayRoom, IsLaidTo}
+use Rattle.hd_plan.proofs.{CondemnedAddresses.condemned_of, LayStep.address_low, LayStep.laying_past, LayStep.laying_start, LayStep.push_before, LayStep.push_each, LayStep.push_last, LayStep.push_length, LayStep.push_rising}
 
-pub region_rises : (a b : Addr) → a.0 ≤ b.0 → region_of a ≤ region_of b
+pub region_is_quotient : (a : Addr) → region_of a ≡ a.0 / REGION
 unfolding region_of
-region_rises a b le = omega arith
+region_is_quotient a = refl
 
--- what is read among regions with one more
-pub added_before : (cs : List Condemned) (x : Condemned) (k : ℕ) → k < length cs
-    → condemned_at (cs ++ x ∷ []) k ≡ condemned_at cs k
-added_before cs x k low = get_or_append_left cs (x ∷ []) _ k low
+pub place_none : (firsts : List ℕ) (cells : List Addr) (a : Addr) → first_at firsts (region_of a) ≡ 0
+    → place_among firsts cells a ≡ a
+place_none firsts cells a e = ap (λ x. place_from x cells a) e
 
-pub added_last : (cs : List Condemned) (x : Condemned) (k : ℕ) → k ≡ length cs
-    → condemned_at (cs ++ x ∷ []) k ≡ x
-added_last cs x k e = get_or_at cs x [] _ k (sym e)
+pub place_some : (firsts : List ℕ) (cells : List Addr) (a : Addr) (k : ℕ)
+    → first_at firsts (region_of a) ≡ suc k → place_among firsts cells a ≡ cell_at cells (spot_in k a)
+place_some firsts cells a k e = ap (λ x. place_from x cells a) e
 
-pub added_length : (cs : List Condemned) (x : Condemned) → length (cs ++ x ∷ []) ≡ suc (length cs)
-added_length cs x = length-append cs (x ∷ []) ∙ omega arith
+zeros : (n k : ℕ) → first_at (replicate n 0) k ≡ 0
+zeros zero k = refl
+zeros (suc n) zero = refl
+zeros (suc n) (suc k) = zeros n k
 
-module _ (ms : List Move) (rising : IsRising ms) where
-  -- listed regions have different numbers
-  pub region_once : (cs : List Condemned) (i : ℕ) → AreListedTo ms cs i → (j k : ℕ) → j < length cs
-      → k < length cs → (condemned_at cs j).region ≡ (condemned_at cs k).region → j ≡ k
-  region_once cs i listed j k low high same = elim (cases_order j k) [
-    | inl e ↦ e
-    | inr (inl less) ↦ absurd (let r = listed.rising j k less high in omega arith)
-    | inr (inr more) ↦ absurd (let r = listed.rising k j more low in omega arith)
-  ]
+-- no region is listed in a new table
+pub places_none : (end : ℕ) (firsts : List ℕ) (cells : List Addr) → firsts ≡ replicate end 0
+    → HasPlaces [] [] firsts cells
+places_none end firsts cells new = record {
+  listed = λ k low. absurd (omega arith);
+  others = λ r some. absurd (some (ap (λ ns. first_at ns r) new ∙ zeros end r));
+  spots = omega arith;
+  places = λ j k low high. absurd (omega arith);
+}
 
-  listed_has : (cs : List Condemned) (i : ℕ) → AreListedTo ms cs i → i ≤ length ms → (r : ℕ)
-      → Contains (map (λ (x : Condemned). x.region) cs) r → HasMove ms r
-  listed_has cs i listed le r h =
-      let (x, rest) = mapped_from (λ (y : Condemned). y.region) cs r h in
-      let at : condemned_at cs rest.0.0 ≡ x = get_or_default cs rest.0.0 _ x rest.0.1 ∙ rest.0.2 in
-      let (j, is) = listed.named rest.0.0 rest.0.1 in
-      (j, (let l = is.0 in omega arith, is.1.0 ∙ ap (λ y. y.region) at ∙ rest.1))
+-- room stays room
+pub room_along : {h : Heap} {n a b c d : ℕ} (a2 b2 c2 d2 : ℕ) → HasLayRoom h n a b c d → a2 ≡ a → b2 ≡ b
+    → c2 ≡ c → d2 ≡ d → HasLayRoom h n a2 b2 c2 d2
+room_along a2 b2 c2 d2 is e f g k =
+    let moves = is.moves in
+    let regions = is.regions in
+    record {
+      moves = record { count = moves.count; count_is = moves.count_is; enough = omega (arith, moves.enough, e) };
+      regions = record {
+        count = regions.count;
+        count_is = regions.count_is;
+        small = regions.small;
+        enough = omega (arith, regions.enough, f);
+        table = omega (arith, regions.table, k);
+      };
+      span = λ x has. omega (arith, is.span x has, g);
+    }
 
-  -- listed regions are at most as many as have moves
-  pub listed_fit : (cs : List Condemned) (i c : ℕ) → AreListedTo ms cs i → i ≤ length ms
-      → Counts (HasMove ms) c → length cs ≤ c
-  listed_fit cs i c listed le counts =
-      let regions : List ℕ = map (λ (x : Condemned). x.region) cs in
-      let own : Counts (λ r. Contains regions r) (length cs) = record {
-        members = regions;
-        apart = λ j k d less high same.
-            let short : length regions ≡ length cs = length-map cs (λ (x : Condemned). x.region) in
-            let e : j ≡ k = region_once cs i listed j k (omega arith) (omega arith)
-            (sym (get_or-map (λ (x : Condemned). x.region) cs j _ d (omega arith)) ∙ same
-            ∙ get_or-map (λ (x : Condemned). x.region) cs k _ d (omega arith)) in
-            omega arith;
-        each = λ x h. h;
-        all = λ x h. h;
-        number = length-map cs (λ (x : Condemned). x.region);
-      } in
-      counts_le (λ r. Contains regions r) (HasMove ms) (length cs) c (listed_has cs i listed le) own counts
+abbrev no_region : Condemned
+no_region = record { region = 0; generation = 0; pinned = false }
 
-  -- the next move is in the last listed region, or after all of them
-  low_region : (cs : List Condemned) (i : ℕ) → AreListedTo ms cs i → i < length ms → (k : ℕ) → k < length cs
-      → (condemned_at cs k).region ≤ region_of (move_at ms i).from
-  low_region cs i listed within k low =
-      let (j, is) = listed.named k low in
-      let up : region_of (move_at ms j).from ≤ region_of (move_at ms i).from =
-      region_rises (move_at ms j).from (move_at ms i).from (let r = rising j i is.0 within in omega arith)
-      in
-      let e = is.1.0 in omega arith
-
-  pub last_is : (cs : List Condemned) (r : ℕ) → is_last cs r ≡ true → (0 < length cs)
-      × ((last_of cs).region ≡ r)
-  last_is cs r e = let parts = and_parts _ _ e in
-      (ltb-true 0 (length cs) parts.0, eqb-true (last_of cs).region r parts.1)
-
-  last_is_not : (cs : List Condemned) (r : ℕ) → is_last cs r ≡ false → 0 < length cs → (last_of cs).region ≢ r
-  last_is_not cs r e some same =
-      true≢false (sym (λ i. lt-ltb 0 (length cs) some i && eq-eqb (last_of cs).region r same i) ∙ e)
-
-  pub below_region : (cs : List Condemned) (i : ℕ) → AreListedTo ms cs i → i < length ms
-      → is_last cs (region_of (move_at ms i).from) ≡ false → (k : ℕ) → k < length cs
-      → (condemned_at cs k).region < region_of (move_at ms i).from
-  below_region cs i listed within other k low =
-      let r : ℕ = region_of (move_at ms i).from in
-      let top : (last_of cs).region ≤ r = low_region cs i listed within (length cs - 1) (omega arith) in
-      let apart : (last_of cs).region ≢ r = last_is_not cs r other (omega arith) in
-      elim (cases_eq k (length cs - 1)) [
-        | inl same ↦ subst (λ (x : ℕ). (condemned_at cs x).region < r) (sym same) (omega arith)
-        | inr less ↦ let up = listed.rising k (length cs - 1) (omega arith) (omega arith) in omega arith
-      ]
-
-  -- a region more is listed
-  pub listed_added : (cs : List Condemned) (i : ℕ) → AreListedTo ms cs i → i < length ms
-      → is_last cs (region_of (move_at ms i).from) ≡ false
-      → AreListedTo ms (cs ++ record {
-        region = region_of (move_at ms i).from;
-        generation = (move_at ms i).generation;
-        pinned = is_staying (move_at ms i).fate;
-      } ∷ []) (i + 1)
-  listed_added cs i listed within other =
-      let m : Move = move_at ms i in
-      let x : Condemned =
-      record { region = region_of m.from; generation = m.generation; pinned = is_staying m.fate } in
-      let below : (k : ℕ) → k < length cs → (condemned_at cs k).region < region_of m.from =
-      below_region cs i listed within other in
-      let long : length (cs ++ x ∷ []) ≡ suc (length cs) = added_length cs x in
+module _ {h : Heap} (sound : IsSound h) {n : ℕ} where
+  -- a region with a condemned object is a condemned one
+  pub region_condemned : {r : ℕ} → HasCondemned h n r → IsCondemnedRegion h n r
+  region_condemned {r} (a, (is, region)) =
+      let young = condemned_of h n a is in
       record {
-        named = λ k low. elim (cases_lt k (length cs)) [
-          | inl inside ↦ let (j, is) = listed.named k inside in
-              let e = added_before cs x k inside in (
-                j,
-                (
-                  let l = is.0 in
-                      omega arith,
-                  (
-                    is.1.0 ∙ ap (λ (y : Condemned). y.region) (sym e),
-                    ap (λ (y : Condemned). y.generation) e ∙ is.1.1,
-                  ),
-                ),
-              )
-          | inr last ↦ let e = added_last cs x k (omega arith) in (
-            i,
-            (
-              omega arith,
-              (ap (λ (y : Condemned). y.region) (sym e), ap (λ (y : Condemned). y.generation) e),
-            ),
-          )
-        ];
-        rising = λ j k less low. elim (cases_lt k (length cs)) [
-          | inl inside ↦ let r = listed.rising j k less inside in
-              let known = ap {B = ℕ} (λ (y : Condemned). y.region) (added_before cs x j (omega arith)) in
-              omega (arith, known, ap {B = ℕ} (λ (y : Condemned). y.region) (added_before cs x k inside))
-          | inr last ↦ let r = below j (omega arith) in
-              let known = ap {B = ℕ} (λ (y : Condemned). y.region) (added_before cs x j (omega arith)) in
-              omega (arith, known, ap {B = ℕ} (λ (y : Condemned). y.region) (added_last cs x k (omega arith)))
-        ];
-        all = λ j low. elim (cases_lt j i) [
-          | inl before ↦ let (k, is) = listed.all j before in (
-            k,
-            (
-              let l = is.0 in omega arith,
-              ap (λ (y : Condemned). y.region) (added_before cs x k is.0) ∙ is.1,
-            ),
-          )
-          | inr last ↦ (
-            length cs,
-            (
-              omega arith,
-              ap (λ (y : Condemned). y.region) (added_last cs x (length cs) refl)
-                  ∙ ap (λ y. region_of (move_at ms y).from) {x = i} {y = j} (omega arith),
-            ),
-          )
-        ];
-        pinned = λ k low is. elim (cases_lt k (length cs)) [
-          | inl inside ↦ let e = added_before cs x k inside in
-              subst (λ (y : Condemned). HasStay ms y.region) (sym e)
-              (listed.pinned k inside (ap (λ (y : Condemned). y.pinned) (sym e) ∙ is))
-          | inr last ↦ let e = added_last cs x k (omega arith) in
-              subst (λ (y : Condemned). HasStay ms y.region) (sym e)
-              (record {
-                at = i;
-                within = within;
-                stays = ap (λ (y : Condemned). y.pinned) (sym e) ∙ is;
-                region = refl;
-              })
-        ];
-        stays = λ j k low high is same. elim (cases_lt k (length cs)) [
-          | inl inside ↦ let e = added_before cs x k inside in
-              ap (λ (y : Condemned). y.pinned) e ∙ elim (cases_lt j i) [
-                | inl before ↦ listed.stays j k before inside is
-                    (ap (λ (y : Condemned). y.region) (sym e) ∙ same)
-                | inr last ↦ absurd (let b = below k inside in
-                    (let known = ap (λ y. region_of (move_at ms y).from) {x = j} {y = i} (omega arith) in
-                    omega (arith, ap {B = ℕ} (λ (y : Condemned). y.region) e, same, known)))
-              ]
-          | inr last ↦ let e = added_last cs x k (omega arith) in
-              ap (λ (y : Condemned). y.pinned) e ∙ elim (cases_lt j i) [
-                | inl before ↦ absurd (let (q, at) = listed.all j before in let b = below q at.0 in
-                    omega (arith, at.1, ap {B = ℕ} (λ (y : Condemned). y.region) e, same))
-                | inr late ↦ ap (λ y. is_staying (move_at ms y).fate) {x = i} {y = j} (omega arith) ∙ is
-              ]
-        ];
+        held = subst (λ q. is_in_use h q ≡ true) region (sound.held a young.object);
+        young = omega (arith, generation_is h a young.object, young.young, ap (region_generation h) region);
       }
 
-  -- the last listed region has one object more
-  module _ (cs : List Condemned) (i : ℕ) (listed : AreListedTo ms cs i) (within : i < length ms)
-      (last : is_last cs (region_of (move_at ms i).from) ≡ true) where
-    abbrev staying : Bool
-    staying = is_staying (move_at ms i).fate
+  -- there are fewer regions listed than have condemned objects, where one is not listed
+  pub regions_few : {ms : List Move} {cs : List Condemned} {r count : ℕ} → AreRegionsTo h n ms cs r
+      → HasCondemned h n r → Counts (HasCondemned h n) count → length cs < count
+  regions_few {ms} {cs} {r} {count} is next counts =
+      let at : (k : ℕ) (d : ℕ) → k < length cs → slice_index_or (map (λ (x : Condemned). x.region) cs) k d
+      ≡ (condemned_at cs k).region = λ k d low. get_or-map (λ (x : Condemned). x.region) cs k no_region d low in
+      let short : length (map (λ (x : Condemned). x.region) cs) ≡ length cs =
+      length-map cs (λ (x : Condemned). x.region) in
+      let found : (q : ℕ) → Contains (map (λ (x : Condemned). x.region) cs) q
+      → (k : ℕ) × ((k < length cs) × ((condemned_at cs k).region ≡ q)) = λ q c.
+      (c.0, (omega (arith, c.1, short), sym (at c.0 q (omega (arith, c.1, short))) ∙ c.2)) in
+      let fit = fewer (r ∷ map (λ (x : Condemned). x.region) cs) counts.members
+      (pairs_cons (λ x y. x ≢ y) r _ (λ q c same. let (k, is2) = found q c in
+      omega (arith, is.below k is2.0, is2.1, same))
+      (λ i j d less high same. omega (
+        arith,
+        is.rising i j less (omega (arith, high, short)),
+        at i d (omega (arith, less, high, short)),
+        at j d (omega (arith, high, short)),
+        same,
+      )))
+      (λ q c. counts.all q (elim (member_cases r _ q c) [
+        | inl same ↦ subst (HasCondemned h n) same next
+        | inr later ↦ let (k, is2) = found q later in subst (HasCondemned h n) is2.1 (is.condemned k is2.0)
+      ])) in
+      omega (arith, fit, short, counts.number)
 
-    abbrev joined : List Condemned
-    joined = set cs (length cs - 1) (record (last_of cs) { pinned = (last_of cs).pinned || staying })
-
-    joined_last : (k : ℕ) → k ≡ length cs - 1
-        → condemned_at joined k ≡ record (last_of cs) { pinned = (last_of cs).pinned || staying }
-    joined_last k e = ap (condemned_at joined) e
-        ∙ get_or-set_same cs (length cs - 1) _ _ (let some = (last_is cs _ last).0 in omega arith)
-
-    joined_other : (k : ℕ) → k ≢ length cs - 1 → condemned_at joined k ≡ condemned_at cs k
-    joined_other k apart = get_or-set_other cs (length cs - 1) k _ _ apart
-
-    pub joined_region : (k : ℕ) → (condemned_at joined k).region ≡ (condemned_at cs k).region
-    joined_region k = elim (cases_eq k (length cs - 1)) [
-      | inl same ↦ ap (λ (x : Condemned). x.region) (joined_last k same)
-          ∙ ap (λ j. (condemned_at cs j).region) (sym same)
-      | inr other ↦ ap (λ (x : Condemned). x.region) (joined_other k other)
-    ]
-
-    joined_generation : (k : ℕ) → (condemned_at joined k).generation ≡ (condemned_at cs k).generation
-    joined_generation k = elim (cases_eq k (length cs - 1)) [
-      | inl same ↦ ap (λ (x : Condemned). x.generation) (joined_last k same)
-          ∙ ap (λ j. (condemned_at cs j).generation) (sym same)
-      | inr other ↦ ap (λ (x : Condemned). x.generation) (joined_other k other)
-    ]
-
-    pub joined_length : length joined ≡ length cs
-    joined_length = length-set cs (length cs - 1) _
-
-    joined_pinned : (k : ℕ) → k < length cs → (p s : Bool) → (last_of cs).pinned ≡ p → staying ≡ s
-        → k ≡ length cs - 1 → (p || s) ≡ true → HasStay ms (condemned_at cs k).region
-    joined_pinned k low true s p e same is =
-        listed.pinned k low (ap (λ j. (condemned_at cs j).pinned) same ∙ p)
-    joined_pinned k low false true p e same is = record {
-      at = i;
-      within = within;
-      stays = e;
-      region = sym (last_is cs _ last).1 ∙ ap (λ j. (condemned_at cs j).region) (sym same);
-    }
-    joined_pinned k low false false p e same is = absurd (true≢false (sym is))
-
-    joined_keeps : (k : ℕ) → (condemned_at cs k).pinned ≡ true → (condemned_at joined k).pinned ≡ true
-    joined_keeps k is = elim (cases_eq k (length cs - 1)) [
-      | inl same ↦ ap (λ (x : Condemned). x.pinned) (joined_last k same)
-          ∙ ap (λ (b : Bool). b || staying) (ap (λ j. (condemned_at cs j).pinned) (sym same) ∙ is)
-      | inr other ↦ ap (λ (x : Condemned). x.pinned) (joined_other k other) ∙ is
-    ]
-
-    joined_stays : (k : ℕ) → k < length cs → staying ≡ true
-        → (condemned_at cs k).region ≡ region_of (move_at ms i).from → (condemned_at joined k).pinned ≡ true
-    joined_stays k low is same =
-        let at : k ≡ length cs - 1 =
-        region_once cs i listed k (length cs - 1) low (omega arith) (same ∙ sym (last_is cs _ last).1) in
-        ap (λ (x : Condemned). x.pinned) (joined_last k at) ∙ or_right (last_of cs).pinned staying is
-
-    pub listed_joined : AreListedTo ms joined (i + 1)
-    listed_joined = record {
-      named = λ k low.
-          let (j, is) = listed.named k (omega (arith, joined_length)) in
-          (j, (let l = is.0 in omega arith, (is.1.0 ∙ sym (joined_region k), joined_generation k ∙ is.1.1)));
-      rising = λ j k less low.
-          let r = listed.rising j k less (omega (arith, joined_length)) in
-          omega (arith, joined_region j, joined_region k);
-      all = λ j low. elim (cases_lt j i) [
-        | inl before ↦ let (k, is) = listed.all j before in
-            (k, (let l = is.0 in omega (arith, joined_length), joined_region k ∙ is.1))
-        | inr late ↦ (
-          length cs - 1,
-          (
-            let some = (last_is cs _ last).0 in omega (arith, joined_length),
-            joined_region (length cs - 1) ∙ (last_is cs _ last).1
-                ∙ ap (λ y. region_of (move_at ms y).from) {x = i} {y = j} (omega arith),
-          ),
-        )
-      ];
-      pinned = λ k low is.
-          subst (λ (r : ℕ). HasStay ms r) (sym (joined_region k)) (elim (cases_eq k (length cs - 1)) [
-            | inl same ↦ joined_pinned k (omega (arith, joined_length)) (last_of cs).pinned staying refl refl
-                same (sym (ap (λ (x : Condemned). x.pinned) (joined_last k same)) ∙ is)
-            | inr other ↦ listed.pinned k (omega (arith, joined_length))
-                (sym (ap (λ (x : Condemned). x.pinned) (joined_other k other)) ∙ is)
-          ]);
-      stays = λ j k low high is same. elim (cases_lt j i) [
-        | inl before ↦ joined_keeps k
-            (listed.stays j k before (omega (arith, joined_length)) is (sym (joined_region k) ∙ same))
-        | inr late ↦
-            let e : j ≡ i = omega arith in
-            joined_stays k (omega (arith, joined_length))
-            (ap (λ y. is_staying (move_at ms y).fate) (sym e) ∙ is)
-            (sym (joined_region k) ∙ same ∙ ap (λ y. region_of (move_at ms y).from) e)
-      ];
+  module _ {promoted pinned : Addr → Bool} where
+    -- before the first region
+    pub laid_start : (firsts : List ℕ) (cells : List Addr) → HasPlaces [] [] firsts cells
+        → IsLaidTo h n promoted pinned [] [] firsts cells
+        (record { first = record { region = 0; fill = 0 }; second = record { region = 0; fill = 0 }; opened = 0 })
+        1
+    laid_start firsts cells places = record {
+      laying = laying_past h n sound promoted pinned _ _ 0 (1 * REGION) (laying_start h n promoted pinned)
+          (omega arith) (λ a is low. omega (arith, (address_low h sound a (condemned_has h n a is)).0));
+      regions = record {
+        condemned = λ k low. absurd (omega arith);
+        below = λ k low. absurd (omega arith);
+        rising = λ j k less low. absurd (omega arith);
+        all = λ r is low. absurd (let number = (sound.numbers r (region_condemned is).held).0 in omega arith);
+        generations = λ k low. absurd (omega arith);
+        pinned = λ k low. absurd (omega arith);
+      };
+      places = places;
     }
 
-  -- one move more is listed, either way
-  pub listed_next : (cs ds : List Condemned) (i : ℕ) (firsts firsts2 : List ℕ) → AreListedTo ms cs i
-      → i < length ms
-      → IsJoined cs ds (move_at ms i) firsts firsts2 ⊎ IsAdded cs ds (move_at ms i) firsts firsts2
-      → AreListedTo ms ds (i + 1)
-  listed_next cs ds i firsts firsts2 listed within (inl is) =
-      subst (λ (x : List Condemned). AreListedTo ms x (i + 1)) (sym is.joined)
-      (listed_joined cs i listed within is.last)
-  listed_next cs ds i firsts firsts2 listed within (inr is) =
-      subst (λ (x : List Condemned). AreListedTo ms x (i + 1)) (sym is.added)
-      (listed_added cs i listed within is.other)
+    -- no condemned object is in the regions between two numbers
+    pub laid_past : {ms : List Move} {cs : List Condemned} {firsts : List ℕ} {cells : List Addr}
+        {cursors : AllocCursors} {low : ℕ} (high : ℕ)
+        → IsLaidTo h n promoted pinned ms cs firsts cells cursors low → low ≤ high
+        → ((a : Addr) → is_condemned h n a ≡ true → low ≤ region_of a → high ≤ region_of a)
+        → IsLaidTo h n promoted pinned ms cs firsts cells cursors high
+    unfolding region_of
+    laid_past {ms} {cs} {firsts} {cells} {cursors} {low} high is up none =
+        let old = is.regions in
+        record {
+          laying = laying_past h n sound promoted pinned ms cursors (low * REGION) (high * REGION) is.laying
+              (omega (arith, up)) (λ a of from. omega (arith, none a of (omega (arith, from))));
+          regions = record {
+            condemned = old.condemned;
+            below = λ k l. omega (arith, old.below k l, up);
+            rising = old.rising;
+            all = λ r has l. elim (cases_lt r low) [
+              | inl before ↦ old.all r has before
+              | inr from ↦ absurd (omega (arith, none has.0 has.1.0 (omega (arith, from, has.1.1)), has.1.1, l))
+            ];
+            generations = old.generations;
+            pinned = old.pinned;
+          };
+          places = is.places;
+        }
+
+    -- none is left
+    pub laid_done : {ms : List Move} {cs : List Condemned} {firsts : List ℕ} {cells : List Addr}
+        {cursors : AllocCursors} {low : ℕ} → IsLaidTo h n promoted pinned ms cs firsts cells cursors low
+        → low ≤ REGIONS → ((a : Addr) → is_condemned h n a ≡ true → region_of a < low)
+        → IsLaidTo h n promoted pinned ms cs firsts cells (room_at h ms (length ms)).cursors REGIONS
+    laid_done {ms} {cs} {firsts} {cells} is up none =
+        subst (λ (s : AllocCursors). IsLaidTo h n promoted pinned ms cs firsts cells s REGIONS)
+        (sym is.laying.cursors_are)
+        (laid_past REGIONS is up (λ a of from. absurd (omega (arith, none a of, from))))
+
+    -- one region more is laid
+    module _ {ms new : List Move} {cs : List Condemned} {firsts : List ℕ} {cells after : List Addr}
+        {old : AllocCursors} (x : Condemned)
+        (so_far : IsLaidTo h n promoted pinned ms cs firsts cells old x.region)
+        (some : HasCondemned h n x.region)
+        (these : AreLaidIn ms new x.region (length cs) x.pinned cells after) where
+      -- no object of the region has a move before
+      none_before : HasStay ms x.region → ⊥
+      unfolding region_of
+      none_before is = omega (arith, so_far.laying.to.below is.at is.within, is.region)
+
+      below : (k : ℕ) → k < length cs → (condemned_at cs k).region < x.region
+      below = so_far.regions.below
+
+      regions_more : x.generation ≡ raised n (region_generation h x.region)
+          → AreRegionsTo h n new (cs ++ x ∷ []) (x.region + 1)
+      regions_more generation =
+          let is = so_far.regions in
+          record {
+            condemned = push_each no_region cs x (λ k y. HasCondemned h n y.region) is.condemned some;
+            below = push_each no_region cs x (λ k y. y.region < x.region + 1)
+                (λ k low. omega (arith, below k low)) (omega arith);
+            rising = push_rising no_region cs x (λ y. y.region) is.rising below;
+            all = λ q has low. elim (cases_eq q x.region) [
+              | inl same ↦ (
+                length cs,
+                (
+                  omega (arith, push_length no_region cs x),
+                  ap (λ (y : Condemned). y.region) (push_last no_region cs x (length cs) refl) ∙ sym same,
+                ),
+              )
+              | inr other ↦ let (k, at) = is.all q has (omega (arith, low, other)) in (
+                k,
+                (
+                  omega (arith, push_length no_region cs x, at.0),
+                  ap (λ (y : Condemned). y.region) (push_before no_region cs x k at.0) ∙ at.1,
+                ),
+              )
+            ];
+            generations = push_each no_region cs x
+                (λ k y. y.generation ≡ raised n (region_generation h y.region)) is.generations generation;
+            pinned = push_each no_region cs x (λ k y. (y.pinned ≡ true) ↔ HasStay new y.region)
+                (λ k low. (
+                  λ e. (these.stays _).1 (inl ((is.pinned k low).0 e)),
+                  λ stay. ⊎_elim (λ was. (is.pinned k low).1 was)
+                      (λ now. absurd (omega (arith, below k low, now.1))) ((these.stays _).0 stay),
+                )) (
+                  λ e. (these.stays x.region).1 (inr (e, refl)),
+                  λ stay. ⊎_elim (λ was. absurd (none_before was)) (λ now. now.0) ((these.stays x.region).0 stay),
+                );
+          }
+
+      places_more : x.region < length firsts → REGION * (length cs + 1) ≤ length cells
+          → HasPlaces new (cs ++ x ∷ []) (set firsts x.region (length cs + 1)) after
+      places_more span room =
+          let is = so_far.places in
+          let there : (q : ℕ) → q ≢ x.region → first_at (set firsts x.region (length cs + 1)) q ≡ first_at firsts q =
+          λ q apart. get_or-set_other firsts x.region q (length cs + 1) 0 apart in
+          record {
+            listed = push_each no_region cs x
+                (λ k y. first_at (set firsts x.region (length cs + 1)) y.region ≡ k + 1)
+                (λ k low. there _ (λ e. omega (arith, below k low, e)) ∙ is.listed k low)
+                (get_or-set_same firsts x.region (length cs + 1) 0 span);
+            others = λ q first. elim (cases_eq q x.region) [
+              | inl same ↦ (
+                length cs,
+                (
+                  omega (arith, push_length no_region cs x),
+                  ap (λ (y : Condemned). y.region) (push_last no_region cs x (length cs) refl) ∙ sym same,
+                ),
+              )
+              | inr other ↦ let (k, at) = is.others q (λ e. first (there q other ∙ e)) in (
+                k,
+                (
+                  omega (arith, push_length no_region cs x, at.0),
+                  ap (λ (y : Condemned). y.region) (push_before no_region cs x k at.0) ∙ at.1,
+                ),
+              )
+            ];
+            spots = omega (arith, room, push_length no_region cs x, these.long);
+            places = λ j k low high. push_each no_region cs x
+                (λ i y. y.region ≡ region_of (move_at new j).from
+                → cell_at after (spot_in i (move_at new j).from) ≡ (move_at new j).to)
+                (λ i inside same. ⊎_elim (λ here. absurd (omega (arith, below i inside, same, here)))
+                (λ was. subst (λ (m : Move). cell_at after (spot_in i m.from) ≡ m.to) (sym was.1)
+                (these.same _ (omega (arith, inside))
+                ∙ is.places j i was.0 inside (same ∙ ap (λ (m : Move). region_of m.from) was.1))) (these.each j low))
+                (λ same. these.placed j low (sym same)) k high;
+          }
+
+      pub laid_region : {cursors : AllocCursors}
+          → IsLaying h n promoted pinned new cursors ((x.region + 1) * REGION)
+          → x.generation ≡ raised n (region_generation h x.region) → x.region < length firsts
+          → REGION * (length cs + 1) ≤ length cells
+          → IsLaidTo h n promoted pinned new (cs ++ x ∷ []) (set firsts x.region (length cs + 1)) after cursors
+          (x.region + 1)
+      laid_region laying generation span room = record {
+        laying = laying;
+        regions = regions_more generation;
+        places = places_more span room;
+      }

@@ -1,5 +1,5 @@
 -- The room while objects are laid: each fate of an object keeps what is true of it.
-use Rattle.hd_plan.proofs.Basics.{Addr, AllocCursors, Bool, CanPut, Dead, FIELDS, Fate, FinMap, Fits, Followed, HEADER, HasSlack, Heap, IsCursor, IsFresh, IsPut, IsRoom, IsSound, LEFT, Moves, MovesToNewRegion, OPEN, Opened, Option, Pinned, REGION, Region, Room, Some, WasFree, ap, arith, begun, cases_eq, cond, cursor_of, eq-eqb, false, filled, followed_cursor, get, get_other, get_same, has_region, inl, inr, insert, is_in_use, is_moving, is_some, length, nat_cmp, ne_eqb, opened_cursor, put_fate, refl, region_in, room_of, slice_index, subst, sym, true, true≢false, unwrap_or, with_cursor, ℕ, ⊎_elim, ◌*◌, ◌+◌, ◌/◌, ◌<◌, ◌^◌, ◌∙◌, ◌≡◌, ◌≢◌, ◌≤◌, ◌⊎◌}
+use Rattle.hd_plan.proofs.Basics.{Addr, Bool, CanPutAt, Dead, FIELDS, Fate, FinMap, Fits, Followed, HEADER, HasSlack, Heap, IsCursor, IsFresh, IsPut, IsRoom, IsSound, LEFT, Moves, MovesToNewRegion, OPEN, Opened, Option, Pinned, REGION, Region, Room, Some, WasFree, ap, arith, begun, cases_eq, cond, cursor_of, eq-eqb, false, filled, followed_cursor, get, get_other, get_same, has_region, inl, inr, insert, is_in_use, is_moving, is_some, length, nat_cmp, ne_eqb, opened_cursor, put_fate, refl, region_in, room_of, slice_index, subst, sym, true, true≢false, unwrap_or, with_cursor, ℕ, ⊎_elim, ◌*◌, ◌+◌, ◌/◌, ◌<◌, ◌^◌, ◌∙◌, ◌≡◌, ◌≢◌, ◌≤◌, ◌⊎◌}
 use Rattle.hd_model.specs.Heap.{region_of}
 use Rattle.hd_plan.specs.declared.cursors.AllocCursor.{AllocCursor}
 
@@ -29,16 +29,6 @@ pub begun_most : (c : AllocCursor) → begun c ≤ 1
 begun_most c = elim (cases_eq c.region 0) [
   | inl none ↦ omega (arith, begun_none c none)
   | inr some ↦ omega (arith, begun_some c some)
-]
-
--- the bounds of a cursor
-pub cursor_bounds : (h : Heap) (s : AllocCursors) → CanPut h s → (g : ℕ) → ((cursor_of s g).region < 2 ^ 24)
-    × ((cursor_of s g).fill ≤ REGION)
-cursor_bounds h s can g = elim (cases_eq g 1) [
-  | inl one ↦ subst (λ (x : AllocCursor). (x.region < 2 ^ 24) × (x.fill ≤ REGION))
-      (sym (ap (λ b. cond b s.first s.second) (eq-eqb g 1 one))) can.first
-  | inr other ↦ subst (λ (x : AllocCursor). (x.region < 2 ^ 24) × (x.fill ≤ REGION))
-      (sym (ap (λ b. cond b s.first s.second) (ne_eqb g 1 other))) can.second
 ]
 
 -- what is read at a region, by what the map has
@@ -360,25 +350,24 @@ module _ (h : Heap) where
           omega (arith, is.below, fits.place, region, at.1, known, ap {B = ℕ} (λ (y : Addr). y.0) same)))
 
     -- there is room for one object more
-    pub can_put : (q : Room) → IsRoom h q → (cells : ℕ) → q.cells ≤ cells → cells < 2 ^ 38
-        → cells / LEFT + OPEN ≤ length h.spare → CanPut h q.cursors
-    can_put q room cells within small enough = record {
-      first = low 1 q.cursors.first room.first;
-      second = low 2 q.cursors.second room.second;
-      spare = (let slack = room.slack in
-          omega (arith, begun_most q.cursors.first, begun_most q.cursors.second));
-      few = (let slack = room.slack in
-          omega (arith, begun_most q.cursors.first, begun_most q.cursors.second));
-    }
-      where
-        low : (g : ℕ) (c : AllocCursor) → IsCursor h q.regions g c → (c.region < 2 ^ 24) × (c.fill ≤ REGION)
-        low g c is = (
-          elim (cases_eq c.region 0) [
+    pub can_put : (q : Room) → IsRoom h q → (g : ℕ) → (0 < g) × (g ≤ 2) → (cells : ℕ) → q.cells ≤ cells
+        → cells < 2 ^ 38 → cells / LEFT + OPEN ≤ length h.spare
+        → CanPutAt h (cursor_of q.cursors g) q.cursors.opened
+    can_put q room g young cells within small enough =
+        let c = cursor_of q.cursors g in
+        let is = room_cursor q room g young in
+        let slack = room.slack in
+        let first = begun_most q.cursors.first in
+        let second = begun_most q.cursors.second in
+        record {
+          region = elim (cases_eq c.region 0) [
             | inl none ↦ omega (arith, none)
             | inr some ↦ elim (room.held c.region (is.fresh some).0.held) [
               | inl held ↦ (sound.numbers c.region held).1
               | inr was ↦ subst (λ (x : ℕ). x < 2 ^ 24) was.number (sound.spare_numbers was.at was.within).1
             ]
-          ],
-          is.fits,
-        )
+          ];
+          fill = is.fits;
+          spare = omega arith;
+          few = omega arith;
+        }

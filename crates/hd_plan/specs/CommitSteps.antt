@@ -1,14 +1,16 @@
 -- No public clause needs what is defined here: these are words of private functions, for what each step of
 -- the moving leaves of a heap.
-use Rattle.std.specs.Prelude.{◌≡◌, ◌≢◌, ℕ, ◌+◌, ◌*◌, ◌<◌, ◌≤◌, ◌⊎◌, ◌↔◌, ◌&&◌, Bool, true, false, not, ◌-◌, List, length, Some, None, option_map, drop, slice_index, nat_eq}
+use Rattle.std.specs.Prelude.{◌≡◌, ◌≢◌, ℕ, ◌+◌, ◌<◌, ◌≤◌, ◌⊎◌, ◌&&◌, Bool, true, false, not, if◌then◌else◌, ◌-◌, List, length, Some, None, MatchBool, option_map, drop, slice_index, nat_eq}
 use Rattle.std.specs.FinMap as map
-use Rattle.hd_model.specs.{declared.data.Addr.Addr, declared.limits.TheConstants.OLDEST, declared.limits.TheConstants.REGION, Scene.generation_at, Scene.IsField}
-use Rattle.hd_model.specs.Heap.{Heap, region_of, card_of, region_at, is_in_use, has_object, object_at, placed_at, cells_of, is_set, is_carded}
-use Rattle.hd_heap.specs.Calls.{NamesBelow, forwarded, with_object, with_fresh, with_moved, with_card}
+use Rattle.hd_model.specs.{declared.data.Addr.Addr, declared.limits.TheConstants.OLDEST, Scene.generation_at, Scene.IsField}
+use Rattle.hd_model.specs.Heap.{Heap, region_of, card_of, region_at, has_object, object_at, is_set, is_carded}
+use Rattle.hd_heap.specs.Calls.{NamesBelow, forwarded, with_fresh, with_card}
 use Rattle.hd_heap.specs.Sound.{IsSound}
-use Rattle.hd_plan.specs.{declared.moves.Fate.Fate, declared.moves.Move.Move, declared.moves.Condemned.Condemned, LaySteps.ArePut, LaySteps.first_at, Commit.NeedsCard}
-use Rattle.hd_plan.specs.declared.moves.Fate.TheVariants.{Dead, Pinned, MovesToNewRegion, Moves}
-use Rattle.hd_plan.specs.Layout.{move_at, condemned_at, is_kept_fate, is_moving, is_staying, room_at, FitsMove}
+use Rattle.hd_heap.specs.{declared.moves.Fate.Fate, declared.moves.Move.Move}
+use Rattle.hd_heap.specs.Moves.{is_kept_fate, is_moving, is_opening, is_staying, move_at}
+use Rattle.hd_heap.specs.Runs.{IsRun, MayRun, run_copied}
+use Rattle.hd_plan.specs.{declared.moves.Condemned.Condemned, LaySteps.ArePut, LaySteps.first_at}
+use Rattle.hd_plan.specs.Layout.{condemned_at, room_at, FitsMove}
 
 -- one of the first i moves has such a fate, and has this end
 pub record HasEnd (fate : Fate → Bool) (end : Move → Addr) (ms : List Move) (i : ℕ) (a : Addr) : Type 0 where
@@ -50,26 +52,25 @@ pub record CanCopy (h : Heap) (ms : List Move) : Type 0 where
 abbrev pub HasKeptFields : (Addr → Bool) → Heap → Addr → Type 0
 HasKeptFields kept h a = (y : Addr) → IsField (object_at h) a y → kept y ≡ true
 
--- one object may be copied as its move states
-abbrev pub MayGo : Fate → (Addr → Bool) → Heap → Move → Type 0
-MayGo Dead kept h m = Unit {0}
-MayGo Pinned kept h m = Unit {0}
-MayGo MovesToNewRegion kept h m =
-    (has_object h m.from ≡ true) × (m.generation ≤ OLDEST) × (cells_of (placed_at h m.from) ≤ REGION)
-    × (0 < length h.spare) × (region_of m.from ≢ slice_index h.spare 0) × HasKeptFields kept h m.from
-MayGo Moves kept h m =
-    (has_object h m.from ≡ true) × (is_in_use h (region_of m.to) ≡ true)
-    × ((region_at h (region_of m.to)).fill + cells_of (placed_at h m.from) ≤ REGION)
-    × (region_of m.from ≢ region_of m.to) × HasKeptFields kept h m.from
+-- a fresh region may be opened, where the move opens one
+abbrev pub MayOpen : Heap → Move → Type 0
+MayOpen h m = is_opening m.fate ≡ true → (m.generation ≤ OLDEST) × (0 < length h.spare)
 
--- it is copied if it moves, into a fresh region where it opens one; its fields hold the new addresses
-abbrev pub HasGone : Fate → (Addr → Addr) → Heap → Heap → Move → Type 0
-HasGone Dead place old h m = h ≡ old
-HasGone Pinned place old h m = h ≡ old
-HasGone MovesToNewRegion place old h m =
-    h ≡ with_moved (with_fresh old (slice_index old.spare 0) m.generation) m.from (slice_index old.spare 0)
-    place
-HasGone Moves place old h m = h ≡ with_moved old m.from (region_of m.to) place
+-- the heap before the object of a move is copied: where the move opens a region, that region is in use
+abbrev pub opened_for : Heap → Move → Heap
+opened_for h m =
+    if is_opening m.fate then with_fresh h (slice_index h.spare 0) m.generation else h
+
+-- the object of the k-th move stays or is not kept; or it may be copied, with those that go with it
+abbrev pub MayGoFrom : (Addr → Bool) → (Addr → Addr) → Heap → List Move → ℕ → Type 0
+MayGoFrom kept place h ms k = is_moving (move_at ms k).fate ≡ true
+    → MayOpen h (move_at ms k) × MayRun kept place (opened_for h (move_at ms k)) ms k
+
+-- the objects of the moves from the k-th up to `end` are copied if they move
+abbrev pub HaveGone : (Addr → Addr) → (old h : Heap) → List Move → (k end : ℕ) → Type 0
+HaveGone place old h ms k end = MatchBool (is_moving (move_at ms k).fate)
+    (IsRun ms k end × (h ≡ run_copied place (opened_for old (move_at ms k)) ms k (end - k)))
+    ((end ≡ k + 1) × (h ≡ old))
 
 -- the first i moves are carried out: their objects are at their old addresses as they were, and at the new
 -- ones with the new addresses in their fields
@@ -133,6 +134,11 @@ pub record AreGivenUp (old h : Heap) (cs : List Condemned) (i : ℕ) : Type 0 wh
 abbrev pub NamesYounger : Heap → Addr → Type 0
 NamesYounger h a = NamesBelow h a (generation_at (object_at h) a)
 
+-- all condemned regions have one next generation
+abbrev pub AreAlike : List Condemned → Type 0
+AreAlike cs = (j k : ℕ) → j < length cs → k < length cs
+    → (condemned_at cs j).generation ≡ (condemned_at cs k).generation
+
 -- the card of one object is set, or it is not kept or references no younger one
 abbrev pub MayCard : Heap → Heap → Move → Type 0
 MayCard old h m =
@@ -145,12 +151,6 @@ pub record AreCarded (old h : Heap) (ms : List Move) (i : ℕ) : Type 0 where
   pub same : h ≡ record old { cards = h.cards }
   pub more : MoreCards old h
   pub done : (b : Addr) → IsKeptAt ms i b → NamesYounger old b → is_carded h b ≡ true
-
--- one card is set where an object needs it, and clear otherwise
-pub record IsExactAt (old h : Heap) (card : ℕ) : Type 0 where
-  pub needed : Bool
-  pub decides : (needed ≡ true) ↔ NeedsCard old card
-  pub is : h ≡ with_card old card needed
 
 -- an object that starts in a card
 abbrev pub starts_in : Heap → ℕ → Addr → Bool

@@ -1,14 +1,16 @@
 -- No public clause needs what is defined here: these are words of private functions and fields, for the
 -- laying of a plan.
-use Rattle.std.specs.Prelude.{◌≡◌, ◌≢◌, ℕ, ◌+◌, ◌*◌, ◌<◌, ◌≤◌, ◌⊎◌, cond, nat_eq, true, false, List, length, slice_index, ◌^◌, ◌%◌, ◌-◌, ◌&&◌, ◌||◌, ◌++◌, Bool, nat_lt, slice_set, [], ◌∷◌, slice_index_or, suc, zero}
+use Rattle.std.specs.Prelude.{◌≡◌, ◌≢◌, ℕ, ◌+◌, ◌*◌, ◌<◌, ◌≤◌, ◌⊎◌, ◌↔◌, cond, nat_eq, true, false, List, length, slice_index, ◌^◌, ◌%◌, ◌&&◌, Bool, slice_index_or, suc, sum_by, zero}
 use Rattle.std.specs.{FinMap.FinMap, FinMap.get, Ordering.nat_cmp}
 use Rattle.hd_model.specs.{declared.data.Addr.Addr, Ages.raised, Counting.Counts, Scene.generation_at, Scene.IsCondemned}
 use Rattle.hd_model.specs.declared.limits.TheConstants.{REGION, LEFT, REGIONS}
-use Rattle.hd_model.specs.Heap.{Heap, Region, region_of, is_in_use, placed_at, cells_of, Basis, object_at}
-use Rattle.hd_plan.specs.{declared.moves.Move.Move, declared.cursors.AllocCursor.AllocCursor, declared.cursors.AllocCursors.AllocCursors, declared.moves.Condemned.Condemned, Plan.PlanOf, Plan.Takes}
-use Rattle.hd_plan.specs.Layout.{Room, has_region, region_in, move_at, is_moving, room_at, put_cursors, condemned_at, is_kept_fate, is_staying, Fits, HasStay}
-use Rattle.hd_heap.specs.{declared.survey.Survey.Survey, declared.survey.CondemnedObject.CondemnedObject}
-use Rattle.hd_heap.specs.Calls.{HasCondemned, AreSurveyed, surveyed}
+use Rattle.hd_model.specs.Heap.{Heap, Region, has_object, region_of, region_generation, is_in_use, placed_at, cells_of, object_at}
+use Rattle.hd_heap.specs.declared.moves.Move.{Move}
+use Rattle.hd_heap.specs.Moves.{is_kept_fate, is_moving, is_staying, move_at}
+use Rattle.hd_plan.specs.{declared.cursors.AllocCursor.AllocCursor, declared.cursors.AllocCursors.AllocCursors, declared.moves.Condemned.Condemned, Plan.PlanOf, Plan.Takes}
+use Rattle.hd_plan.specs.Layout.{Room, has_region, region_in, room_at, put_cursors, with_cursor, condemned_at, Fits, FitsMove, HasStay, IsRising}
+use Rattle.hd_heap.specs.declared.condemned.Extent.{Extent}
+use Rattle.hd_heap.specs.Calls.{HasCondemned, IsExtent, is_condemned}
 
 -- ---- where objects are put
 
@@ -69,15 +71,10 @@ pub record ArePut (h : Heap) (ms : List Move) (i : ℕ) : Type 0 where
 
 -- ---- what a plan has and how it is made
 
--- the condemned objects, their words, and the number of their regions
-pub record IsExtent (h : Heap) (n : ℕ) (s : Survey) : Type 0 where
-  pub objects : AreSurveyed h n s.objects.items
-  pub cells : Takes h (IsCondemned (object_at h) n) s.cells
-  pub regions : Counts (HasCondemned h n) s.regions
-
--- a move is of an object in this region
-abbrev pub HasMove : List Move → ℕ → Type 0
-HasMove ms r = (k : ℕ) × ((k < length ms) × (region_of (move_at ms k).from ≡ r))
+-- how much is condemned, and the words of it
+pub record IsToLay (h : Heap) (n : ℕ) (e : Extent) : Type 0 where
+  pub extent : IsExtent h n e
+  pub cells : Takes h (IsCondemned (object_at h) n) e.cells
 
 -- there is room for the number of these regions
 pub record HasRegionRoom (P : ℕ → Type 0) (room cells : ℕ) : Type 0 where
@@ -95,26 +92,41 @@ first_at firsts r = slice_index_or firsts r 0
 abbrev pub cell_at : List Addr → ℕ → Addr
 cell_at cells i = slice_index_or cells i (record { 0 = 0 })
 
--- the table of new addresses: each listed region has an entry for each of its words, the k-th from REGION * k
--- on, and the entry of an object of the first i moves holds its new address
-pub record HasPlaces (ms : List Move) (cs : List Condemned) (i : ℕ) (firsts : List ℕ)
-    (cells : List Addr) : Type 0 where
-  pub listed : (k : ℕ) → k < length cs → first_at firsts (condemned_at cs k).region ≡ k + 1
-  pub others : (r : ℕ) → first_at firsts r ≢ 0 → (k : ℕ)
-      × ((k < length cs) × ((condemned_at cs k).region ≡ r))
-  pub spots : REGION * length cs ≤ length cells
-  pub places : (j k : ℕ) → j < i → k < length cs → (condemned_at cs k).region ≡ region_of (move_at ms j).from
-      → cell_at cells (REGION * k + (move_at ms j).from.0 % REGION) ≡ (move_at ms j).to
+-- the entry of an address in the k-th listed region
+abbrev pub spot_in : ℕ → Addr → ℕ
+spot_in k a = REGION * k + a.0 % REGION
 
--- what a plan's parts keep: the survey of its heap, room for all that is condemned, and the table of new
--- addresses
-pub record IsPlan (p : PlanOf) (objects : List CondemnedObject) (room_ms room_cs : ℕ) (firsts : List ℕ)
+-- the table of new addresses: each listed region has an entry for each of its words, the k-th from REGION * k
+-- on, and the entry of an object that has a move holds its new address
+pub record HasPlaces (ms : List Move) (cs : List Condemned) (firsts : List ℕ) (cells : List Addr) : Type 0
+  where
+    pub listed : (k : ℕ) → k < length cs → first_at firsts (condemned_at cs k).region ≡ k + 1
+    pub others : (r : ℕ) → first_at firsts r ≢ 0 → (k : ℕ)
+        × ((k < length cs) × ((condemned_at cs k).region ≡ r))
+    pub spots : REGION * length cs ≤ length cells
+    pub places : (j k : ℕ) → j < length ms → k < length cs
+        → (condemned_at cs k).region ≡ region_of (move_at ms j).from
+        → cell_at cells (spot_in k (move_at ms j).from) ≡ (move_at ms j).to
+
+-- there is room for a move of each condemned object
+pub record HasMoveRoom (h : Heap) (n room : ℕ) : Type 0 where
+  pub count : ℕ
+  pub count_is : Counts (λ a. is_condemned h n a ≡ true) count
+  pub enough : count ≤ room
+
+-- there is room for a move of each condemned object, and for each region that has one; the table spans the
+-- heap
+pub record HasLayRoom (h : Heap) (n room_ms room_cs firsts cells : ℕ) : Type 0 where
+  pub moves : HasMoveRoom h n room_ms
+  pub regions : HasRegionRoom (HasCondemned h n) room_cs cells
+  pub span : (a : Addr) → has_object h a ≡ true → region_of a < firsts
+
+-- what a plan's parts keep: how much is condemned, room for all that is, and the table of new addresses
+pub record IsPlan (p : PlanOf) (e : Extent) (room_ms room_cs : ℕ) (firsts : List ℕ)
     (cells : List Addr) : Type 0 where
-  pub survey : AreSurveyed p.basis.heap p.basis.condemned objects
-  pub moves : length objects ≤ room_ms
-  pub regions : HasRegionRoom (HasCondemned p.basis.heap p.basis.condemned) room_cs (length cells)
-  pub span : (k : ℕ) → k < length objects → region_of (surveyed objects k).at < length firsts
-  pub places : HasPlaces p.moves p.regions (length p.moves) firsts cells
+  pub extent : IsExtent p.basis.heap p.basis.condemned e
+  pub room : HasLayRoom p.basis.heap p.basis.condemned room_ms room_cs (length firsts) (length cells)
+  pub places : HasPlaces p.moves p.regions firsts cells
 
 -- what is promoted is kept, and stays where it is pinned
 pub record AreChosen (promoted pinned : Addr → Bool) (ms : List Move) : Type 0 where
@@ -132,60 +144,79 @@ pub record IsMoveOf (h : Heap) (n : ℕ) (promoted pinned : Bool) (old new : All
   pub fits : Fits m.fate h.spare old m.from m.to m.generation (cells_of (placed_at h m.from))
   pub cursors : new ≡ put_cursors m.fate h.spare old m.generation (cells_of (placed_at h m.from))
 
--- no cursor is over full, each is in a region whose addresses have 32 bits, and there is a free region for
--- one object more
-pub record CanPut (h : Heap) (s : AllocCursors) : Type 0 where
-  pub first : (s.first.region < REGIONS) × (s.first.fill ≤ REGION)
-  pub second : (s.second.region < REGIONS) × (s.second.fill ≤ REGION)
-  pub spare : s.opened < length h.spare
-  pub few : s.opened < 2 ^ 31
+-- the cursors with one of a generation and with this number of opened regions
+abbrev pub with_cursor_at : AllocCursors → ℕ → AllocCursor → ℕ → AllocCursors
+with_cursor_at s g cursor opened = record (with_cursor s g cursor) { opened = opened }
 
--- the regions of the first i moves are listed
-pub record AreListedTo (ms : List Move) (cs : List Condemned) (i : ℕ) : Type 0 where
-  pub named : (k : ℕ) → k < length cs
-      → (j : ℕ) × ((j < i) × ((region_of (move_at ms j).from ≡ (condemned_at cs k).region)
-      × ((condemned_at cs k).generation ≡ (move_at ms j).generation)))
-  pub rising : (j k : ℕ) → j < k → k < length cs → (condemned_at cs j).region < (condemned_at cs k).region
-  pub all : (j : ℕ) → j < i → (k : ℕ)
-      × ((k < length cs) × ((condemned_at cs k).region ≡ region_of (move_at ms j).from))
-  pub pinned : (k : ℕ) → k < length cs → (condemned_at cs k).pinned ≡ true
-      → HasStay ms (condemned_at cs k).region
-  pub stays : (j k : ℕ) → j < i → k < length cs → is_staying (move_at ms j).fate ≡ true
-      → (condemned_at cs k).region ≡ region_of (move_at ms j).from → (condemned_at cs k).pinned ≡ true
+-- a cursor is not over full and in a region whose addresses have 32 bits, and there is a free region for one
+-- object more
+pub record CanPutAt (h : Heap) (c : AllocCursor) (opened : ℕ) : Type 0 where
+  pub region : c.region < REGIONS
+  pub fill : c.fill ≤ REGION
+  pub spare : opened < length h.spare
+  pub few : opened < 2 ^ 31
 
--- the last listed region, and whether it is this one
-abbrev pub last_of : List Condemned → Condemned
-last_of cs = condemned_at cs (length cs - 1)
+-- the words of the objects of these moves
+abbrev pub cells_laid : Heap → List Move → ℕ
+cells_laid h ms = sum_by (λ m. cells_of (placed_at h m.from)) ms
 
-abbrev pub is_last : List Condemned → ℕ → Bool
-is_last cs r = nat_lt 0 (length cs) && nat_eq (last_of cs).region r
+-- the condemned objects below an address have moves, and those of them that are kept have new addresses
+pub record AreMovesTo (h : Heap) (n : ℕ) (ms : List Move) (bound : ℕ) : Type 0 where
+  pub condemned : (k : ℕ) → k < length ms → is_condemned h n (move_at ms k).from ≡ true
+  pub below : (k : ℕ) → k < length ms → (move_at ms k).from.0 < bound
+  pub rising : IsRising ms
+  pub all : (a : Addr) → is_condemned h n a ≡ true → a.0 < bound
+      → (k : ℕ) × ((k < length ms) × ((move_at ms k).from ≡ a))
+  pub generations : (k : ℕ) → k < length ms
+      → (move_at ms k).generation ≡ raised n (generation_at (object_at h) (move_at ms k).from)
+  pub fields : (k : ℕ) → k < length ms
+      → (move_at ms k).fields ≡ length (placed_at h (move_at ms k).from).fields
+  pub fits : (k : ℕ) → k < length ms → FitsMove h (room_at h ms k) (move_at ms k)
 
--- a region that is the last one already, with one move more
-pub record IsJoined (old new : List Condemned) (m : Move) (firsts firsts2 : List ℕ) : Type 0 where
-  pub last : is_last old (region_of m.from) ≡ true
-  pub joined : new ≡ slice_set old (length old - 1)
-      (record (last_of old) { pinned = (last_of old).pinned || is_staying m.fate })
-  pub table : firsts2 ≡ firsts
+-- what holds between two objects while a heap is laid
+pub record IsLaying (h : Heap) (n : ℕ) (promoted pinned : Addr → Bool) (ms : List Move)
+    (cursors : AllocCursors) (bound : ℕ) : Type 0 where
+  pub to : AreMovesTo h n ms bound
+  pub chosen : AreChosen promoted pinned ms
+  pub room : IsRoom h (room_at h ms (length ms))
+  pub cursors_are : (room_at h ms (length ms)).cursors ≡ cursors
+  pub laid : (room_at h ms (length ms)).cells ≤ cells_laid h ms
 
--- a region more, with its first move
-pub record IsAdded (old new : List Condemned) (m : Move) (firsts firsts2 : List ℕ) : Type 0 where
-  pub other : is_last old (region_of m.from) ≡ false
-  pub added : new ≡ old ++ record {
-    region = region_of m.from;
-    generation = m.generation;
-    pinned =
-        is_staying m.fate;
-  } ∷ []
-  pub table : firsts2 ≡ slice_set firsts (region_of m.from) (length old + 1)
+-- the regions below a number that have condemned objects are listed, with the generation that each gets if it
+-- stays: exactly those stay in which an object does
+pub record AreRegionsTo (h : Heap) (n : ℕ) (ms : List Move) (cs : List Condemned) (bound : ℕ) : Type 0
+  where
+    pub condemned : (k : ℕ) → k < length cs → HasCondemned h n (condemned_at cs k).region
+    pub below : (k : ℕ) → k < length cs → (condemned_at cs k).region < bound
+    pub rising : (j k : ℕ) → j < k → k < length cs → (condemned_at cs j).region < (condemned_at cs k).region
+    pub all : (r : ℕ) → HasCondemned h n r → r < bound
+        → (k : ℕ) × ((k < length cs) × ((condemned_at cs k).region ≡ r))
+    pub generations : (k : ℕ) → k < length cs
+        → (condemned_at cs k).generation ≡ raised n (region_generation h (condemned_at cs k).region)
+    pub pinned : (k : ℕ) → k < length cs
+        → ((condemned_at cs k).pinned ≡ true) ↔ HasStay ms (condemned_at cs k).region
+
+-- what holds between two regions while a heap is laid: those below `bound` are done
+pub record IsLaidTo (h : Heap) (n : ℕ) (promoted pinned : Addr → Bool) (ms : List Move)
+    (cs : List Condemned) (firsts : List ℕ) (cells : List Addr) (cursors : AllocCursors)
+    (bound : ℕ) : Type 0 where
+  pub laying : IsLaying h n promoted pinned ms cursors (bound * REGION)
+  pub regions : AreRegionsTo h n ms cs bound
+  pub places : HasPlaces ms cs firsts cells
+
+-- there are new moves beside the old ones, of objects in one region, the k-th that is listed; whether one of
+-- these stays; and their new addresses are in the table
+pub record AreLaidIn (old new : List Move) (region k : ℕ) (pinned : Bool) (before after : List Addr) : Type 0
+  where
+    pub each : (j : ℕ) → j < length new → (region_of (move_at new j).from ≡ region)
+        ⊎ ((j < length old) × (move_at new j ≡ move_at old j))
+    pub stays : (r : ℕ) → HasStay new r ↔ (HasStay old r ⊎ ((pinned ≡ true) × (region ≡ r)))
+    pub placed : (j : ℕ) → j < length new → region_of (move_at new j).from ≡ region
+        → cell_at after (spot_in k (move_at new j).from) ≡ (move_at new j).to
+    pub same : (i : ℕ) → i < REGION * k → cell_at after i ≡ cell_at before i
+    pub long : length after ≡ length before
 
 -- ---- the table of new addresses
-
--- the entry of an address in the k-th listed region
-abbrev pub spot_in : ℕ → Addr → ℕ
-spot_in k a = REGION * k + a.0 % REGION
-
-abbrev pub spot_of : List ℕ → Addr → ℕ
-spot_of firsts a = spot_in (first_at firsts (region_of a) - 1) a
 
 -- the new address of an address by the number that is stored for its region
 abbrev pub place_from : ℕ → List Addr → Addr → Addr

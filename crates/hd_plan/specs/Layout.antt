@@ -3,45 +3,20 @@
 -- Kept objects are copied into fresh regions, one row of regions for each generation, but for those that
 -- stay because they are pinned.
 -- Regions are this project's own, after the plan and the compact phase of CoreCLR's collector in outline.
-use Rattle.std.specs.Prelude.{◌&&◌, nat_lt, ◌≡◌, ◌≢◌, ℕ, zero, suc, ◌+◌, ◌*◌, ◌<◌, ◌≤◌, ◌⊎◌, ◌↔◌, Bool, true, false, cond, List, [], ◌∷◌, length, Option, Some, None, unwrap_or, slice_index, slice_index_or, nat_eq}
+use Rattle.std.specs.Prelude.{◌≡◌, ◌≢◌, ℕ, zero, suc, ◌+◌, ◌*◌, ◌<◌, ◌≤◌, ◌⊎◌, ◌↔◌, Bool, true, false, cond, List, [], ◌∷◌, length, Option, Some, None, unwrap_or, slice_index, slice_index_or, nat_eq}
 use Rattle.std.specs.Ordering.{nat_cmp}
 use Rattle.std.specs.FinMap as map
 use Rattle.hd_model.specs.{declared.data.Addr.Addr, declared.limits.TheConstants.REGION, Ages.raised, Scene.generation_at}
 use Rattle.hd_model.specs.Heap.{Heap, Region, region_of, region_generation, is_in_use, object_at, placed_at, cells_of}
 use Rattle.hd_heap.specs.Calls.{is_condemned}
-use Rattle.hd_plan.specs.{declared.moves.Fate.Fate, declared.moves.Move.Move, declared.moves.Condemned.Condemned, declared.cursors.AllocCursor.AllocCursor, declared.cursors.AllocCursors.AllocCursors}
-use Rattle.hd_plan.specs.declared.moves.Fate.TheVariants.{Dead, Pinned, MovesToNewRegion, Moves}
+use Rattle.hd_heap.specs.{declared.moves.Fate.Fate, declared.moves.Move.Move}
+use Rattle.hd_heap.specs.Moves.{is_kept_fate, is_moving, is_staying, move_at}
+use Rattle.hd_plan.specs.{declared.moves.Condemned.Condemned, declared.cursors.AllocCursor.AllocCursor, declared.cursors.AllocCursors.AllocCursors}
+use Rattle.hd_heap.specs.declared.moves.Fate.TheVariants.{Dead, Pinned, MovesToNewRegion, Moves}
 
--- the k-th move, and the k-th condemned region
-abbrev pub move_at : List Move → ℕ → Move
-move_at ms k = slice_index_or ms k
-    (record { from = record { 0 = 0 }; to = record { 0 = 0 }; generation = 0; fields = 0; fate = Dead })
-
+-- the k-th condemned region
 abbrev pub condemned_at : List Condemned → ℕ → Condemned
 condemned_at cs k = slice_index_or cs k (record { region = 0; generation = 0; pinned = false })
-
--- the fate of an object that is kept, of one that is kept and moves, and of one that is kept and does not
-abbrev pub is_kept_fate : Fate → Bool
-is_kept_fate Dead = false
-is_kept_fate Pinned = true
-is_kept_fate MovesToNewRegion = true
-is_kept_fate Moves = true
-
--- a kept object that may have a field to one of a younger generation
-abbrev pub may_card : Move → Bool
-may_card m = is_kept_fate m.fate && nat_lt 1 m.generation && nat_lt 0 m.fields
-
-abbrev pub is_moving : Fate → Bool
-is_moving Dead = false
-is_moving Pinned = false
-is_moving MovesToNewRegion = true
-is_moving Moves = true
-
-abbrev pub is_staying : Fate → Bool
-is_staying Dead = false
-is_staying Pinned = true
-is_staying MovesToNewRegion = false
-is_staying Moves = false
 
 -- the cursor of a generation, and the cursors with another one
 abbrev pub cursor_of : AllocCursors → ℕ → AllocCursor

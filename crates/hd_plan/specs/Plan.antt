@@ -6,8 +6,9 @@ use Rattle.hd_model.specs.declared.limits.TheConstants.{OLDEST, LEFT, OPEN}
 use Rattle.hd_model.specs.Scene.{generation_at, IsField, IsCondemned}
 use Rattle.hd_model.specs.Heap.{Heap, Basis, objects_of, object_at, placed_at, cells_of, is_in_use, region_of, has_object}
 use Rattle.hd_heap.specs.Sound.{IsSound}
-use Rattle.hd_plan.specs.{declared.moves.Move.Move, declared.moves.Condemned.Condemned}
-use Rattle.hd_plan.specs.contracts.moves.Move as move_contract
+use Rattle.hd_heap.specs.declared.moves.Move.{Move}
+use Rattle.hd_plan.specs.declared.moves.Condemned.{Condemned}
+use Rattle.hd_heap.specs.contracts.moves.Move as move_contract
 use Rattle.hd_plan.specs.contracts.moves.Condemned as condemned_contract
 use Rattle.hd_plan.specs.Layout.{find_move, place_by, is_kept_by, stays_among, AreMoves, AreRegions, IsCondemnedRegion}
 

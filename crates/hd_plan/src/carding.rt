@@ -3,19 +3,23 @@ ghost use Rattle.std.specs.Prelude.{◌≡◌, ◌≢◌, ◌+◌, ◌*◌, ◌/
 ghost use Rattle.hd_model.specs.{Names.HasClosedFields, Ages.HasSoundCards, Scene.generation_at};
 ghost use Rattle.hd_model.specs.Heap.{has_object, object_at, card_of, is_set, is_carded};
 ghost use Rattle.hd_heap.specs.{Calls.IsWalk, Calls.with_card, Sound.IsSound};
-ghost use Rattle.hd_plan.specs.Layout.{is_kept_fate, may_card, move_at};
+ghost use Rattle.hd_heap.specs.Moves.{is_kept_fate, may_card, move_at};
 ghost use Rattle.hd_plan.specs.Commit.{NeedsCard};
-ghost use Rattle.hd_plan.specs.CommitSteps.{AreCarded, IsKeptAt, MayCard};
-ghost use Rattle.hd_plan.specs.CommitSteps.{NamesYounger, IsExactAt, starts_in};
+ghost use Rattle.hd_plan.specs.CommitSteps.{AreAlike, AreCarded, IsKeptAt, MayCard};
+ghost use Rattle.hd_plan.specs.CommitSteps.{NamesYounger, starts_in};
 
-use crate::moves::Move;
+use crate::moves::{Condemned, Move};
 use hd_heap::Heap;
 use hd_model::Addr;
 use hd_model::limits::CARD;
 
 /// Sets the card of each kept object of these moves that references a younger one, at its new
-/// address.
-pub(crate) fn card_kept(heap: &mut Heap, moves: &[Move])
+/// address. Where all condemned regions have one next generation none does, and no move is looked
+/// at.
+pub(crate) fn card_kept(heap: &mut Heap, moves: &[Move], regions: &[Condemned])
+    requires alike { AreAlike regions.now → (k : ℕ) → k < length moves.now
+        → is_kept_fate (move_at moves.now k).fate ≡ true
+        → NamesYounger heap.old (move_at moves.now k).to → ⊥ }
     requires spared { (k : ℕ) → k < length moves.now
         → may_card (move_at moves.now k) ≡ false
         → is_kept_fate (move_at moves.now k).fate ≡ true
@@ -25,9 +29,24 @@ pub(crate) fn card_kept(heap: &mut Heap, moves: &[Move])
     requires fields { HasClosedFields (object_at heap.old) }
     ensures { AreCarded heap.old heap.new moves.now (length moves.now) }
 {
+    if are_alike(regions) {
+        return;
+    }
     for object in moves {
         card_if_needed(heap, *object);
     }
+}
+
+// Whether all these regions have one next generation.
+fn are_alike(regions: &[Condemned]) -> bool
+    ensures { result ≡ true → AreAlike regions.now }
+{
+    for region in regions {
+        if region.generation != regions[0].generation {
+            return false;
+        }
+    }
+    true
 }
 
 // Sets the card of one object if it is kept and references a younger one.
@@ -45,7 +64,7 @@ fn card_if_needed(heap: &mut Heap, object: Move)
     }
 }
 
-/// Clears each set card that no object needs.
+/// Clears each set card that no object needs, and notes where none is set afterwards.
 pub(crate) fn clear_unneeded(heap: &mut Heap)
     requires fields { HasClosedFields (object_at heap.old) }
     requires cards { HasSoundCards (object_at heap.old) (is_carded heap.old) }
@@ -55,22 +74,28 @@ pub(crate) fn clear_unneeded(heap: &mut Heap)
     ensures exact { (card : ℕ) → (is_set heap.new card ≡ true) ↔ NeedsCard heap.new card }
 {
     let mut after = None;
+    let mut some = false;
     while let Some(at) = heap.next_carded(after, 0) {
-        make_exact(heap, at);
+        some |= make_exact(heap, at);
         after = Some(last_cell(at));
+    }
+    if !some {
+        heap.note_no_card();
     }
 }
 
 // Sets the card in which an object starts where it is needed, and clears it otherwise. It is given
-// the first object that starts in the card.
-fn make_exact(heap: &mut Heap, first: Addr)
+// the first object that starts in the card, and returns whether it is needed.
+fn make_exact(heap: &mut Heap, first: Addr) -> bool
     requires object { has_object heap.old first ≡ true }
     requires first { (b : Addr) → starts_in heap.old (card_of first) b ≡ true → first.0 ≤ b.0 }
     requires fields { HasClosedFields (object_at heap.old) }
-    ensures { IsExactAt heap.old heap.new (card_of first) }
+    ensures decides { (result ≡ true) ↔ NeedsCard heap.old (card_of first) }
+    ensures set { heap.new ≡ with_card heap.old (card_of first) result }
 {
     let needed = is_needed(heap, first);
     heap.set_card(first, needed);
+    needed
 }
 
 // The last word of the card in which an address is.

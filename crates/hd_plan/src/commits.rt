@@ -28,9 +28,9 @@ pub fn commit(heap: &mut Heap, plan: &mut Plan)
     let places: &Places = &plan.places;
     copy_moves(heap, &*plan, moves);
     rewrite_carded(heap, &*plan, plan.condemned);
-    rewrite_pinned(heap, &*plan, moves);
+    rewrite_pinned(heap, &*plan, moves, regions);
     remove_left(heap, moves, regions, places);
     settle_regions(heap, regions);
-    card_kept(heap, moves);
+    card_kept(heap, moves, regions);
     clear_unneeded(heap);
 }

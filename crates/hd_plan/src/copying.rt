@@ -1,15 +1,14 @@
 // The objects that move are copied to their new addresses.
-ghost use Rattle.std.specs.Prelude.{◌≡◌, ◌≢◌, ◌<◌, ℕ, true, length};
-ghost use Rattle.hd_plan.specs.Layout.{move_at, is_moving};
-ghost use Rattle.hd_plan.specs.CommitSteps.{CanCopy, AreCopied, HasKeptFields, MayGo, HasGone};
+ghost use Rattle.std.specs.Prelude.{◌≡◌, ◌≢◌, ◌<◌, ◌≤◌, ℕ, true, length};
+ghost use Rattle.hd_heap.specs.Moves.{move_at, is_moving};
+ghost use Rattle.hd_plan.specs.CommitSteps.{CanCopy, AreCopied, HasKeptFields, HaveGone, MayGoFrom};
 
 use crate::moves::{Fate, Move};
-use crate::places::region_number;
 use hd_heap::Heap;
 use hd_model::{Addr, Forward};
 
 /// Copies each object that moves to its new address, with new addresses in its fields. It is at
-/// both addresses from then on.
+/// both addresses from then on. Those that go from one region to one other are copied together.
 pub(crate) fn copy_moves<F: Forward>(heap: &mut Heap, forward: &F, moves: &[Move])
     requires can_copy { CanCopy heap.old moves.now }
     requires laid { F.laid forward.now }
@@ -18,26 +17,29 @@ pub(crate) fn copy_moves<F: Forward>(heap: &mut Heap, forward: &F, moves: &[Move
     requires places { (y : Addr) → F.kept forward.now y ≡ true → (F.place forward.now y).0 ≢ 0 }
     ensures { AreCopied (F.place forward.now) heap.old heap.new moves.now (length moves.now) }
 {
-    for object in moves {
-        copy_move(heap, forward, *object);
+    let mut k = 0;
+    while k < moves.len() {
+        k = copy_from(heap, forward, moves, k);
     }
 }
 
-// Copies one object if it moves.
-fn copy_move<F: Forward>(heap: &mut Heap, forward: &F, object: Move)
-    requires may_go { MayGo object.fate (F.kept forward.now) heap.old object }
+// Copies the objects of the moves that go with the one at an index, and returns the index after
+// them.
+fn copy_from<F: Forward>(heap: &mut Heap, forward: &F, moves: &[Move], k: usize) -> usize
+    requires within { k < length moves.now }
+    requires may_go { MayGoFrom (F.kept forward.now) (F.place forward.now) heap.old moves.now k }
     requires laid { F.laid forward.now }
     requires places { (y : Addr) → F.kept forward.now y ≡ true → (F.place forward.now y).0 ≢ 0 }
-    ensures { HasGone object.fate (F.place forward.now) heap.old heap.new object }
+    ensures on { k < result }
+    ensures within { result ≤ length moves.now }
+    ensures gone { HaveGone (F.place forward.now) heap.old heap.new moves.now k result }
 {
-    match object.fate {
-        Fate::Dead | Fate::Pinned => {}
+    match moves[k].fate {
+        Fate::Dead | Fate::Pinned => k + 1,
         Fate::MovesToNewRegion => {
-            let region = heap.fresh(object.generation);
-            heap.copy_moved(object.from, region, forward);
+            let _region = heap.fresh(moves[k].generation);
+            heap.copy_run(moves, k, forward)
         }
-        Fate::Moves => {
-            heap.copy_moved(object.from, region_number(object.to), forward);
-        }
+        Fate::Moves => heap.copy_run(moves, k, forward),
     }
 }

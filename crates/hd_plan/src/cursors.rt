@@ -1,7 +1,10 @@
-ghost use Rattle.std.specs.Prelude.{◌≡◌, ◌+◌, ◌<◌, ◌≤◌, true};
+ghost use Rattle.std.specs.Prelude.{◌≡◌, ℕ, ◌+◌, ◌<◌, ◌≤◌, true};
 ghost use Rattle.hd_heap.specs.Sound.{IsSound};
-ghost use Rattle.hd_plan.specs.LaySteps.{CanPut};
-ghost use Rattle.hd_plan.specs.Layout.{cursor_of, with_cursor, put_cursors, is_moving, Fits};
+ghost use Rattle.hd_plan.specs.LaySteps.{CanPutAt, with_cursor_at};
+ghost use Rattle.hd_plan.specs.Layout.{cursor_of, with_cursor, put_cursors, Fits};
+ghost use Rattle.hd_model.specs.declared.data.Addr.{Addr as AddrValue};
+ghost use Rattle.hd_plan.specs.declared.cursors.AllocCursors.{AllocCursors as CursorsValue};
+ghost use Rattle.hd_heap.specs.Moves.{is_moving};
 
 use crate::moves::Fate;
 use hd_heap::Heap;
@@ -43,7 +46,7 @@ impl AllocCursors {
     }
 
     /// The cursor of a generation.
-    fn cursor(&self, generation: u8) -> AllocCursor
+    pub(crate) fn cursor(&self, generation: u8) -> AllocCursor
         ensures { result ≡ cursor_of self.now generation }
     {
         if generation == 1 {
@@ -54,7 +57,7 @@ impl AllocCursors {
     }
 
     /// A generation allocates at this cursor from now on.
-    fn set(&mut self, generation: u8, cursor: AllocCursor)
+    pub(crate) fn set(&mut self, generation: u8, cursor: AllocCursor)
         ensures { self.new ≡ with_cursor self.old generation cursor }
     {
         if generation == 1 {
@@ -63,33 +66,31 @@ impl AllocCursors {
             self.second = cursor;
         }
     }
+}
 
+impl AllocCursor {
     /// Allocates an object of `cells` words after the one before of its generation, or at the start
     /// of a free region where it does not fit there.
-    pub(crate) fn put(&mut self, heap: &Heap, generation: u8, cells: u32) -> (Fate, Addr)
+    #[inline(always)]
+    pub(crate) fn put(&mut self, heap: &Heap, opened: &mut u32, cells: u32) -> (Fate, Addr)
         requires sound { IsSound heap.now }
         requires cells { (0 < cells) × (cells ≤ FIELDS + 3) }
-        requires can_put { CanPut heap.now self.old }
-        ensures fits { Fits result.0 heap.now.spare self.old (record { 0 = 0 }) result.1 generation
-            cells }
-        ensures cursors { self.new ≡ put_cursors result.0 heap.now.spare self.old generation cells }
+        requires can_put { CanPutAt heap.now self.old opened.old }
+        ensures fits { (s : CursorsValue) (from : AddrValue) (g : ℕ) → cursor_of s g ≡ self.old
+            → s.opened ≡ opened.old → Fits result.0 heap.now.spare s from result.1 g cells }
+        ensures cursors { (s : CursorsValue) (g : ℕ) → cursor_of s g ≡ self.old
+            → s.opened ≡ opened.old
+            → with_cursor_at s g self.new opened.new ≡ put_cursors result.0 heap.now.spare s g cells }
         ensures moves { is_moving result.0 ≡ true }
     {
-        let cursor = self.cursor(generation);
-        if cursor.region != 0 && cursor.fill + cells <= REGION {
-            let fill = cursor.fill + cells;
-            self.set(generation, AllocCursor { fill, ..cursor });
-            return (Fate::Moves, Addr(cursor.region * REGION + cursor.fill));
+        if self.region != 0 && self.fill + cells <= REGION {
+            let to = Addr(self.region * REGION + self.fill);
+            self.fill += cells;
+            return (Fate::Moves, to);
         }
-        let region = heap.spare_number(self.opened);
-        self.set(
-            generation,
-            AllocCursor {
-                region,
-                fill: cells,
-            },
-        );
-        self.opened += 1;
-        (Fate::MovesToNewRegion, Addr(region * REGION))
+        self.region = heap.spare_number(*opened);
+        self.fill = cells;
+        *opened += 1;
+        (Fate::MovesToNewRegion, Addr(self.region * REGION))
     }
 }

@@ -1,16 +1,20 @@
-ghost use Rattle.std.specs.Prelude.{◌≡◌, ◌&&◌, ◌^◌, ◌<◌, ◌≤◌, [], true, length, vec_capacity};
-ghost use Rattle.hd_model.specs.{Counting.Counts, Leads.IsClosed, Scene.IsField, Scene.IsCondemned, Heap.objects_of, Heap.placed_at};
-ghost use Rattle.hd_heap.specs.{Calls.is_condemned, Calls.AreSurveyed, Sound.IsSound};
-ghost use Rattle.hd_plan.specs.Layout.{AreMoves};
-ghost use Rattle.hd_plan.specs.LaySteps.{AreChosen, CanPut, IsMoveOf};
+ghost use Rattle.std.specs.Prelude.{◌≡◌, ◌+◌, ◌*◌, ◌<◌, ◌≤◌, [], true, length, vec_capacity};
+ghost use Rattle.hd_model.specs.{Ages.raised, Counting.Counts, Leads.IsClosed, Scene.IsField, Scene.IsCondemned, Scene.generation_at};
+ghost use Rattle.hd_model.specs.Heap.{object_at, objects_of, placed_at, region_generation, region_of};
+ghost use Rattle.hd_heap.specs.{Calls.HasCondemned, Calls.is_condemned, Sound.IsSound};
+ghost use Rattle.hd_model.specs.declared.limits.TheConstants.{REGION, REGIONS};
+ghost use Rattle.hd_plan.specs.declared.cursors.AllocCursors.{AllocCursors as CursorsValue};
+ghost use Rattle.hd_plan.specs.Layout.{IsCondemnedRegion, cursor_of, room_at};
+ghost use Rattle.hd_plan.specs.LaySteps.{AreLaidIn, CanPutAt, HasLayRoom, HasMoveRoom, HasPlaces};
+ghost use Rattle.hd_plan.specs.LaySteps.{IsLaidTo, IsLaying, IsMoveOf, with_cursor_at};
 ghost use Rattle.hd_plan.specs.Plan.{IsTakenPlan, IsLaid, HasFreeRegions, HasNoEmptyCondemned};
 ghost use Rattle.hd_plan.specs.Plan.{kept_in, place_in, stays_in};
 
-use crate::cursors::AllocCursors;
-use crate::list::list_moves;
-use crate::moves::{Fate, Move};
+use crate::cursors::{AllocCursor, AllocCursors};
+use crate::moves::{Condemned, Fate, Move};
+use crate::places::Places;
 use crate::plan::Plan;
-use hd_heap::{CondemnedObject, Heap};
+use hd_heap::{Heap, ObjectHeader};
 use hd_model::limits::{HEADER, OLDEST};
 use hd_model::{Addr, Marker};
 
@@ -35,86 +39,180 @@ impl Plan {
             × (M.promoted marker.now a ≡ true) × (M.pinned marker.now a ≡ true))
             (stays_in self.new) }
     {
-        let objects: &[CondemnedObject] = &self.objects;
-        lay_moves(heap, marker, self.condemned, objects, &mut self.moves);
-        list_moves(&self.moves, &mut self.regions, &mut self.places);
+        lay_regions(
+            heap,
+            marker,
+            self.condemned,
+            self.extent.regions,
+            &mut self.moves,
+            &mut self.regions,
+            &mut self.places,
+        );
     }
 }
 
-// Lists the condemned objects with their new addresses.
-fn lay_moves<M: Marker>(
+// Lists the condemned objects with their new addresses, region by region. So many regions are
+// condemned.
+fn lay_regions<M: Marker>(
     heap: &Heap,
     marker: &M,
     n: u8,
-    objects: &[CondemnedObject],
+    condemned: u32,
     moves: &mut Vec<Move>,
+    regions: &mut Vec<Condemned>,
+    places: &mut Places,
 )
-    requires generation { n ≤ OLDEST }
+    requires condemned { Counts (HasCondemned heap.now n) condemned }
     requires marker { M.basis marker.now ≡ record { heap = heap.now; condemned = n } }
     requires settled { M.settled marker.now }
-    requires survey { AreSurveyed heap.now n objects.now }
     requires none { moves.old.items ≡ [] }
-    requires room { length objects.now ≤ vec_capacity moves.old }
+    requires unlisted { regions.old.items ≡ [] }
+    requires places { HasPlaces [] [] places.old.firsts.items places.old.cells.items }
+    requires room { HasLayRoom heap.now n (vec_capacity moves.old) (vec_capacity regions.old)
+        (length places.old.firsts.items) (length places.old.cells.items) }
     requires spare { HasFreeRegions heap.now n }
-    ensures laid { AreMoves heap.now n moves.new.items }
-    ensures chosen { AreChosen (M.promoted marker.now) (M.pinned marker.now) moves.new.items }
     ensures sound { IsSound heap.now }
-    ensures capacity { vec_capacity moves.new ≡ vec_capacity moves.old }
+    ensures laid { IsLaidTo heap.now n (M.promoted marker.now) (M.pinned marker.now)
+        moves.new.items regions.new.items places.new.firsts.items places.new.cells.items
+        (room_at heap.now moves.new.items (length moves.new.items)).cursors REGIONS }
+    ensures room { HasLayRoom heap.now n (vec_capacity moves.new) (vec_capacity regions.new)
+        (length places.new.firsts.items) (length places.new.cells.items) }
 {
     // The result is not used: the call states to the proof what every heap keeps.
     let _regions = heap.regions();
+    if condemned == 0 {
+        return;
+    }
     let mut cursors = AllocCursors::new();
-    for object in objects {
-        let laid = lay_object(heap, marker, n, *object, &mut cursors);
-        moves.push_reserved(laid);
+    let mut after = 0;
+    while let Some(region) = heap.next_condemned_region(after, n) {
+        lay_region(heap, marker, region, &mut cursors, moves, regions, places);
+        after = region;
     }
 }
 
+// Lists a condemned region, and its objects with their new addresses.
+fn lay_region<M: Marker>(
+    heap: &Heap,
+    marker: &M,
+    region: u32,
+    cursors: &mut AllocCursors,
+    moves: &mut Vec<Move>,
+    regions: &mut Vec<Condemned>,
+    places: &mut Places,
+)
+    requires basis { (M.basis marker.now).heap ≡ heap.now }
+    requires settled { M.settled marker.now }
+    requires sound { IsSound heap.now }
+    requires condemned { HasCondemned heap.now (M.basis marker.now).condemned region }
+    requires room { HasLayRoom heap.now (M.basis marker.now).condemned (vec_capacity moves.old)
+        (vec_capacity regions.old) (length places.old.firsts.items)
+        (length places.old.cells.items) }
+    requires spare { HasFreeRegions heap.now (M.basis marker.now).condemned }
+    requires so_far { IsLaidTo heap.now (M.basis marker.now).condemned (M.promoted marker.now)
+        (M.pinned marker.now) moves.old.items regions.old.items places.old.firsts.items
+        places.old.cells.items cursors.old region }
+    ensures laid { IsLaidTo heap.now (M.basis marker.now).condemned (M.promoted marker.now)
+        (M.pinned marker.now) moves.new.items regions.new.items places.new.firsts.items
+        places.new.cells.items cursors.new (region + 1) }
+    ensures room { HasLayRoom heap.now (M.basis marker.now).condemned (vec_capacity moves.new)
+        (vec_capacity regions.new) (length places.new.firsts.items)
+        (length places.new.cells.items) }
+{
+    let generation = (heap.region_generation(region) + 1).min(OLDEST);
+    let k = regions.len() as u32;
+    places.list(region, k);
+    let pinned = lay_objects(heap, marker, region, generation, cursors, k, moves, places);
+    regions.push_reserved(Condemned {
+        region,
+        generation,
+        pinned,
+    });
+}
+
+// Lists the objects of a region with their new addresses, which all are of one generation. Returns
+// whether one stays.
+fn lay_objects<M: Marker>(
+    heap: &Heap,
+    marker: &M,
+    region: u32,
+    generation: u8,
+    cursors: &mut AllocCursors,
+    k: u32,
+    moves: &mut Vec<Move>,
+    places: &mut Places,
+) -> bool
+    requires basis { (M.basis marker.now).heap ≡ heap.now }
+    requires settled { M.settled marker.now }
+    requires sound { IsSound heap.now }
+    requires condemned { IsCondemnedRegion heap.now (M.basis marker.now).condemned region }
+    requires generation { generation ≡ raised (M.basis marker.now).condemned
+        (region_generation heap.now region) }
+    requires room { HasMoveRoom heap.now (M.basis marker.now).condemned (vec_capacity moves.old) }
+    requires table { REGION * (k + 1) ≤ length places.old.cells.items }
+    requires spare { HasFreeRegions heap.now (M.basis marker.now).condemned }
+    requires so_far { IsLaying heap.now (M.basis marker.now).condemned (M.promoted marker.now)
+        (M.pinned marker.now) moves.old.items cursors.old (region * REGION) }
+    ensures laying { IsLaying heap.now (M.basis marker.now).condemned (M.promoted marker.now)
+        (M.pinned marker.now) moves.new.items cursors.new ((region + 1) * REGION) }
+    ensures these { AreLaidIn moves.old.items moves.new.items region k result
+        places.old.cells.items places.new.cells.items }
+    ensures firsts { places.new.firsts.items ≡ places.old.firsts.items }
+    ensures capacity { vec_capacity moves.new ≡ vec_capacity moves.old }
+{
+    let mut cursor = cursors.cursor(generation);
+    let mut opened = cursors.opened;
+    let mut pinned = false;
+    let mut objects = heap.objects_of(region);
+    while let Some(object) = objects.next() {
+        let laid = lay_object(heap, marker, object, generation, &mut cursor, &mut opened);
+        moves.push_reserved(laid);
+        places.put(k, laid.from, laid.to);
+        pinned |= laid.fate.stays();
+    }
+    cursors.opened = opened;
+    cursors.set(generation, cursor);
+    pinned
+}
+
 // Gives one condemned object its new address.
+#[inline(always)]
 fn lay_object<M: Marker>(
     heap: &Heap,
     marker: &M,
-    n: u8,
-    object: CondemnedObject,
-    cursors: &mut AllocCursors,
+    object: ObjectHeader,
+    generation: u8,
+    cursor: &mut AllocCursor,
+    opened: &mut u32,
 ) -> Move
-    requires marker { M.basis marker.now ≡ record { heap = heap.now; condemned = n } }
+    requires basis { (M.basis marker.now).heap ≡ heap.now }
     requires settled { M.settled marker.now }
     requires sound { IsSound heap.now }
-    requires condemned { is_condemned heap.now n object.at ≡ true }
+    requires condemned { is_condemned heap.now (M.basis marker.now).condemned object.at ≡ true }
     requires fields { object.fields ≡ length (placed_at heap.now object.at).fields }
-    requires can_put { CanPut heap.now cursors.old }
+    requires generation { generation ≡ raised (M.basis marker.now).condemned
+        (generation_at (object_at heap.now) object.at) }
+    requires can_put { CanPutAt heap.now cursor.old opened.old }
     ensures from { result.from ≡ object.at }
-    ensures laid { IsMoveOf heap.now n (M.promoted marker.now object.at)
-        (M.pinned marker.now object.at) cursors.old cursors.new result }
+    ensures generation { result.generation ≡ generation }
+    ensures laid { (s : CursorsValue) → cursor_of s generation ≡ cursor.old → s.opened ≡ opened.old
+        → IsMoveOf heap.now (M.basis marker.now).condemned (M.promoted marker.now object.at)
+        (M.pinned marker.now object.at) s (with_cursor_at s generation cursor.new opened.new)
+        result }
 {
-    let at = object.at;
-    let generation = (heap.generation(at) + 1).min(OLDEST);
-    let from = at;
-    if !marker.promoted(at) {
-        return Move {
-            from,
-            to: at,
-            generation,
-            fields: object.fields,
-            fate: Fate::Dead,
-        };
-    }
-    if marker.pinned(at) {
-        return Move {
-            from,
-            to: at,
-            generation,
-            fields: object.fields,
-            fate: Fate::Pinned,
-        };
-    }
-    let (fate, to) = cursors.put(heap, generation, u32::from(object.fields) + HEADER);
+    let from = object.at;
+    let (fate, to) = if !marker.promoted(from) {
+        (Fate::Dead, from)
+    } else if marker.pinned(from) {
+        (Fate::Pinned, from)
+    } else {
+        cursor.put(heap, opened, object.fields + HEADER)
+    };
     Move {
         from,
         to,
+        fields: object.fields as u16,
         generation,
-        fields: object.fields,
         fate,
     }
 }

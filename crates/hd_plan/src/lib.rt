@@ -7,14 +7,13 @@ mod commit_tests;
 mod commits;
 mod copying;
 mod cursors;
+mod extent;
 mod lay;
-mod list;
 mod moves;
 mod places;
 mod plan;
 mod releasing;
 mod rewriting;
-mod survey;
 #[cfg(test)]
 mod tests;
 

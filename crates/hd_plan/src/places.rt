@@ -1,8 +1,8 @@
-ghost use Rattle.std.specs.Prelude.{◌≡◌, ◌≢◌, ◌+◌, ◌*◌, ◌^◌, ◌<◌, ◌≤◌};
+ghost use Rattle.std.specs.Prelude.{◌≡◌, ◌+◌, ◌*◌, ◌^◌, ◌<◌, ◌≤◌};
 ghost use Rattle.std.specs.Prelude.{length, replicate, slice_set, IfOk};
 ghost use Rattle.hd_model.specs.Heap.{region_of};
 ghost use Rattle.hd_plan.specs.LaySteps.{first_at};
-ghost use Rattle.hd_plan.specs.LaySteps.{place_among, spot_in, spot_of};
+ghost use Rattle.hd_plan.specs.LaySteps.{place_among, spot_in};
 
 use hd_model::limits::REGION;
 use hd_model::{Addr, Memory};
@@ -40,11 +40,14 @@ impl Places {
         ensures firsts { IfOk result (λ p. p.firsts.items ≡ replicate end 0) }
         ensures cells { IfOk result (λ p. length p.cells.items ≡ REGION * regions) }
     {
-        let Ok(firsts) = vec![in alloc; 0; end as usize] else {
+        let mut firsts = Vec::new(alloc);
+        if firsts.resize(end as usize, 0).is_err() {
             return Err(Memory);
-        };
-        match vec![in alloc; Addr(0); REGION as usize * regions as usize] {
-            Ok(cells) => Ok(Places { firsts, cells }),
+        }
+        let mut cells = Vec::new(alloc);
+        // Which address they have at first does not matter: each is put before it is read.
+        match cells.resize(REGION as usize * regions as usize, Addr(REGION)) {
+            Ok(()) => Ok(Places { firsts, cells }),
             Err(_) => Err(Memory),
         }
     }
@@ -59,30 +62,23 @@ impl Places {
         self.firsts[region as usize] = k + 1;
     }
 
-    /// Gives an address in a listed region its new address.
-    pub(crate) fn put(&mut self, at: Addr, to: Addr)
-        requires listed { first_at self.old.firsts.items (region_of at) ≢ 0 }
-        requires room { REGION * first_at self.old.firsts.items (region_of at)
-            ≤ length self.old.cells.items }
+    /// Gives an address in the `k`-th listed region its new address.
+    pub(crate) fn put(&mut self, k: u32, at: Addr, to: Addr)
+        requires room { spot_in k at < length self.old.cells.items }
         ensures firsts { self.new.firsts.items ≡ self.old.firsts.items }
-        ensures cells { let spot = spot_of self.old.firsts.items at in
-            self.new.cells.items ≡ slice_set self.old.cells.items spot to }
+        ensures cells { self.new.cells.items ≡ slice_set self.old.cells.items (spot_in k at) to }
     {
-        let first = self.firsts[region_number(at) as usize] - 1;
-        self.cells[spot(first, at)] = to;
+        self.cells[spot(k, at)] = to;
     }
 
     /// The new address of an address in a listed region; any other address is returned itself.
     pub(crate) fn place(&self, at: Addr) -> Addr
+        requires span { region_of at < length self.now.firsts.items }
         requires room { REGION * first_at self.now.firsts.items (region_of at)
             ≤ length self.now.cells.items }
         ensures { result ≡ place_among self.now.firsts.items self.now.cells.items at }
     {
-        let region = region_number(at) as usize;
-        if region >= self.firsts.len() {
-            return at;
-        }
-        let first = self.firsts[region];
+        let first = self.firsts[region_number(at) as usize];
         if first == 0 {
             return at;
         }

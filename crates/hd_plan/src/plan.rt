@@ -1,14 +1,14 @@
 ghost use Rattle.std.specs.Prelude.{◌≡◌, ◌^◌, ◌<◌, ◌≤◌, true, false, length, take, count_by, IfOk, MatchResult};
 ghost use Rattle.hd_model.specs.{Counting.Counts, Scene.is_object, Scene.IsCondemned, Heap.objects_of};
-ghost use Rattle.hd_plan.specs.{LaySteps.IsExtent, Layout.is_kept_fate, Plan.SparesNeeded, Plan.SparesAtMost};
-ghost use Rattle.hd_heap.specs.Calls.{AreSurveyed};
+ghost use Rattle.hd_heap.specs.Moves.{is_kept_fate};
+ghost use Rattle.hd_plan.specs.Plan.{SparesNeeded, SparesAtMost};
+ghost use Rattle.hd_heap.specs.Calls.{IsExtent};
 ghost use Rattle.hd_plan.specs.Plan.{IsTakenPlan, IsLaid, kept_in, place_in, HasFreeRegions};
 
+use crate::extent::extent;
 use crate::moves::{Condemned, Move};
 use crate::places::Places;
-use crate::survey::survey;
-use hd_heap::{CondemnedObject, Heap, Survey};
-use hd_mark::end_of;
+use hd_heap::{Extent, Heap};
 use hd_model::limits::{LEFT, OLDEST, OPEN};
 use hd_model::{Addr, Forward, Memory};
 use std::alloc::Global;
@@ -21,8 +21,8 @@ pub struct Plan {
     // The heap for which the plan is, for clauses alone.
     pub(crate) heap: Snapshot<Heap>,
     pub(crate) condemned: u8,
-    // The condemned objects as a survey found them.
-    pub(crate) objects: Vec<CondemnedObject>,
+    // How much was condemned when the plan was taken.
+    pub(crate) extent: Extent,
     pub(crate) moves: Vec<Move>,
     pub(crate) regions: Vec<Condemned>,
     pub(crate) places: Places,
@@ -48,7 +48,7 @@ impl Model for Plan {
       basis = record { heap = p.heap.value; condemned = p.condemned };
       moves = p.moves.items;
       regions = p.regions.items;
-    }) p.objects.items (vec_capacity p.moves) (vec_capacity p.regions) p.places.firsts.items
+    }) p.extent (vec_capacity p.moves) (vec_capacity p.regions) p.places.firsts.items
         p.places.cells.items };
 }
 
@@ -67,13 +67,13 @@ impl Plan {
           condemned = n;
         }) }
     {
-        let found = survey(heap, n)?;
+        let found = extent(heap, n);
         heap.reserve_regions(found.cells / LEFT + OPEN)?;
         Plan::with_room(alloc, heap, n, found)
     }
 
-    /// An empty plan with room for what the survey found.
-    fn with_room(alloc: Global, heap: &Heap, n: u8, found: Survey) -> Result<Plan, Memory>
+    /// An empty plan with room for what is condemned.
+    fn with_room(alloc: Global, heap: &Heap, n: u8, found: Extent) -> Result<Plan, Memory>
         requires found { IsExtent heap.now n found }
         requires generation { n ≤ OLDEST }
         requires spare { HasFreeRegions heap.now n }
@@ -83,15 +83,15 @@ impl Plan {
           condemned = n;
         }) }
     {
-        let places = Places::open(alloc, found.regions, end_of(&found.objects))?;
-        let Ok(moves) = Vec::with_capacity(alloc, found.objects.len()) else {
+        let places = Places::open(alloc, found.regions, found.end)?;
+        let Ok(moves) = Vec::with_capacity(alloc, found.objects as usize) else {
             return Err(Memory);
         };
         match Vec::with_capacity(alloc, found.regions as usize) {
             Ok(regions) => Ok(Plan {
                 heap: Snapshot::of(heap),
                 condemned: n,
-                objects: found.objects,
+                extent: found,
                 moves,
                 regions,
                 places,
@@ -100,12 +100,11 @@ impl Plan {
         }
     }
 
-    /// The condemned objects in rising address, as they were when the plan was taken.
-    pub fn objects(&self) -> &[CondemnedObject]
-        ensures { AreSurveyed self.now.basis.heap self.now.basis.condemned result.now }
+    /// How much was condemned when the plan was taken.
+    pub fn extent(&self) -> Extent
+        ensures { IsExtent self.now.basis.heap self.now.basis.condemned result }
     {
-        let objects: &[CondemnedObject] = &self.objects;
-        objects
+        self.extent
     }
 
     /// How many condemned objects are kept.

@@ -1,7 +1,8 @@
 // What is not kept is removed, and regions without objects are freed.
 ghost use Rattle.std.specs.Prelude.{◌≡◌, ◌<◌, ◌≤◌, ℕ, true, false, length};
 ghost use Rattle.hd_model.specs.Heap.{has_object, is_in_use, region_of};
-ghost use Rattle.hd_plan.specs.Layout.{move_at, condemned_at, is_staying, IsRising};
+ghost use Rattle.hd_heap.specs.Moves.{move_at, is_staying};
+ghost use Rattle.hd_plan.specs.Layout.{condemned_at, IsRising};
 ghost use Rattle.hd_plan.specs.LaySteps.{first_at};
 ghost use Rattle.hd_plan.specs.CommitSteps.{AreRemovedIn, AreGivenUp, is_pinned};
 ghost use Rattle.hd_heap.specs.Calls.{IsRemoved, with_generation, without_region};
@@ -34,8 +35,8 @@ pub(crate) fn remove_left(heap: &mut Heap, moves: &[Move], regions: &[Condemned]
     }
 }
 
-// Whether an object of these regions stays.
-fn has_pinned(regions: &[Condemned]) -> bool
+/// Whether an object of these regions stays.
+pub(crate) fn has_pinned(regions: &[Condemned]) -> bool
     ensures { result ≡ false → (k : ℕ) → k < length regions.now
         → (condemned_at regions.now k).pinned ≡ false }
 {

@@ -2,10 +2,12 @@
 ghost use Rattle.std.specs.Prelude.{◌≡◌, ◌≢◌, ◌<◌, ℕ, true, length};
 ghost use Rattle.hd_model.specs.Heap.{has_object};
 ghost use Rattle.hd_heap.specs.Calls.{is_old_carded};
-ghost use Rattle.hd_plan.specs.Layout.{move_at, is_staying, IsRising};
+ghost use Rattle.hd_heap.specs.Moves.{move_at, is_staying};
+ghost use Rattle.hd_plan.specs.Layout.{condemned_at, IsRising};
 ghost use Rattle.hd_plan.specs.CommitSteps.{AreRewritten, HasKeptFields, IsStayedAt};
 
-use crate::moves::Move;
+use crate::moves::{Condemned, Move};
+use crate::releasing::has_pinned;
 use hd_heap::Heap;
 use hd_model::{Addr, Forward};
 
@@ -26,8 +28,16 @@ pub(crate) fn rewrite_carded<F: Forward>(heap: &mut Heap, forward: &F, n: u8)
     }
 }
 
-/// Rewrites the fields of the objects of these moves that stay.
-pub(crate) fn rewrite_pinned<F: Forward>(heap: &mut Heap, forward: &F, moves: &[Move])
+/// Rewrites the fields of the objects of these moves that stay. Without a region that stays none
+/// does, and no move is looked at.
+pub(crate) fn rewrite_pinned<F: Forward>(
+    heap: &mut Heap,
+    forward: &F,
+    moves: &[Move],
+    regions: &[Condemned],
+)
+    requires pinned { (k : ℕ) → k < length moves.now → is_staying (move_at moves.now k).fate ≡ true
+        → (j : ℕ) × ((j < length regions.now) × ((condemned_at regions.now j).pinned ≡ true)) }
     requires laid { F.laid forward.now }
     requires objects { (k : ℕ) → k < length moves.now
         → has_object heap.old (move_at moves.now k).from ≡ true }
@@ -38,6 +48,9 @@ pub(crate) fn rewrite_pinned<F: Forward>(heap: &mut Heap, forward: &F, moves: &[
     ensures { AreRewritten (IsStayedAt moves.now (length moves.now)) (F.place forward.now)
         heap.old heap.new }
 {
+    if !has_pinned(regions) {
+        return;
+    }
     for object in moves {
         if object.fate.stays() {
             heap.rewrite_fields(object.from, forward);

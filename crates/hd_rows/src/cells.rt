@@ -124,7 +124,7 @@ fn the_first_header_is_that_of_the_first_object(rt: HostRuntime) {
     let mut region = Region::empty();
     same(&rt, first_header(&region), None);
     for (id, at, fields, registered) in [(1, 0, 0, true), (2, 3, 61, false), (3, 67, 3, true)] {
-        put(&rt, &mut region, &[(id, u32::from(fields), registered, at)]);
+        put(&rt, &mut region, &[(id, fields, registered, at)]);
         let header = Header {
             at,
             fields,
@@ -133,4 +133,33 @@ fn the_first_header_is_that_of_the_first_object(rt: HostRuntime) {
         same(&rt, first_header(&region), Some(header));
         remove(&rt, &mut region, at);
     }
+}
+
+// Puts a copy of an object of another region, and returns its offset.
+fn put_copy(rt: &impl Abort, region: &mut Region, source: &Region, from: u32) -> u32 {
+    assert!(rt; source.is_object(from));
+    assert!(rt; region.fill() + source.fields(from) + HEADER as u32 <= CELLS as u32);
+    region.put_copy(source, from)
+}
+
+#[test]
+fn a_copy_has_what_the_object_has(rt: HostRuntime) {
+    let mut source = Region::empty();
+    put(
+        &rt,
+        &mut source,
+        &[(1, 0, false, 0), (2, 2, true, 3), (3, 61, false, 8)],
+    );
+    set_field(&rt, &mut source, 3, 1, 515);
+    set_field(&rt, &mut source, 3, 0, 256);
+    set_header(&rt, &mut source, 3, u64::MAX, true);
+    let mut region = Region::empty();
+    put(&rt, &mut region, &[(7, 1, false, 0)]);
+    same(&rt, put_copy(&rt, &mut region, &source, 3), 4);
+    same(&rt, put_copy(&rt, &mut region, &source, 0), 9);
+    shows(&rt, &region, 4, (2, &[256, 515], u64::MAX, true));
+    shows(&rt, &region, 9, (1, &[], 0, false));
+    shows(&rt, &source, 3, (2, &[256, 515], u64::MAX, true));
+    is_stored(&rt, &region, 4, Some(9));
+    same(&rt, region.fill(), 12);
 }

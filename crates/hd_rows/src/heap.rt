@@ -3,7 +3,7 @@ ghost use Rattle.hd_model.specs.Heap.{has_object};
 
 use crate::checks::is_object_at;
 use crate::same::same;
-use hd_heap::{CondemnedObject, Heap, NewFault, Survey};
+use hd_heap::{Extent, Heap, NewFault, ObjectHeader};
 use hd_model::limits::{FIELDS, OLDEST, REGION};
 use hd_model::{Addr, Id, Memory};
 use std::alloc::Global;
@@ -244,57 +244,154 @@ fn a_region_that_is_held_again_has_no_old_cells(rt: HostRuntime) -> Result<(), F
 }
 
 #[test]
-fn a_survey_lists_what_is_condemned(rt: HostRuntime) -> Result<(), Fail> {
+fn an_extent_sums_what_is_condemned(rt: HostRuntime) -> Result<(), Fail> {
     let mut heap = heap_of(&rt, rt.alloc(), 1_000, &FOUR)?;
     make(&rt, &mut heap, &[(5, 0, true, 512)])?;
     age(&rt, &mut heap, Addr(512));
     make(&rt, &mut heap, &[(6, 2, false, 768)])?;
     remove(&rt, &mut heap, Addr(384));
 
-    let young = [
-        (256, 61, false),
-        (320, 61, true),
-        (448, 61, false),
-        (768, 2, false),
-    ];
-    let all = [
-        (256, 61, false),
-        (320, 61, true),
-        (448, 61, false),
-        (512, 0, true),
-        (768, 2, false),
-    ];
-    check_survey(&rt, &heap, 0, &young, (197, 2))?;
-    check_survey(&rt, &heap, 1, &all, (200, 3))?;
-    check_survey(&rt, &heap, 2, &all, (200, 3))?;
+    for (n, objects, cells, regions, end) in [(0, 4, 197, 2, 4), (1, 5, 200, 3, 4)] {
+        let extent = Extent {
+            objects,
+            cells,
+            regions,
+            end,
+        };
+        assert!(rt; extent_of(&heap, n) == extent);
+    }
+    for (after, n, next) in [
+        (0, 0, Some(1)),
+        (1, 0, Some(3)),
+        (1, 1, Some(2)),
+        (3, 2, None),
+    ] {
+        same(&rt, next_region(&heap, after, n), next);
+    }
     Ok(())
 }
 
-// A survey, without what it promises.
-fn survey_of(heap: &Heap, n: u8) -> Result<Survey, Memory> {
-    heap.survey(n)
+// How much is condemned, without what the call promises.
+fn extent_of(heap: &Heap, n: u8) -> Extent {
+    heap.extent(n)
 }
 
-// A survey of a heap lists these objects, and has these numbers of cells and of regions.
-fn check_survey(
-    rt: &impl Abort,
-    heap: &Heap,
-    n: u8,
-    objects: &[(u32, u8, bool)],
-    sums: (u32, u32),
-) -> Result<(), Memory> {
-    let survey = survey_of(heap, n)?;
-    same(rt, (survey.cells, survey.regions), sums);
-    same(rt, survey.objects.len(), objects.len());
-    for i in 0..objects.len() {
-        let (at, fields, registered) = objects[i];
-        let wanted = CondemnedObject {
-            at: Addr(at),
-            fields,
-            registered,
-        };
-        assert!(rt; survey.objects.get(i) == Some(&wanted));
-    }
+// The next region with condemned objects, without what the call promises.
+fn next_region(heap: &Heap, after: u32, n: u8) -> Option<u32> {
+    heap.next_condemned_region(after, n)
+}
+
+// The first three objects of the region of an object, as their headers say.
+fn headers(heap: &Heap, at: Addr) -> [Option<ObjectHeader>; 3]
+    requires { has_object heap.now at ≡ true }
+{
+    // A read for the proof: it states that the heap is sound, so that the region is in use.
+    let _ = heap.regions();
+    let mut objects = heap.objects_of(at.0 / REGION);
+    let first = objects.next();
+    let second = objects.next();
+    let third = objects.next();
+    [first, second, third]
+}
+
+// The same, of the region of an object that is there.
+fn headers_at(rt: &impl Abort, heap: &Heap, at: Addr) -> [Option<ObjectHeader>; 3] {
+    assert!(rt; is_object_at(heap, at));
+    headers(heap, at)
+}
+
+// What a header says.
+fn header(at: u32, fields: u32, registered: bool) -> Option<ObjectHeader> {
+    Some(ObjectHeader {
+        at: Addr(at),
+        fields,
+        registered,
+    })
+}
+
+#[test]
+fn a_walk_over_a_region_says_what_its_headers_say(rt: HostRuntime) -> Result<(), Fail> {
+    let objects = [(1, 0, false, 256), (2, 5, true, 259), (3, 61, true, 267)];
+    let mut heap = heap_of(&rt, rt.alloc(), 1_000, &objects)?;
+    make(
+        &rt,
+        &mut heap,
+        &[
+            (4, 61, false, 331),
+            (5, 61, false, 395),
+            (6, 61, false, 512),
+        ],
+    )?;
+    let [first, second, third] = [
+        header(256, 0, false),
+        header(259, 5, true),
+        header(267, 61, true),
+    ];
+    same(
+        &rt,
+        headers_at(&rt, &heap, Addr(395)),
+        [first, second, third],
+    );
+    remove(&rt, &mut heap, Addr(256));
+    remove(&rt, &mut heap, Addr(267));
+    let [fourth, fifth] = [header(331, 61, false), header(395, 61, false)];
+    same(
+        &rt,
+        headers_at(&rt, &heap, Addr(395)),
+        [second, fourth, fifth],
+    );
+    same(
+        &rt,
+        headers_at(&rt, &heap, Addr(512)),
+        [header(512, 61, false), None, None],
+    );
+    Ok(())
+}
+
+// The number of an object's fields, and what one of them references.
+fn field_of(rt: &impl Abort, heap: &Heap, at: Addr, i: u32) -> (u32, Option<Addr>) {
+    assert!(rt; is_object_at(heap, at));
+    let fields = heap.fields_of(at);
+    let number = fields.number();
+    assert!(rt; i < number);
+    (number, fields.load(i))
+}
+
+#[test]
+fn the_fields_of_an_object_are_read_by_its_region(rt: HostRuntime) -> Result<(), Fail> {
+    let objects = [(1, 1, false, 256), (2, 61, false, 260)];
+    let mut heap = heap_of(&rt, rt.alloc(), 1_000, &objects)?;
+    let [small, large] = [Addr(256), Addr(260)];
+    store(&rt, &mut heap, large, 60, small);
+    same(&rt, field_of(&rt, &heap, small, 0), (1, None));
+    same(&rt, field_of(&rt, &heap, large, 59), (61, None));
+    same(&rt, field_of(&rt, &heap, large, 60), (61, Some(small)));
+    Ok(())
+}
+
+// Registers an object, or takes its registration away.
+fn register(rt: &impl Abort, heap: &mut Heap, at: Addr, on: bool) {
+    assert!(rt; is_object_at(heap, at));
+    heap.set_registered(at, on);
+}
+
+// Whether an object may be registered.
+fn may_have_registered(heap: &Heap) -> bool {
+    heap.may_have_registered()
+}
+
+#[test]
+fn a_heap_notes_the_first_registration(rt: HostRuntime) -> Result<(), Fail> {
+    let mut heap = heap_of(&rt, rt.alloc(), 1_000, &[(1, 0, false, 256)])?;
+    register(&rt, &mut heap, Addr(256), false);
+    assert!(rt; !may_have_registered(&heap));
+    register(&rt, &mut heap, Addr(256), true);
+    assert!(rt; may_have_registered(&heap));
+
+    let mut other = heap_of(&rt, rt.alloc(), 1_000, &[(1, 3, false, 256)])?;
+    assert!(rt; !may_have_registered(&other));
+    make(&rt, &mut other, &[(2, 0, true, 262)])?;
+    assert!(rt; may_have_registered(&other));
     Ok(())
 }
 

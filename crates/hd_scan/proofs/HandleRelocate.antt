@@ -15,6 +15,14 @@ pub extra_stays : (place : Addr → Addr) (e d : state.Extra Addr) → e ≡ d �
     → e ≡ rename_extra place e
 extra_stays place e d is same = is ∙ sym same ∙ sym (ap (rename_extra place) is)
 
+-- a table is itself with a row that it has
+pub same_row : (t : Table) (slot : ℕ) (h : Handle Addr) → row_at t slot ≡ Some h → Rewrites slot h t t
+same_row t slot h here = record {
+  at = here;
+  others = λ other ne. refl;
+  table = record { chains = refl; uses = refl; blocks = refl };
+}
+
 module _ (t : Table) (ages : List ℕ) (n : ℕ) (k : Kind) (place : Addr → Addr) where
   abbrev pub relocation : ℕ → Handle Addr → Handle Addr
   relocation slot h = relocated (is_kind k h.kind && is_due ages n slot) place h

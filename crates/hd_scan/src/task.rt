@@ -1,12 +1,11 @@
-ghost use Rattle.std.specs.Prelude.{◌≡◌, IsSome};
-ghost use Rattle.std.specs.FinMap.{get};
-ghost use Rattle.hd_model.specs.Table.{live_at};
+ghost use Rattle.std.specs.Prelude.{◌≡◌};
+ghost use Rattle.hd_model.specs.{declared.data.Addr.Addr, Kinds.is_paired, State.Handle};
 ghost use Rattle.hd_model.specs.Role.{role_of, role_of_strength, role_of_count, pins_by, pins_by_strength};
 ghost use Rattle.hd_scan.specs.Tasks.{takes, task_kind, task_role, is_clearing, is_role, role_from};
-ghost use Rattle.hd_seg.specs.Row.{extra_of};
+ghost use Rattle.hd_seg.specs.Row.{extra_of, row_of};
 
-use hd_model::{Kind, Slot, Strength};
-use hd_seg::{Extra, Seg};
+use hd_model::{Kind, Strength};
+use hd_seg::{Extra, Row};
 
 /// What a pass does, and to which handles. The first four promote the targets of the handles that
 /// hold them, and pin those of the ones that pin; the others clear the handles whose target is not
@@ -99,17 +98,17 @@ impl Task {
         }
     }
 
-    /// Whether it takes the handle of its kind in a slot. The extra is read only if that decides.
-    pub(crate) fn takes_at(self, seg: &Seg, slot: Slot) -> bool
-        requires live { IsSome (get seg.now.rows slot.0) }
-        requires of_kind { (live_at seg.now slot.0).kind ≡ task_kind self }
-        ensures { result ≡ takes self (live_at seg.now slot.0) }
+    /// Whether it takes a handle of its kind, which has extras or not, by its row.
+    #[inline(always)]
+    pub(crate) fn takes_row(self, row: Row, paired: bool) -> bool
+        requires { is_paired (task_kind self) ≡ paired }
+        ensures { (h : Handle Addr) → h.kind ≡ task_kind self → row ≡ row_of h →
+            result ≡ takes self h }
     {
-        let kind = self.kind();
-        if !kind.paired() {
+        if !paired {
             return true;
         }
-        self.takes(seg.row_of_kind(slot, kind).extra)
+        self.takes(row.extra)
     }
 
     /// Whether it takes a handle of its kind with an extra.

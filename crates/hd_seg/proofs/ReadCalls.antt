@@ -27,16 +27,16 @@ module _ (t : Table) (is : IsTable t) (k : Kind) where
   in_use : (b : ℕ) → Contains (chain_of t k) b → get t.uses b ≡ Some (handles_of k)
   in_use b has = (is.chained k b).0 has
 
-  pub first_kind : (o : Option ℕ) → o ≡ slice_get (chain_of t k) 0
-      → IfSome o (λ b. get t.uses b ≡ Some (handles_of k))
-  first_kind o at = if_some_from (λ b. get t.uses b ≡ Some (handles_of k)) o
-      (λ b here. in_use b (contained (chain_of t k) 0 b (sym at ∙ here)))
+  module _ (i : ℕ) (o : Option ℕ) (at : o ≡ slice_get (chain_of t k) i) where
+    here_in_use : (b : ℕ) → o ≡ Some b → get t.uses b ≡ Some (handles_of k)
+    here_in_use b here = in_use b (contained (chain_of t k) i b (sym at ∙ here))
 
-  pub first_within : (o : Option ℕ) → o ≡ slice_get (chain_of t k) 0
-      → IfSome o (λ b. (1 ≤ b) × (b ≤ t.blocks))
-  first_within o at =
-      if_some_from (λ b. (1 ≤ b) × (b ≤ t.blocks)) o (λ b here.
-      is.uses b (some_of _ _ (in_use b (contained (chain_of t k) 0 b (sym at ∙ here)))))
+    pub at_kind : IfSome o (λ b. get t.uses b ≡ Some (handles_of k))
+    at_kind = if_some_from (λ b. get t.uses b ≡ Some (handles_of k)) o here_in_use
+
+    pub at_within : IfSome o (λ b. (1 ≤ b) × (b ≤ t.blocks))
+    at_within = if_some_from (λ b. (1 ≤ b) × (b ≤ t.blocks)) o
+        (λ b here. is.uses b (some_of _ _ (here_in_use b here)))
 
 module _ (t : Table) (is : IsTable t) (b : ℕ) (handles : has_handles (get t.uses b) ≡ true) (o : Option ℕ)
     (at : (before after : List ℕ) → chain_of t (kind_at t b) ≡ before ++ b ∷ after → o ≡ slice_get after 0)
@@ -109,27 +109,30 @@ module _ {u : Uses} {cells : List Cell} {masks : List ℕ} {live : ℕ} (inv : I
   pub live_read : None ≡ option_map row_of (get t.rows slot) → IsSome (get t.rows slot) → ⊥
   live_read none live = let e = none ∙ ap (option_map row_of) (live_row t slot live) in cc
 
--- the live rows of a clump, by the bits of its block's mask
+-- the live rows of a block, by the bits of its mask
 module _ {u : Uses} {cells : List Cell} {masks : List ℕ} {live : ℕ} (inv : IsSeg u cells masks live)
     {t : Table} (view_is : table_in u cells ≡ t) where
-  pub clump_bits : (mask block clump i : ℕ) → mask ≡ get_or masks block 0 → block ≤ u.table.blocks
-      → clump < CLUMPS
-      → i < CLUMP → bit_at (bit_and (mask / 2 ^ (CLUMP * clump)) 65535) i
-      ≡ cond (contains_key t.rows (ROWS * block + CLUMP * clump + i)) 1 0
-  clump_bits mask block clump i is high few lt =
-      (let low : bit_at 65535 i ≡ 1 = bit_at_ones CLUMP i lt in
-      let both : bit_at (bit_and (mask / 2 ^ (CLUMP * clump)) 65535) i ≡ bit_at (mask / 2 ^ (CLUMP * clump)) i
-      =
-      (let known = bit_at_and (mask / 2 ^ (CLUMP * clump)) 65535 i in
-      omega (arith, known, low, bit_at-lt (mask / 2 ^ (CLUMP * clump)) i)) in
-      both)
-      ∙ bit_at-shr mask (CLUMP * clump) i
-      ∙ ap (λ m. bit_at m (CLUMP * clump + i)) is
-      ∙ inv.bits block (CLUMP * clump + i) high (omega arith)
-      ∙ ap (λ q. cond (is_some (row_in u cells q)) 1 0)
-      (let e : ROWS * block + (CLUMP * clump + i) ≡ ROWS * block + CLUMP * clump + i = omega arith in e)
-      ∙ ap (λ o. cond (is_some o) 1 0) (sym (row_is inv (ROWS * block + CLUMP * clump + i))
-      ∙ ap (λ (v : Table). get v.rows (ROWS * block + CLUMP * clump + i)) view_is)
+  pub row_bits : (mask block i : ℕ) → mask ≡ get_or masks block 0 → block ≤ u.table.blocks → i < ROWS
+      → bit_at mask i ≡ cond (contains_key t.rows (ROWS * block + i)) 1 0
+  row_bits mask block i is high lt =
+      ap (λ m. bit_at m i) is ∙ inv.bits block i high lt
+      ∙ ap (λ o. cond (is_some o) 1 0) (sym (row_is inv (ROWS * block + i))
+      ∙ ap (λ (v : Table). get v.rows (ROWS * block + i)) view_is)
+
+-- those of a clump
+pub clump_bits : (t : Table) (mask block clump i : ℕ)
+    → ((j : ℕ) → j < ROWS → bit_at mask j ≡ cond (contains_key t.rows (ROWS * block + j)) 1 0)
+    → clump < CLUMPS → i < CLUMP → bit_at (bit_and (mask / 2 ^ (CLUMP * clump)) 65535) i
+    ≡ cond (contains_key t.rows (ROWS * block + CLUMP * clump + i)) 1 0
+clump_bits t mask block clump i bits few lt =
+    let shifted : ℕ = mask / 2 ^ (CLUMP * clump) in
+    let low : bit_at 65535 i ≡ 1 = bit_at_ones CLUMP i lt in
+    let both : bit_at (bit_and shifted 65535) i ≡ bit_at shifted i =
+    (let known = bit_at_and shifted 65535 i in
+    omega (arith, known, low, bit_at-lt shifted i)) in
+    both ∙ bit_at-shr mask (CLUMP * clump) i ∙ bits (CLUMP * clump + i) (omega arith)
+    ∙ ap (λ q. cond (contains_key t.rows q) 1 0)
+    (let e : ROWS * block + (CLUMP * clump + i) ≡ ROWS * block + CLUMP * clump + i = omega arith in e)
 
 -- ---- the lowest unused block, with rows and without
 

@@ -1,8 +1,9 @@
 -- Each call on one row, by the fields of a table.
-use Rattle.hd_seg.proofs.Basics.{Addr, BlockUse, Cell, Extra, Handle, IsSeg, IsSome, Kind, List, None, Option, ROWS, Row, Some, Table, Uses, ap, arith, bit_or, bit_xor, cell_at, cell_in, extra_data, extra_held, extra_of, extra_place, fits, fits_in, get, get_or, handle_of, handles_of, inl, inr, kind_at, kind_in, length, length-set, live_at, refl, row_by, row_in, set, sym, table_in, true, true≢false, unwrap_or, with_cell, with_row, without_row, ℕ, ◌%◌, ◌*◌, ◌+◌, ◌-◌, ◌/◌, ◌<◌, ◌^◌, ◌∙◌, ◌≡◌, ◌≤◌}
+use Rattle.hd_seg.proofs.Basics.{Addr, BlockUse, Cell, Extra, Handle, IsSeg, IsSome, Kind, List, None, Option, ROWS, Row, Some, Table, Uses, ap, arith, bit_or, bit_xor, cell_at, cell_in, extra_data, extra_from, extra_held, extra_of, extra_place, fits, fits_in, get, get_or, handle_of, handles_of, inl, inr, is_some, kind_at, kind_in, length, length-set, live_at, refl, row_by, row_in, set, sym, table_in, true, true≢false, unwrap_or, with_cell, with_row, without_row, ℕ, ◌%◌, ◌*◌, ◌+◌, ◌-◌, ◌/◌, ◌<◌, ◌^◌, ◌∙◌, ◌≡◌, ◌≤◌}
 use Rattle.hd_seg.proofs.{FunctionMaps.len-mapped_le, ChainLinks.none_is_some}
-use Rattle.hd_seg.proofs.RowCells.{cases_option, parts, HasParts, row_is, IsWrite, writes, NoTarget, write_cell, write_extra, cell_now, cell_stays, extra_stays, held_now, emptied}
+use Rattle.hd_seg.proofs.RowCells.{extra-from-of, cases_option, parts, HasParts, row_is, IsWrite, writes, NoTarget, write_cell, write_extra, cell_now, cell_stays, extra_stays, held_now, emptied}
 use Rattle.hd_seg.proofs.RowChange.{inside, block_inside, view-put, view-take, seg-new, seg-same, seg-gone, some_live}
+use Rattle.hd_model.proofs.MapEntries.{some_value}
 use Rattle.hd_model.specs.declared.data.Kind.TheVariants as kind
 use Rattle.hd_model.specs.State as state
 use Rattle.hd_seg.specs.declared.cells.Cell.TheVariants as cell
@@ -102,6 +103,22 @@ module _ {u : Uses} {cells : List Cell} {masks : List ℕ} {live : ℕ} (inv : I
 
     pub live_slot : slot < length cells
     live_slot = inside inv its_block (write_cell inv.paired slot its_block cells cell.Empty)
+
+    -- where it has a target, so has its cell
+    pub live_cell : IsSome h.target → (x : Addr) × (cell_at cells slot ≡ cell.Target (Some x))
+    live_cell some =
+        let (x, is) = some_value h.target some in (x, its_parts.cell_is ∙ ap (λ o. cell.Target o) is)
+
+    pub live_low : ROWS ≤ slot
+    live_low = let used = (inv.table.uses (slot / ROWS) (ap is_some its_block)).0 in omega arith
+
+    pub live_high : slot < ROWS * (u.table.blocks + 1)
+    live_high = omega (arith, live_slot, inv.room)
+
+    -- its extra is read
+    pub extra_now : extra_held (cell_in cells (extra_place u slot)) ≡ extra_from h.extra
+    extra_now =
+        sym (extra-from-of (extra_held (cell_in cells (extra_place u slot)))) ∙ ap extra_from its_parts.extra_is
 
     pub live_mask : slot / ROWS < length masks
     live_mask = block_inside inv its_block (write_cell inv.paired slot its_block cells cell.Empty)

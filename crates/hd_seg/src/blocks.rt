@@ -143,6 +143,15 @@ impl Blocks {
         if block == 0 || block > self.number {
             return None;
         }
+        self.extras_of(block)
+    }
+
+    /// The same of a block of the table.
+    pub(crate) fn extras_of(&self, block: u32) -> Option<u32>
+        requires low { 1 ≤ block }
+        requires high { block ≤ self.now.table.blocks }
+        ensures value { result ≡ get self.now.extras block }
+    {
         self.table[block as usize].extras
     }
 
@@ -220,12 +229,12 @@ impl Blocks {
         }
     }
 
-    /// The first block of the chain of a kind.
-    pub(crate) fn first(&self, kind: Kind) -> Option<u32>
-        ensures { result ≡ slice_get (chain_of self.now.table kind) 0 }
+    /// The block at an index of the chain of a kind, if the chain has so many.
+    pub(crate) fn at(&self, kind: Kind, place: u32) -> Option<u32>
+        ensures { result ≡ slice_get (chain_of self.now.table kind) place }
     {
         let chain = &self.chains[kind.number() as usize];
-        chain.first().copied()
+        chain.get(place as usize).copied()
     }
 
     /// The block after a block of handles in its chain.

@@ -2,7 +2,7 @@ ghost use Rattle.std.specs.Prelude.{◌≡◌, ℕ, ◌+◌, ◌*◌, ◌/◌, �
 ghost use Rattle.std.specs.Prelude.{option_map, slice_get, IfOk, IfErr, OnOk, OnErr, IfSome, IsSome};
 ghost use Rattle.std.specs.FinMap.{get, len, contains_key};
 ghost use Rattle.std.specs.Int.{bit_at};
-ghost use Rattle.hd_model.specs.State.{block_of, handles_of};
+ghost use Rattle.hd_model.specs.{Kinds.is_paired, State.block_of, State.handles_of};
 ghost use Rattle.hd_model.specs.Step.{blocks_needed};
 ghost use Rattle.hd_model.specs.Table.{IsTable, IsGrowth, chain_of, empty_table, fits, fits_in, grown_by};
 ghost use Rattle.hd_model.specs.Table.{has_handles, is_single, kind_at, live_at, with_row, without_row};
@@ -13,7 +13,7 @@ use crate::blocks::Blocks;
 use crate::cells::Cell;
 use crate::filled::filled;
 use crate::row::{BlockKind, Extra, Full, Row};
-use crate::writes::{cell_of, extra_in, extra_place, write_cell, write_row};
+use crate::writes::{cell_of, extra_in, extra_place, extra_place_of, write_cell, write_row};
 use hd_mask::bit;
 use hd_model::limits::{BLOCKS, CLUMP, CLUMPS, ROWS};
 use hd_model::{Addr, Grown, Kind, Memory, Slot};
@@ -139,20 +139,23 @@ impl Seg {
         }
     }
 
-    /// The row of a live slot, whose kind is known: where that has no extra data, one cell is read.
-    pub fn row_of_kind(&self, slot: Slot, kind: Kind) -> Row
+    /// The row of a live slot, where it is known whether its kind has extra data: where it has none,
+    /// one cell is read.
+    #[inline(always)]
+    pub fn row_by(&self, slot: Slot, paired: bool) -> Row
         requires live { IsSome (get self.now.rows slot.0) }
-        requires kind { (live_at self.now slot.0).kind ≡ kind }
+        requires paired { is_paired (live_at self.now slot.0).kind ≡ paired }
         ensures value { result ≡ row_of (live_at self.now slot.0) }
         ensures table { IsTable self.now }
     {
-        if !kind.paired() {
-            return Row {
-                target: self.target(slot),
-                extra: Extra::Nothing,
-            };
+        let target = self.target(slot);
+        if !paired {
+            let extra = Extra::Nothing;
+            return Row { target, extra };
         }
-        self.row(slot).unwrap()
+        let place = extra_place_of(&self.blocks, slot);
+        let extra = extra_in(&self.cells, place);
+        Row { target, extra }
     }
 
     /// The target of a live row.
@@ -204,6 +207,18 @@ impl Seg {
         self.cells[slot.0 as usize] = Cell::Target(target);
     }
 
+    /// Gives a live row that has a target another one.
+    pub fn retarget(&mut self, slot: Slot, to: Addr)
+        requires live { IsSome (get self.old.rows slot.0) }
+        requires some { IsSome (live_at self.old slot.0).target }
+        ensures { let handle = live_at self.old slot.0 in
+            self.new ≡ with_row self.old slot.0 (record handle { target = Some to }) }
+    {
+        if let Cell::Target(Some(target)) = &mut self.cells[slot.0 as usize] {
+            *target = to;
+        }
+    }
+
     /// Gives a live row another extra.
     pub fn set_extra(&mut self, slot: Slot, extra: Extra)
         requires live { IsSome (get self.old.rows slot.0) }
@@ -211,8 +226,19 @@ impl Seg {
         ensures { let handle = live_at self.old slot.0 in
             self.new ≡ with_row self.old slot.0 (record handle { extra = extra_of extra }) }
     {
-        let place = extra_place(&self.blocks, slot);
+        let place = extra_place_of(&self.blocks, slot);
         write_cell(&mut self.cells, place, Cell::Extra(extra));
+    }
+
+    /// The block at an index of the chain of a kind, if the chain has so many.
+    pub fn block_at(&self, kind: Kind, place: u32) -> Option<u32>
+        ensures value { result ≡ slice_get (chain_of self.now kind) place }
+        ensures within { IfSome result (λ block. (1 ≤ block) × (block ≤ self.now.blocks)) }
+        ensures of_kind { IfSome result (λ block.
+            get self.now.uses block ≡ Some (handles_of kind)) }
+        ensures table { IsTable self.now }
+    {
+        self.blocks.at(kind, place)
     }
 
     /// The first block of the chain of a kind, if it has one.
@@ -223,7 +249,7 @@ impl Seg {
             get self.now.uses block ≡ Some (handles_of kind)) }
         ensures table { IsTable self.now }
     {
-        self.blocks.first(kind)
+        self.block_at(kind, 0)
     }
 
     /// The block after a block of handles in its chain, if there is one.
@@ -240,6 +266,17 @@ impl Seg {
         self.blocks.after(block)
     }
 
+    /// The live rows of a block, as a mask: bit `i` is the block's row `i`.
+    pub fn live_rows(&self, block: u32) -> u64
+        requires low { 1 ≤ block }
+        requires high { block ≤ self.now.blocks }
+        ensures bits { (i : ℕ) → i < ROWS →
+            bit_at result i ≡ cond (contains_key self.now.rows (ROWS * block + i)) 1 0 }
+        ensures table { IsTable self.now }
+    {
+        self.masks[block as usize]
+    }
+
     /// The live rows of clump 0 to 3 of a block, as a mask: bit `i` is the clump's row `i`.
     pub fn clump(&self, block: u32, clump: u32) -> u16
         requires low { 1 ≤ block }
@@ -250,7 +287,6 @@ impl Seg {
             bit_at result i ≡ cond (contains_key self.now.rows (first + i)) 1 0 }
         ensures table { IsTable self.now }
     {
-        let mask = self.masks[block as usize];
-        (mask >> (CLUMP * clump) & CLUMP_MASK) as u16
+        (self.live_rows(block) >> (CLUMP * clump) & CLUMP_MASK) as u16
     }
 }

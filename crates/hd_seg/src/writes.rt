@@ -1,4 +1,4 @@
-ghost use Rattle.std.specs.Prelude.{◌≡◌, ℕ, ◌<◌, ◌≤◌, Some, length, slice_set};
+ghost use Rattle.std.specs.Prelude.{◌≡◌, ℕ, ◌+◌, ◌*◌, ◌%◌, ◌<◌, ◌≤◌, Some, length, slice_set};
 ghost use Rattle.std.specs.FinMap.{get};
 ghost use Rattle.std.specs.Option.{ForSome};
 ghost use Rattle.hd_seg.specs.Cells.{cell_at, cell_in, extra_held, extra_place, with_cell};
@@ -15,7 +15,26 @@ pub(crate) fn extra_place(blocks: &Blocks, slot: Slot) -> Option<usize>
     ensures { result ≡ extra_place blocks.now slot.0 }
 {
     let data = blocks.extras(slot.0 / ROWS)?;
-    Some((data * ROWS + slot.0 % ROWS) as usize)
+    Some(place_in(data, slot))
+}
+
+// The cell index of the extra of a slot's row, in a data block.
+fn place_in(block: u32, slot: Slot) -> usize
+    requires { block ≤ BLOCKS }
+    ensures { result ≡ block * ROWS + slot.0 % ROWS }
+{
+    (block * ROWS + slot.0 % ROWS) as usize
+}
+
+/// The same of a slot of the table.
+pub(crate) fn extra_place_of(blocks: &Blocks, slot: Slot) -> Option<usize>
+    requires low { ROWS ≤ slot.0 }
+    requires high { slot.0 < ROWS * (blocks.now.table.blocks + 1) }
+    requires small { (b d : ℕ) → get blocks.now.extras b ≡ Some d → d ≤ BLOCKS }
+    ensures { result ≡ extra_place blocks.now slot.0 }
+{
+    let data = blocks.extras_of(slot.0 / ROWS)?;
+    Some(place_in(data, slot))
 }
 
 /// The cell of a slot, which may be any number.

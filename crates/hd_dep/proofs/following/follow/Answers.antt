@@ -1,4 +1,4 @@
-use Rattle.hd_dep.proofs.Basics.{Addr, AreObjects, Basis, Bool, IsEdge, IsPromotionLog, IsSettled, IsWaitingEdge, List, Spreads, Table, arith, length, objects_of, row_at, subst, sym, ℕ, ◌∙◌, ◌≡◌, ◌≤◌}
+use Rattle.hd_dep.proofs.Basics.{Addr, AreObjects, Basis, Bool, IsEdge, IsPromotionLog, IsSettled, IsWaitingEdge, List, Spreads, Table, arith, length, objects_of, row_at, subst, sym, ◌∙◌, ◌≡◌}
 use Rattle.hd_dep.proofs.{RescanPasses.rescan_closure, SecondarySpread.spreads_none, DueHandles.none_visited}
 use Rattle.hd_dep.proofs.SecondaryFollow.{both_spread, followed_at_last, gathered_sorted, queued_objects, kept_on}
 use Rattle.hd_dep.proofs.following.follow.Goals as goal

@@ -17,7 +17,7 @@ field-field-requires g c =
     let f = c.loop-i.invariant.0 in
     record {
       object = forwarding_there placing f;
-      within = omega (arith, forwarding_long placing f, c.fields-i-end.ensures.count, c.loop-i-test.true);
+      within = omega (arith, forwarding_long placing f, c.requires.number, c.loop-i-test.true);
     }
 
 pub stored_place-requires : goal.stored_place-requires
@@ -28,7 +28,7 @@ stored_place-requires g c =
       laid = c.requires.laid;
       kept = field_kept (g.F.Forward.kept c.args.forward.now) (fields_at c.args.region.now c.args.at)
           c.requires.kept
-          c.loop-i.i c.field-field.result (omega (arith, c.fields-i-end.ensures.count, c.loop-i-test.true))
+          c.loop-i.i c.field-field.result (omega (arith, c.requires.number, c.loop-i-test.true))
           (c.field-field.ensures ∙ forwarding_read placing f);
     }
 
@@ -38,7 +38,7 @@ set_field-requires g c =
     let f = c.loop-i.invariant.0 in
     record {
       object = forwarding_there placing f;
-      within = omega (arith, forwarding_long placing f, c.fields-i-end.ensures.count, c.loop-i-test.true);
+      within = omega (arith, forwarding_long placing f, c.requires.number, c.loop-i-test.true);
     }
 
 pub loop-i-preserved : goal.loop-i-preserved
@@ -46,7 +46,7 @@ loop-i-preserved g c =
     let placing = writes_object c.args.region.now c.args.at in
     let f = c.loop-i.invariant.0 in (
       forwarding_next placing f c.set_field.new.self c.stored_place.result
-          (omega (arith, c.fields-i-end.ensures.count, c.loop-i-test.true))
+          (omega (arith, c.requires.number, c.loop-i-test.true))
           (c.stored_place.ensures
           ∙ ap (stored_place (g.F.Forward.place c.args.forward.now))
           (c.field-field.ensures ∙ forwarding_read placing f))
@@ -57,6 +57,6 @@ loop-i-preserved g c =
 pub returns : goal.returns
 returns g c = record {
   written = forwarding_ends (writes_object c.args.region.now c.args.at) c.loop-i.invariant.0
-      (omega (arith, c.fields-i-end.ensures.count, c.loop-i-test.false));
+      (omega (arith, c.requires.number, c.loop-i-test.false));
   laid_out = c.loop-i.invariant.1;
 }

@@ -1,6 +1,6 @@
 use Rattle.hd_plan.proofs.Basics.{Addr, AreCopied, AreGivenUp, AreRemovedIn, AreRewritten, Commits, Condemned, Heap, List, Move, PlanOf, is_old_carded, is_pinned, kept_in, length, place_in, refl, subst, sym, true, ◌≡◌, ◌≢◌}
 use Rattle.hd_plan.specs.declared.plan.Plan.TheInside.{Inside}
-use Rattle.hd_plan.proofs.{KeptMoves.moving_kept, CommitCards.cards_alone, CommitGenerations.AreAtPlaces, CommitGenerations.settled_generations, CommitShape.IsCommitting, CommitShape.committing, CommitShape.can_copy, CommitImage.carded_kept, CommitImage.place_some, CommitImage.fields_kept, CommitImage.from_second, CommitImage.stayed_fields, CommitImage.from_there, CommitClears.IsTable, CommitClears.HasCleared, CommitClears.have_cleared, CommitClears.first_low, CommitClears.first_high, CommitClears.held_still, CommitResult.settled_there, CommitResult.ending_closed, CommitResult.ending_cards, CommitResult.ending_grown, CommitResult.ending_spared, CommitResult.ended}
+use Rattle.hd_plan.proofs.{KeptMoves.moving_kept, CommitCards.cards_alone, CommitGenerations.AreAtPlaces, CommitGenerations.settled_generations, CommitShape.IsCommitting, CommitShape.committing, CommitShape.can_copy, CommitImage.carded_kept, CommitImage.place_some, CommitImage.fields_kept, CommitImage.from_second, CommitImage.stayed_fields, CommitImage.from_there, CommitClears.IsTable, CommitClears.HasCleared, CommitClears.have_cleared, CommitClears.first_low, CommitShape.stays_listed, CommitClears.first_high, CommitClears.held_still, CommitResult.settled_there, CommitResult.ending_closed, CommitResult.ending_cards, CommitResult.ending_grown, CommitResult.ending_spared, CommitResult.ending_alike, CommitResult.ended}
 use Rattle.hd_plan.proofs.commits.commit.Goals.{After-deref-regions, After-rewrite_pinned}
 use Rattle.hd_plan.proofs.commits.commit.Goals as goal
 
@@ -109,6 +109,7 @@ rewrite_pinned-requires c =
     (λ a. is_old_carded c.copy_moves.new.heap c.plan.inside.condemned a ≡ true) (place_in x)
     c.copy_moves.new.heap c.rewrite_carded.new.heap) c.rewrite_carded.ensures in
     record {
+      pinned = stays_listed _ c.args.heap.now b.1;
       laid = c.requires.laid;
       objects = from_second _ c.args.heap.now b.1 c.copy_moves.new.heap copied c.rewrite_carded.new.heap
           carded;
@@ -149,6 +150,7 @@ card_kept-requires c =
     c.settle_regions.ensures in
     let h5 = c.settle_regions.new.heap in
     record {
+      alike = ending_alike _ _ _ _ _ _ m.1.moved h5 m.1.settled h5 refl;
       spared = ending_spared _ _ _ _ _ _ m.1.moved h5 m.1.settled h5 refl;
       objects = settled_there _ _ _ _ _ _ m.1.moved h5 m.1.settled;
       fields = ending_closed _ _ _ _ _ _ m.1.moved h5 m.1.settled h5 refl;

@@ -1,21 +1,23 @@
-use Rattle.hd_plan.proofs.CommitCopies.{copied_starts, copied_may, copied_step}
+use Rattle.hd_plan.proofs.Basics.{arith}
+use Rattle.hd_plan.proofs.CommitCopies.{copied_starts, have_gone, may_open, may_run}
 use Rattle.hd_plan.proofs.copying.copy_moves.Goals as goal
 
-pub loop-object-init : goal.loop-object-init
-loop-object-init g c = copied_starts (g.F.Forward.place c.args.forward.now) c.args.heap.now c.args.moves.now
-
-pub copy_move-requires : goal.copy_move-requires
-copy_move-requires g c = record {
-  may_go = copied_may (g.F.Forward.place c.args.forward.now) c.args.heap.now c.loop-object.heap
-      c.args.moves.now c.loop-object.object-index c.requires.can_copy c.loop-object-test.true
-      c.loop-object.invariant (g.F.Forward.kept c.args.forward.now)
-      (c.requires.kept c.loop-object.object-index c.loop-object-test.true);
-  laid = c.requires.laid;
-  places = c.requires.places;
+pub loop-k-init : goal.loop-k-init
+loop-k-init g c = record {
+  copied = copied_starts (g.F.Forward.place c.args.forward.now) c.args.heap.now c.args.moves.now;
+  within = omega arith;
 }
 
-pub loop-object-preserved : goal.loop-object-preserved
-loop-object-preserved g c =
-    copied_step (g.F.Forward.place c.args.forward.now) c.args.heap.now c.loop-object.heap c.args.moves.now
-    c.loop-object.object-index c.requires.can_copy
-    c.loop-object-test.true c.loop-object.invariant c.copy_move.new.heap c.copy_move.ensures
+pub copy_from-k-requires-clause-may_go : goal.copy_from-k-requires-clause-may_go
+copy_from-k-requires-clause-may_go g c = λ moves. (
+  may_open c.requires.can_copy c.loop-k.invariant.copied moves c.requires.kept c.loop-k-test.true,
+  may_run c.requires.can_copy c.loop-k.invariant.copied moves c.requires.kept c.loop-k-test.true,
+)
+
+pub loop-k-preserved : goal.loop-k-preserved
+loop-k-preserved g c = record {
+  copied = have_gone (g.F.Forward.place c.args.forward.now) c.args.heap.now c.loop-k.heap
+      c.copy_from-k.new.heap c.args.moves.now c.loop-k.k c.copy_from-k.result c.requires.can_copy
+      c.loop-k-test.true c.loop-k.invariant.copied c.copy_from-k.ensures.on c.copy_from-k.ensures.gone;
+  within = c.copy_from-k.ensures.within;
+}

@@ -1,5 +1,5 @@
 use Rattle.hd_plan.proofs.Basics.{sym}
-use Rattle.hd_plan.proofs.ForwardTable.{region_is_quotient}
+use Rattle.hd_plan.proofs.RegionList.{region_is_quotient}
 use Rattle.hd_plan.proofs.places.region_number.Goals as goal
 
 pub returns : goal.returns

@@ -1,26 +1,28 @@
-use Rattle.hd_scan.proofs.Basics.{Addr, Handle, Rewrites, Row, Table, ap, extra_again, extra_of, fits_secondary, live_at, live_row, option_map, put_row, refl, rename_extra, row_of, subst, sym, ℕ, ⊎_elim, ◌∙◌, ◌≡◌}
+use Rattle.hd_scan.proofs.Basics.{Addr, Handle, None, Rewrites, Row, Some, Table, ap, extra_again, extra_of, fits_secondary, live_at, live_row, option_map, put_row, refl, rename_extra, row_of, subst, sym, ℕ, ⊎_elim, ◌∙◌, ◌≡◌}
 use Rattle.hd_model.specs.declared.data.Strength.{Strength}
-use Rattle.hd_scan.proofs.HandleRelocate.{handle_moved, extra_stays}
+use Rattle.hd_scan.proofs.HandleRelocate.{handle_moved, extra_stays, same_row}
 use Rattle.hd_model.specs.State as state
 use Rattle.hd_seg.specs.declared.row.Extra.TheVariants as extra
+use Rattle.hd_scan.proofs.relocation.relocate_row.Given.{Over}
+use Rattle.hd_scan.proofs.relocation.relocate_row.Goals.{In-Nothing}
 use Rattle.hd_scan.proofs.relocation.relocate_row.Goals as goal
 
 pub rewrite_row-requires-clause-fitting : goal.rewrite_row-requires-clause-fitting
 rewrite_row-requires-clause-fitting g c =
     let t : Table = c.args.seg.now in
     let h : Handle Addr = live_at t c.args.slot.0 in
-    let was_stored : c.row_of_kind-row.result ≡ row_of h = c.row_of_kind-row.ensures.value in
+    let was_stored : c.row_by-row.result ≡ row_of h = c.row_by-row.ensures.value in
     fits_secondary h.kind h.extra c.in-Secondary.secondary c.moved_name.result
     (sym (extra_again h.extra) ∙ ap (λ (r : Row). extra_of r.extra) (sym was_stored)
     ∙ ap extra_of c.in-Secondary.is)
-    (c.row_of_kind-row.ensures.table.rows c.args.slot.0 h (live_row t c.args.slot.0 c.requires.live)).fits
+    (c.row_by-row.ensures.table.rows c.args.slot.0 h (live_row t c.args.slot.0 c.requires.live)).fits
 
 pub returns-in-Secondary : goal.returns-in-Secondary
 returns-in-Secondary g c =
     let t : Table = c.args.seg.now in
     let h : Handle Addr = live_at t c.args.slot.0 in
     let place : Addr → Addr = g.F.Forward.place c.args.forward.now in
-    let was_stored : c.row_of_kind-row.result ≡ row_of h = c.row_of_kind-row.ensures.value in
+    let was_stored : c.row_by-row.result ≡ row_of h = c.row_by-row.ensures.value in
     let is : h.extra ≡ state.secondary c.in-Secondary.secondary =
     sym (extra_again h.extra) ∙ ap (λ (r : Row). extra_of r.extra) (sym was_stored)
     ∙ ap extra_of c.in-Secondary.is in
@@ -31,16 +33,15 @@ returns-in-Secondary g c =
     ∙ sym (ap (rename_extra place) is)))
     c.rewrite_row.ensures
 
-pub returns-in-Nothing : goal.returns-in-Nothing
-returns-in-Nothing g c =
-    let t : Table = c.args.seg.now in
-    let h : Handle Addr = live_at t c.args.slot.0 in
+-- an extra without a secondary stays as it is
+stays : (g : Over) (c : In-Nothing g) → (live_at c.args.seg.now c.args.slot.0).extra
+    ≡ rename_extra (g.F.Forward.place c.args.forward.now) (live_at c.args.seg.now c.args.slot.0).extra
+stays g c =
+    let h : Handle Addr = live_at c.args.seg.now c.args.slot.0 in
     let place : Addr → Addr = g.F.Forward.place c.args.forward.now in
-    let row : Row = c.row_of_kind-row.result in
-    let was_stored : row ≡ row_of h = c.row_of_kind-row.ensures.value in
+    let row : Row = c.row_by-row.result in
     let held : h.extra ≡ extra_of row.extra =
-    sym (extra_again h.extra) ∙ ap (λ (r : Row). extra_of r.extra) (sym was_stored) in
-    let stays : h.extra ≡ rename_extra place h.extra =
+    sym (extra_again h.extra) ∙ ap (λ (r : Row). extra_of r.extra) (sym c.row_by-row.ensures.value) in
     ⊎_elim (λ e. extra_stays place h.extra state.nothing (held ∙ ap extra_of e) refl)
     (λ rest. ⊎_elim
     (λ (s : (x : Strength) × (row.extra ≡ extra.Strength x)).
@@ -48,7 +49,26 @@ returns-in-Nothing g c =
     (λ (s : (x : ℕ) × (row.extra ≡ extra.Count x)).
     extra_stays place h.extra (state.count s.0) (held ∙ ap extra_of s.1) refl)
     rest)
-    c.in-Nothing.is in
-    put_row t c.args.slot.0 _ _ c.set_row.new.self c.set_row.ensures
-    (handle_moved place h c.moved_name-target.result h.extra
-    (c.moved_name-target.ensures ∙ ap (λ (r : Row). option_map place r.target) was_stored) stays)
+    c.in-Nothing.is
+
+pub returns-in-Some : goal.returns-in-Some
+returns-in-Some g c =
+    let t : Table = c.args.seg.now in
+    let h : Handle Addr = live_at t c.args.slot.0 in
+    let place : Addr → Addr = g.F.Forward.place c.args.forward.now in
+    put_row t c.args.slot.0 _ _ c.retarget.new.self c.retarget.ensures
+    (handle_moved place h (Some c.moved.result) h.extra
+    (ap (λ x. Some x) c.moved.ensures ∙ sym (ap (option_map place) c.in-Some.is)
+    ∙ ap (λ (r : Row). option_map place r.target) c.row_by-row.ensures.value)
+    (stays g (goal.at.returns-in-Some g c).In-Nothing))
+
+pub returns-in_default : goal.returns-in_default
+returns-in_default g c =
+    let t : Table = c.args.seg.now in
+    let h : Handle Addr = live_at t c.args.slot.0 in
+    let place : Addr → Addr = g.F.Forward.place c.args.forward.now in
+    let none : h.target ≡ None = ap (λ (r : Row). r.target) (sym c.row_by-row.ensures.value) ∙ c.in_default.is in
+    same_row t c.args.slot.0 _
+    (live_row t c.args.slot.0 c.requires.live
+    ∙ ap (λ q. Some q) (handle_moved place h h.target h.extra (none ∙ sym (ap (option_map place) none))
+    (stays g (goal.at.returns-in_default g c).In-Nothing)))

@@ -1,6 +1,7 @@
-use Rattle.hd_ages.proofs.Basics.{Advances, CLUMPS, IsOver, MatchOption, Option, ap, arith, cases_lt, map, set_bits, subst, sym, ℕ, ⊎_elim, ◌+◌, ◌<◌, ◌∙◌}
-use Rattle.hd_ages.proofs.WalkSteps.{over, new_clump, new_block}
-use Rattle.hd_ages.proofs.ClumpBits.{first_and_rest, none_first}
+use Rattle.hd_ages.proofs.Basics.{Advances, CLUMP, IsOver, MatchOption, Option, ap, arith, bit_and, contains_key, clump_at, length, length-map, map, nat_le, refl, set_bits, slice_index, slots_of, subst, sym, ℕ, ◌*◌, ◌+◌, ◌/◌, ◌≤◌, ◌∙◌, ◌≡◌, ROWS}
+use Rattle.hd_ages.proofs.WalkSteps.{due_of, new_block, over}
+use Rattle.hd_ages.proofs.WalkSlots.{few_places}
+use Rattle.hd_ages.proofs.ClumpBits.{both_bits, rows_by_bits}
 use Rattle.hd_ages.proofs.due_rows.DueRows.advance.Goals as goal
 
 pub returns-in_err-block-clause-goes : goal.returns-in_err-block-clause-goes
@@ -9,38 +10,36 @@ returns-in_err-block-clause-goes g c =
     (λ x. Advances c.args.seg.now c.args.ages.now c.args.self.now c.args.self.now c.args.steps.now
     c.args.steps.now))
     (sym c.from_residual.ensures)
-    (over c.args.seg.now c.args.ages.now c.args.self.now c.in_err-block.was c.requires.none)
+    (over c.args.seg.now c.args.ages.now c.args.self.now (sym c.block_at.ensures.value ∙ c.in_err-block.was)
+    c.requires.none)
 
-pub enter-requires-clause-low : goal.enter-requires-clause-low
-enter-requires-clause-low g c = (c.requires.on.block c.in_ok-block.block c.in_ok-block.was).low
+pub overflow_add-self : goal.overflow_add-self
+overflow_add-self g c =
+    let few = few_places c.args.seg.now c.block_at.ensures.table c.args.ages.now c.args.self.now.n
+    c.args.self.now.kind c.args.self.now.next c.in_ok-block.block
+    (sym c.block_at.ensures.value ∙ c.in_ok-block.was) in
+    omega arith
 
-pub enter-requires-clause-high : goal.enter-requires-clause-high
-enter-requires-clause-high g c = (c.requires.on.block c.in_ok-block.block c.in_ok-block.was).high
-
-pub returns-in-Some-clause-on : goal.returns-in-Some-clause-on
-returns-in-Some-clause-on g c = let few : c.in-Some.clump < CLUMPS =
-    ⊎_elim (λ l. l) (λ le. absurd
-    (omega (arith, c.in-Some.ensures.set, c.requires.on.clumps c.in-Some.clump le)))
-    (cases_lt c.in-Some.clump CLUMPS) in record {
-      block = λ b e. c.requires.on.block b (sym c.enter.ensures.block ∙ e);
-      clumps = λ i le. omega (arith, c.enter.ensures.fewer i, c.requires.on.clumps i le);
-      first = let lt = c.requires.on.block c.in_ok-block.block c.in_ok-block.was in
-          omega (arith, c.enter.ensures.first, c.enter.ensures.table.limit, lt.high, few);
-    }
-
-pub returns-in-Some-clause-goes : goal.returns-in-Some-clause-goes
-returns-in-Some-clause-goes g c =
-    new_clump c.args.seg.now c.args.ages.now c.args.self.now c.enter.new.self c.in_ok-block.block
-    c.in-Some.clump c.args.steps.now _ (omega arith) c.in_ok-block.was c.requires.none
-    (first_and_rest _ _ c.in-Some.clump (sym c.lowest.ensures.first ∙ c.in-Some.is) c.enter.ensures.clumps)
-    c.enter.ensures.block c.enter.ensures.n
-    (ap (λ (f : ℕ). map (λ row. f + row) (set_bits c.enter.new.self.rows)) c.enter.ensures.first
-    ∙ c.enter.ensures.rows)
-
-pub returns-in-None-clause-goes : goal.returns-in-None-clause-goes
-returns-in-None-clause-goes g c =
-    new_block c.args.seg.now c.args.ages.now c.after.ensures.table c.args.self.now c.go_to.new.self
-    c.in_ok-block.block c.args.steps.now c.after.result c.in_ok-block.was
-    (c.requires.on.block c.in_ok-block.block c.in_ok-block.was).handles c.requires.none
-    (none_first _ (sym c.lowest.ensures.first ∙ c.in-None.is)) c.go_to.ensures.after c.go_to.ensures.due
-    c.after.ensures.value
+pub returns-clause-goes : goal.returns-clause-goes
+returns-clause-goes g c =
+    let b : ℕ = c.in_ok-block.block in
+    let n : ℕ = c.args.self.now.n in
+    let young = λ (clump : ℕ). nat_le (slice_index c.args.ages.now clump) n in
+    let mask : ℕ = bit_and c.rows_of.result c.live_rows.result in
+    let low : 1 ≤ b = omega (arith, c.in_ok-block.ensures.within) in
+    let rows : map (λ row. ROWS * b + row) (set_bits mask)
+    ≡ slots_of c.args.seg.now (due_of c.args.ages.now n b) =
+    rows_by_bits c.args.seg.now young mask b low
+    (λ i lt. both_bits c.rows_of.result c.live_rows.result i (young (clump_at b (i / CLUMP)))
+    (contains_key c.args.seg.now.rows (ROWS * b + i))
+    (c.rows_of.ensures i lt ∙ c.due-due.ensures.bits (i / CLUMP) (omega arith))
+    (c.live_rows.ensures.bits i lt)) in
+    new_block c.args.seg.now c.args.ages.now c.args.self.now _ b
+    (sym c.block_at.ensures.value ∙ c.in_ok-block.was) refl refl refl c.args.steps.now c.tick_each.new.steps
+    c.requires.none rows
+    (omega (
+      arith,
+      c.tick_each.ensures,
+      ap length c.due-due.ensures.clumps,
+      length-map (set_bits c.due-due.result) (clump_at b),
+    ))

@@ -1,15 +1,13 @@
-use Rattle.hd_ages.proofs.Basics.{DueRows, List, ap, arith, bit_at, length, sym, ℕ, ◌+◌, ◌∙◌}
+use Rattle.hd_ages.proofs.Basics.{DueRows, List, ap, arith, length, sym, ℕ, ◌+◌, ◌∙◌}
 use Rattle.hd_ages.proofs.WalkSteps.{gives, same_clumps}
 use Rattle.hd_ages.proofs.due_rows.DueRows.next.Goals as goal
 
 pub returns-clause-on : goal.returns-clause-on
 returns-clause-on g c =
-    let same = c.take_row.ensures.after in
     let on = c.loop-self.invariant.on in
     record {
-      block = λ b e. on.block b (sym (ap (λ (w : DueRows). w.block) same) ∙ e);
-      clumps = λ i le. ap (λ (w : DueRows). bit_at w.clumps i) same ∙ on.clumps i le;
-      first = omega (arith, on.first, ap (λ (w : DueRows). w.first) same);
+      first = omega (arith, on.first, ap (λ (w : DueRows). w.first) c.take_row.ensures.after);
+      few = on.few;
     }
 
 pub returns-clause-row : goal.returns-clause-row

@@ -1,4 +1,4 @@
-use Rattle.hd_ages.proofs.Basics.{IsOn, blocks_from, clumps_to_come, length, slots_to_come, ◌+◌, ◌≡◌}
+use Rattle.hd_ages.proofs.Basics.{IsOn, blocks_to_come, clumps_to_come, length, slots_to_come, ◌+◌, ◌≡◌}
 use Rattle.hd_ages.proofs.due_rows.DueRows.next.Given as goal
 
 abbrev pub invariant-loop-self : goal.invariant-loop-self
@@ -10,5 +10,4 @@ invariant-loop-self g l = record {
 }
 
 abbrev pub decreases-loop-self : goal.decreases-loop-self
-decreases-loop-self g l =
-    length (clumps_to_come l.seg l.ages l.self) + length (blocks_from l.seg l.self.block)
+decreases-loop-self g l = length (blocks_to_come l.seg l.self)

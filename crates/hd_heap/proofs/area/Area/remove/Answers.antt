@@ -1,4 +1,4 @@
-use Rattle.hd_heap.proofs.Basics.{CARD, Contents, HEADER, ap, arith, both_ways, contents, false, get_or, get_or-set_other, get_or-set_same, length, length-set, object_at, refl, set, size_of, subst, sym, true, without_object, ℕ, ◌+◌, ◌-◌, ◌/◌, ◌∙◌, ◌≡◌, ◌≢◌, ◌≤◌}
+use Rattle.hd_heap.proofs.Basics.{CARD, Contents, HEADER, ap, arith, both_ways, contents, false, get_or, get_or-set_other, get_or-set_same, length, length-set, object_at, refl, set, size_of, sym, true, without_object, ℕ, ◌+◌, ◌-◌, ◌/◌, ◌∙◌, ◌≡◌, ◌≤◌}
 use Rattle.hd_heap.proofs.Areas.{live_at, count_at, area_taken}
 use Rattle.hd_heap.proofs.area.Area.remove.Goals as goal
 

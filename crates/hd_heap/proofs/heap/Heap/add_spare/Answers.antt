@@ -1,18 +1,19 @@
 use Rattle.hd_heap.proofs.Basics.{Area, Err, List, Ok, OnOk, Result, [], ap, arith, deque_capacity, false, is_err, sym, ◌++◌, ◌+◌, ◌∙◌, ◌∷◌, ◌≡◌}
 use Rattle.hd_heap.proofs.{RegionReads.opened, RegionReads.IsHeap, RegionUse.heap_lists, RegionUse.heap_roomy, RegionUse.region_added}
+use Rattle.hd_heap.proofs.{Basics.refl, HeapFlags.flags_by, HeapFlags.flags_same}
 use Rattle.hd_heap.proofs.heap.Heap.add_spare.Goals as goal
 
 pub invariant_of-self-then-is_err-2 : goal.invariant_of-self-then-is_err-2
 invariant_of-self-then-is_err-2 c =
     let heap = heap_lists c.reserve.ensures.items c.reserve-2.ensures.items
     (heap_roomy (opened c.self.inside c.self.view_is c.self.invariant) c.reserve-2.ensures.capacity) in
-    (heap.kept, heap.full)
+    (heap.kept, heap.full, flags_by c.self.view_is heap.view (λ f. f) c.self.invariant.2)
 
 pub invariant_of-self-in_default : goal.invariant_of-self-in_default
 invariant_of-self-in_default c =
     let heap = heap_lists c.reserve.ensures.items c.reserve-2.ensures.items
     (heap_roomy (opened c.self.inside c.self.view_is c.self.invariant) c.reserve-2.ensures.capacity) in
-    (heap.kept, heap.full)
+    (heap.kept, heap.full, flags_by c.self.view_is heap.view (λ f. f) c.self.invariant.2)
 
 -- what is said of a success
 from_ok : {A E : Type 0} (r : Result A E) (P : Type 0) → is_err r ≡ false → OnOk r P → P
@@ -39,7 +40,11 @@ added c =
     omega (arith, room, c.reserve-2.ensures.len, known, c.len-number.ensures, c.len.ensures))
 
 pub invariant_of-self-2 : goal.invariant_of-self-2
-invariant_of-self-2 c = ((added c).kept, (added c).full)
+invariant_of-self-2 c = (
+  (added c).kept,
+  (added c).full,
+  flags_by c.self.view_is (added c).view (flags_same c.args.self.now _ refl refl) c.self.invariant.2,
+)
 
 pub returns-clause-ok : goal.returns-clause-ok
 returns-clause-ok c = (c.len-number.result + 1, (added c).view)

@@ -1,4 +1,4 @@
-use Rattle.hd_heap.proofs.Basics.{arith, refl, ◌-◌}
+use Rattle.hd_heap.proofs.Basics.{arith, refl}
 use Rattle.hd_heap.proofs.RegionReads.{opened, held_index}
 use Rattle.hd_heap.proofs.heap.Heap.first_open.Goals as goal
 

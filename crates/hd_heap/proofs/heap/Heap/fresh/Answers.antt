@@ -1,4 +1,5 @@
 use Rattle.hd_heap.proofs.{RegionReads.opened, RegionUse.spare_read, RegionUse.region_held}
+use Rattle.hd_heap.proofs.{Basics.refl, HeapFlags.flags_by, HeapFlags.flags_same}
 use Rattle.hd_heap.proofs.heap.Heap.fresh.Goals as goal
 
 pub hold-requires : goal.hold-requires
@@ -18,8 +19,11 @@ invariant_of-self c =
     c.index_mut.ensures.value in
     let is = region_held heap c.hold.new.self c.args.generation c.still_current-self-inside.result at
     c.hold.ensures.area c.hold.ensures.held c.pop_front.ensures.rest c.pop_front.ensures.capacity
-    c.still_current-self-inside.ensures in
-    (is.kept, is.full)
+    c.still_current-self-inside.ensures in (
+      is.kept,
+      is.full,
+      flags_by heap.view is.view (flags_same _ _ refl refl) c.self.invariant.2,
+    )
 
 pub returns : goal.returns
 returns c =

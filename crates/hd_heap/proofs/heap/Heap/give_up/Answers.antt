@@ -1,5 +1,6 @@
 use Rattle.hd_heap.proofs.Basics.{arith, deque_capacity, set, without_region, ◌-◌}
 use Rattle.hd_heap.proofs.{RegionReads.opened, RegionReads.held_index, RegionReads.held_read, RegionReads.IsHeap, RegionReads.IsHeldAt, RegionUse.cells_counted, RegionUse.objects_counted, RegionUse.region_freed, RegionUse.held_counted}
+use Rattle.hd_heap.proofs.{HeapFlags.flags_by, HeapFlags.flags_left}
 use Rattle.hd_heap.proofs.heap.Heap.give_up.Goals.{After-index_mut, After-push_back_reserved}
 use Rattle.hd_heap.proofs.heap.Heap.give_up.Goals as goal
 
@@ -58,7 +59,13 @@ freed c =
     now.cells now.count c.push_back_reserved.ensures.items c.push_back_reserved.ensures.capacity
 
 pub invariant_of-self : goal.invariant_of-self
-invariant_of-self c = ((freed c).kept, (freed c).full)
+invariant_of-self c =
+    let heap = opened c.self.inside c.self.view_is c.self.invariant in
+    let is = freed c in (
+      is.kept,
+      is.full,
+      flags_by heap.view is.view (flags_left c.args.self.now c.args.region) c.self.invariant.2,
+    )
 
 pub returns : goal.returns
 returns c = (freed c).view

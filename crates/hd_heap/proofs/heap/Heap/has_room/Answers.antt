@@ -1,4 +1,4 @@
-use Rattle.hd_heap.proofs.Basics.{Contents, HasRoom, Region, ap, arith, both_ways, le-leb, leb-true, refl, sym, ◌-◌, ◌∙◌}
+use Rattle.hd_heap.proofs.Basics.{Contents, HasRoom, Region, ap, arith, both_ways, le-leb, leb-true, refl, sym, ◌∙◌}
 use Rattle.hd_heap.proofs.RegionReads.{opened, place_read, held_index, held_read, located_by}
 use Rattle.hd_heap.proofs.heap.Heap.has_room.Goals.{then-region-eq0-via-then-region-eq0, then-region-eq0-via-else-region-eq0+then-region-len}
 use Rattle.hd_heap.proofs.heap.Heap.has_room.Goals as goal

@@ -1,8 +1,10 @@
-use Rattle.hd_heap.proofs.Basics.{HEADER, REGION, Region, ap, arith, deque_capacity, length-replicate, new_object, region_at, region_generation, set, size_of, sym, ℕ, ◌*◌, ◌+◌, ◌≡◌}
+use Rattle.hd_heap.proofs.Basics.{HEADER, REGION, Region, ap, arith, deque_capacity, length-replicate, new_object, region_at, region_generation, set, size_of, sym, ℕ, ◌*◌, ◌+◌, ◌∙◌, ◌≡◌}
+use Rattle.std.proofs.lemmas.Bool.{or_parts}
 use Rattle.hd_cells.specs.Object.{new_object as new_region_object}
 use Rattle.hd_model.specs.Heap.{region_of}
 use Rattle.hd_heap.specs.Calls.{with_put}
 use Rattle.hd_heap.proofs.{RegionReads.opened, RegionReads.held_index, RegionReads.held_read, RegionReads.IsHeap, RegionChanges.object_put, RegionChanges.place_free, RegionChanges.new_placed, HeapSoundness.cells_small, HeapSoundness.objects_small}
+use Rattle.hd_heap.proofs.{Basics.refl, HeapFlags.flags_by, HeapFlags.flags_written}
 use Rattle.hd_heap.proofs.heap.Heap.put.Goals.{After-put-offset}
 use Rattle.hd_heap.proofs.heap.Heap.put.Goals as goal
 
@@ -63,7 +65,16 @@ put c =
     (omega (arith, c.requires.room, ap (λ (x : Region). x.fill) at.region)) c.put-offset.ensures.put
 
 pub invariant_of-self : goal.invariant_of-self
-invariant_of-self c = let is = put ((goal.at.invariant_of-self c).After-put-offset) in (is.kept, is.full)
+invariant_of-self c =
+    let heap = opened c.self.inside c.self.view_is c.self.invariant in
+    let is = put ((goal.at.invariant_of-self c).After-put-offset) in (
+      is.kept,
+      is.full,
+      flags_by heap.view is.view
+          (flags_written c.args.self.now _ _ _ refl refl
+          (λ off. (or_parts _ _ (sym c.noted-self-inside.ensures ∙ off)).0)
+          (λ off. (or_parts _ _ (sym c.noted-self-inside.ensures ∙ off)).1)) c.self.invariant.2,
+    )
 
 pub returns : goal.returns
 unfolding region_of

@@ -1,6 +1,7 @@
 use Rattle.hd_heap.proofs.Basics.{REGION, ap, arith, contents, deque_capacity, forwarded, object_at, placed_at, region_forwarded, set, sym, true, ◌%◌, ◌∙◌, ◌≡◌, ◌≢◌}
 use Rattle.hd_heap.specs.Calls.{with_object}
 use Rattle.hd_heap.proofs.{RegionReads.opened, RegionReads.index_of, RegionReads.found_read, RegionReads.object_of, RegionReads.IsHeap, RegionWrites.object_written, FieldForward.field_of, FieldForward.forwarded_placed}
+use Rattle.hd_heap.proofs.{Basics.refl, HeapFlags.flags_by, HeapFlags.flags_of, HeapFlags.flags_written}
 use Rattle.hd_heap.proofs.heap.Heap.rewrite_fields.Given.{Over}
 use Rattle.hd_heap.proofs.heap.Heap.rewrite_fields.Goals.{After-forward_fields}
 use Rattle.hd_heap.proofs.heap.Heap.rewrite_fields.Goals as goal
@@ -43,8 +44,15 @@ written g c =
     (rw c.offset_of.ensures at c.forward_fields.ensures.written)
 
 pub invariant_of-self : goal.invariant_of-self
-invariant_of-self g c = let is = written g ((goal.at.invariant_of-self g c).After-forward_fields) in
-    (is.kept, is.full)
+invariant_of-self g c =
+    let heap = opened c.self.inside c.self.view_is c.self.invariant in
+    let is = written g ((goal.at.invariant_of-self g c).After-forward_fields) in (
+      is.kept,
+      is.full,
+      flags_by heap.view is.view
+          (flags_written c.args.self.now _ _ _ refl refl (λ off. off)
+          (λ off. flags_of heap.view off c.args.at c.requires.object c.self.invariant.2)) c.self.invariant.2,
+    )
 
 pub returns : goal.returns
 returns g c = (written g ((goal.at.returns g c).After-forward_fields)).view

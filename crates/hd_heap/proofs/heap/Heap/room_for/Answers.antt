@@ -12,6 +12,7 @@ invariant_of-self c = (
       (sym (c.self.view_is ∙ c.fresh-region.ensures.held))
       (others_begun c.reserve_regions.new.self c.fresh-region.result
       (subst AreFull (sym c.reserve_regions.ensures.same) c.in_default.ensures)),
+  c.self.invariant.2,
 )
 
 pub returns-clause-ok : goal.returns-clause-ok

@@ -1,6 +1,9 @@
-use Rattle.hd_heap.proofs.Basics.{HasPart, Placed, REGION, ap, arith, contents, deque_capacity, object_at, placed_at, region_with_part, set, subst, sym, with_part, ◌%◌, ◌∙◌}
+use Rattle.hd_heap.proofs.Basics.{Bool, HasPart, Placed, REGION, ap, arith, contents, deque_capacity, false, object_at, placed_at, region_with_part, set, subst, sym, with_part, ◌%◌, ◌||◌, ◌∙◌, ◌≡◌}
+use Rattle.hd_heap.specs.Steps.{registers}
+use Rattle.std.proofs.lemmas.Bool.{or_parts}
 use Rattle.hd_heap.specs.Calls.{with_object}
 use Rattle.hd_heap.proofs.{RegionReads.opened, RegionReads.index_of, RegionReads.found_read, RegionReads.IsHeap, RegionWrites.object_written, RegionWrites.part_placed, RegionWrites.part_within}
+use Rattle.hd_heap.proofs.{Basics.refl, HeapFlags.flags_by, HeapFlags.flags_of, HeapFlags.flags_written, HeapFlags.part_noted}
 use Rattle.hd_heap.proofs.heap.Heap.write.Goals.{After-write}
 use Rattle.hd_heap.proofs.heap.Heap.write.Goals as goal
 
@@ -34,7 +37,21 @@ written c =
     (rw c.offset_of.ensures at c.write.ensures.written)
 
 pub invariant_of-self : goal.invariant_of-self
-invariant_of-self c = let is = written ((goal.at.invariant_of-self c).After-write) in (is.kept, is.full)
+invariant_of-self c =
+    let heap = opened c.self.inside c.self.view_is c.self.invariant in
+    let is = written ((goal.at.invariant_of-self c).After-write) in
+    let lower : c.noted-self-inside.result ≡ false → (c.self.inside.registering || registers c.args.part) ≡ false =
+    λ off. ap (λ (b : Bool). c.self.inside.registering || b) (sym c.registers.ensures)
+    ∙ sym c.noted-self-inside.ensures ∙ off in (
+      is.kept,
+      is.full,
+      flags_by heap.view is.view
+          (flags_written c.args.self.now _ _ _ refl refl (λ off. (or_parts _ _ (lower off)).0)
+          (λ off. part_noted (placed_at c.args.self.now c.args.at) c.args.part c.self.inside.registering
+          (lower off)
+          (λ none. flags_of heap.view none c.args.at c.requires.object c.self.invariant.2)))
+          c.self.invariant.2,
+    )
 
 pub returns : goal.returns
 returns c = (written ((goal.at.returns c).After-write)).view

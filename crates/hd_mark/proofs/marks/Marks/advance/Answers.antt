@@ -4,5 +4,8 @@ use Rattle.hd_mark.proofs.marks.Marks.advance.Goals as goal
 pub invariant_of-self : goal.invariant_of-self
 invariant_of-self c = advance_kept c.self.invariant c.args.self.now c.self.view_is c.requires
 
-pub returns : goal.returns
-returns c = advance_seen c.self.invariant c.args.self.now c.self.view_is c.requires
+pub returns-clause-after : goal.returns-clause-after
+returns-clause-after c = advance_seen c.self.invariant c.args.self.now c.self.view_is c.requires
+
+pub returns-clause-traced : goal.returns-clause-traced
+returns-clause-traced c = (advance_kept c.self.invariant c.args.self.now c.self.view_is c.requires).traced

@@ -24,13 +24,13 @@ pub loop-at-smaller : goal.loop-at-smaller
 loop-at-smaller c =
     let m : MarksOf = c.loop-at.self in
     subst (λ (k : MarksOf). work k.basis.heap k.marks k.unscanned < work m.basis.heap m.marks m.unscanned)
-    (sym (c.advance.ensures ∙ ap advanced c.scan.ensures))
+    (sym (c.advance.ensures.after ∙ ap advanced c.scan.ensures))
     (work_falls c.args.self.now m c.loop-at.invariant c.next_unscanned.ensures.traced c.in-Some.at _
     c.in-Some.ensures.next)
 
 pub loop-at-preserved : goal.loop-at-preserved
 loop-at-preserved c =
-    subst (IsDraining c.args.self.now) (sym (c.advance.ensures ∙ ap advanced c.scan.ensures))
+    subst (IsDraining c.args.self.now) (sym (c.advance.ensures.after ∙ ap advanced c.scan.ensures))
     (draining_on c.args.self.now c.loop-at.self c.loop-at.invariant c.next_unscanned.ensures.traced
     c.in-Some.at _ c.in-Some.ensures.next)
 

@@ -1,6 +1,9 @@
 use Rattle.hd_mark.proofs.Basics.{sym, ◌∙◌}
-use Rattle.hd_mark.proofs.MarksInvariant.{pin_seen, pin_kept}
+use Rattle.hd_mark.proofs.MarksInvariant.{spanned, pin_seen, pin_kept}
 use Rattle.hd_mark.proofs.marks.Marks.pin_also.Goals as goal
+
+pub bit-requires-clause-span : goal.bit-requires-clause-span
+bit-requires-clause-span c = spanned c.self.invariant c.args.self.now c.self.view_is c.args.at c.requires
 
 pub invariant_of-self : goal.invariant_of-self
 invariant_of-self c =

@@ -4,14 +4,15 @@ use Rattle.hd_mark.proofs.marks.Marks.scan.Goals as goal
 
 pub push-requires : goal.push-requires
 push-requires c =
-    let fields : List (Option Addr) = fields_at (object_at c.self.inside.heap.now) c.args.at in
+    let fields : List (Option Addr) = c.fields_of-fields.result in
     let within : c.loop-i.i < length fields = omega (
       arith,
       c.loop-i-test.true,
-      c.fields-i-end.ensures.count,
+      c.number-i-end.ensures.count,
     ) in
-    let named : Contains fields (Some c.in-Some.y) = member_at fields c.loop-i.i None (Some c.in-Some.y)
-    within (sym c.in-Some.ensures) in
+    let named : Contains (fields_at (object_at c.self.inside.heap.now) c.args.at) (Some c.in-Some.y) =
+    subst (λ (fs : List (Option Addr)). Contains fs (Some c.in-Some.y)) c.fields_of-fields.ensures
+    (member_at fields c.loop-i.i None (Some c.in-Some.y) within (sym c.in-Some.ensures)) in
     let closed : HasClosedFields (object_at c.self.inside.heap.now) =
     subst (λ (m : MarksOf). HasClosedFields (objects_of m.basis)) (sym c.self.view_is) c.requires.fields in
     let there : is_object (object_at c.self.inside.heap.now) c.in-Some.y ≡ true = closed c.args.at

@@ -1,5 +1,5 @@
-use Rattle.hd_mark.proofs.Basics.{fields_at, object_at, scanned, take, ◌≡◌}
+use Rattle.hd_mark.proofs.Basics.{scanned, take, ◌≡◌}
 use Rattle.hd_mark.proofs.marks.Marks.scan.Given as goal
 
 abbrev pub invariant-loop-i : goal.invariant-loop-i
-invariant-loop-i l = l.self ≡ scanned l.fn.self (take l.i (fields_at (object_at l.heap) l.at))
+invariant-loop-i l = l.self ≡ scanned l.fn.self (take l.i l.fields)

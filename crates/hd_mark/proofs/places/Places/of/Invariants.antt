@@ -1,9 +1,12 @@
-use Rattle.hd_mark.proofs.Basics.{length, ◌-◌, ◌≡◌}
-use Rattle.hd_mark.proofs.CondemnedWalks.{IsPlaced, end_of}
+use Rattle.hd_mark.proofs.Basics.{indices, length, ◌-◌, ◌≡◌}
+use Rattle.hd_mark.proofs.CondemnedWalks.{IsPlaced}
 use Rattle.hd_mark.proofs.places.Places.of.Given as goal
 
-abbrev pub invariant-loop-at : goal.invariant-loop-at
-invariant-loop-at l = IsPlaced l.heap l.n l.after l.places.items l.regions × (length l.places.items ≡ l.end)
+abbrev pub invariant-loop-region : goal.invariant-loop-region
+invariant-loop-region l = record {
+  placed : IsPlaced l.heap l.n l.after (indices l.places.items) l.regions;
+  long : length l.places.items ≡ l.fn.extent.end;
+}
 
-abbrev pub decreases-loop-at : goal.decreases-loop-at
-decreases-loop-at l = length l.places.items - end_of l.after
+abbrev pub decreases-loop-region : goal.decreases-loop-region
+decreases-loop-region l = length l.places.items - l.after

@@ -1,5 +1,5 @@
-use Rattle.hd_seg.proofs.Basics.{Block, Uses, ap, arith, extras_at, get, get_or_read, inl, inr, length, sym, ◌+◌, ◌<◌, ◌∙◌, ◌≤◌, ◌⊎◌}
-use Rattle.hd_seg.proofs.{FunctionMaps.get-mapped_out, ChainLinks.extras_is}
+use Rattle.hd_seg.proofs.Basics.{Uses, ap, arith, extras_at, get, inl, inr, sym, ◌+◌, ◌<◌, ◌∙◌, ◌≤◌, ◌⊎◌}
+use Rattle.hd_seg.proofs.FunctionMaps.{get-mapped_out}
 use Rattle.hd_seg.proofs.blocks.Blocks.extras.Goals.{then-block-eq0-via-then-block-eq0, then-block-eq0-via-else-block-eq0+then-block-self, Joined-then-block-eq0}
 use Rattle.hd_seg.proofs.blocks.Blocks.extras.Goals as goal
 
@@ -16,15 +16,6 @@ returns-then-block-eq0 c = record {
       (out c)) ∙ ap (λ (u : Uses). get u.extras c.args.block) c.self.view_is;
 }
 
-pub returns : goal.returns
-returns c =
-    let inside : c.args.block < length c.self.inside.table.items =
-    omega (arith, c.if-block-self.false, c.self.invariant.0.size) in
-    record {
-      value =
-          ap (λ (b : Block). b.extras)
-          (get_or_read c.self.inside.table.items c.args.block c.index.result.now inside c.index.ensures _)
-          ∙ sym (extras_is c.self.invariant.0 c.args.block
-          (omega (arith, c.if-block-eq0.false)) c.if-block-self.false)
-          ∙ ap (λ (u : Uses). get u.extras c.args.block) c.self.view_is;
-    }
+pub extras_of-requires-clause-high : goal.extras_of-requires-clause-high
+extras_of-requires-clause-high c =
+    omega (arith, c.if-block-self.false, ap (λ (u : Uses). u.table.blocks) c.self.view_is)

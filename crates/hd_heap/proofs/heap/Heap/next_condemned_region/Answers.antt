@@ -1,0 +1,60 @@
+use Rattle.hd_heap.proofs.Basics.{Condemned, REGION, arith, cases_lt, inl, inr, refl, ◌*◌, ◌+◌, ◌/◌}
+use Rattle.hd_model.specs.Heap.{region_of}
+use Rattle.hd_heap.proofs.{RegionReads.opened, RegionReads.place_read, RegionReads.IsPlace, RegionWalk.given_none, RegionWalk.wanted_place, HeapSoundness.sound, CondemnedSums.amount_some, CondemnedSums.region_amount}
+use Rattle.hd_heap.proofs.heap.Heap.next_condemned_region.Goals.{After-index}
+use Rattle.hd_heap.proofs.heap.Heap.next_condemned_region.Goals as goal
+
+place : (c : After-index)
+    → IsPlace c.self.inside.areas.items (c.loop-place.place + 1) c.loop-place.place c.index.result.now
+place c =
+    place_read c.self.inside.areas.items (c.loop-place.place + 1) c.loop-place.place c.index.result.now refl
+    (omega (arith, c.loop-place-test.true, c.len-place-end.ensures)) c.index.ensures
+
+pub has_condemned-requires : goal.has_condemned-requires
+has_condemned-requires c = c.self.invariant.0.each (c.loop-place.place + 1) c.index.result.now
+    (place ((goal.at.has_condemned-requires c).After-index)).here
+
+pub returns-then-has_condemned : goal.returns-then-has_condemned
+unfolding region_of
+returns-then-has_condemned c =
+    let heap = opened c.self.inside c.self.view_is c.self.invariant in
+    let p = place ((goal.at.returns-then-has_condemned c).After-index) in
+    let here = region_amount heap p c.args.n (c.has_condemned.ensures.young c.if-has_condemned.true) in
+    let (x, is) = amount_some here (c.has_condemned.ensures.some c.if-has_condemned.true) in
+    record {
+      walk = record {
+        at = x;
+        member = is.0;
+        region = is.1;
+        beyond = omega (arith, c.loop-place.auto.place);
+        least = λ a of later. omega (arith, c.loop-place.invariant a of later);
+      };
+      sound = sound heap;
+    }
+
+pub loop-place-preserved : goal.loop-place-preserved
+unfolding region_of
+loop-place-preserved c = λ a of later.
+    let heap = opened c.self.inside c.self.view_is c.self.invariant in
+    let p = place ((goal.at.loop-place-preserved c).After-index) in
+    let here = c.loop-place.invariant a of later in
+    let past = given_none heap (Condemned c.args.n) 0 ((c.loop-place.place + 1) * REGION)
+    ((c.loop-place.place + 1 + 1) * REGION) p
+    (λ q low. c.has_condemned.ensures.none c.if-has_condemned.false q) (omega arith) refl a of
+    (omega (arith, here)) in
+    omega (arith, past)
+
+pub returns : goal.returns
+unfolding region_of
+returns c =
+    let heap = opened c.self.inside c.self.view_is c.self.invariant in
+    record {
+      walk = λ a of. elim (cases_lt c.args.after (a.0 / REGION)) [
+        | inl later ↦
+            let p = wanted_place heap (Condemned c.args.n) a of in
+            absurd (let known = c.loop-place.invariant a of later in
+            omega (arith, known, p.1, p.2, c.loop-place-test.false, c.len-place-end.ensures))
+        | inr before ↦ before
+      ];
+      sound = sound heap;
+    }

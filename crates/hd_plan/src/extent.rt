@@ -1,0 +1,10 @@
+ghost use Rattle.hd_plan.specs.LaySteps.{IsToLay};
+
+use hd_heap::{Extent, Heap};
+
+/// How much there is to lay.
+pub(crate) fn extent(heap: &Heap, n: u8) -> Extent
+    ensures { IsToLay heap.now n result }
+{
+    heap.extent(n)
+}
