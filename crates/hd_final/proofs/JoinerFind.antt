@@ -247,5 +247,6 @@ module _ (h : Heap) (n : ℕ) (sound : IsSound h) where
       let (there, young) = and_parts _ _ next.member in (
         subst (λ k. is_in_use h k ≡ true) next.region (sound.held next.at there),
         subst (λ k. region_generation h k ≤ n) next.region
-            (let same = generation_is h next.at there in let low = leb-true _ _ young in omega (arith, same, low)),
+            (let same = generation_is h next.at there in let low = leb-true _ _ young in
+            omega (arith, same, low)),
       )

@@ -5,10 +5,10 @@ use Rattle.std.proofs.{lemmas.Map.Keys.IsDistinct-IsPermutation, lemmas.Map.Made
 use Rattle.hd_final.proofs.ObjectLookup.{placed_there, id_there, few_differ}
 
 -- a permutation of addresses that differ has addresses that differ
-abbrev is_address : Addr → Addr → Bool
+abbrev pub is_address : Addr → Addr → Bool
 is_address a b = a.0 == b.0
 
-address_decides : (a b : Addr) → Decides (is_address a b) (a ≡ b)
+pub address_decides : (a b : Addr) → Decides (is_address a b) (a ≡ b)
 address_decides a b =
     Decides-like (a.0 == b.0) (same_address a b) (λ e. ap (λ (c : Addr). c.0) e) (Decides-eqb a.0 b.0)
 
@@ -24,7 +24,7 @@ once_moved xs ys moves once =
     (IsDistinct-from_AllPairs address_decides xs once))
 
 -- two objects with one identity are one
-one_identity : (h : Heap) → HasIdentities h → (a b : Addr) → has_object h a ≡ true → has_object h b ≡ true
+pub one_identity : (h : Heap) → HasIdentities h → (a b : Addr) → has_object h a ≡ true → has_object h b ≡ true
     → (id_at h a).0 ≡ (id_at h b).0 → a ≡ b
 one_identity h identities a b is_a is_b same =
     let ids : id_at h a ≡ id_at h b = λ i. record { 0 = same i } in

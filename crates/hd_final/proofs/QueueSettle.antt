@@ -15,7 +15,7 @@ is_among (x ∷ xs) a =
 
 -- what the registration does not change is as it was
 module _ (xs : List Addr) (h now : Heap) (u : Unregisters xs h now) (a : Addr) where
-  same_by : {B : Type 0} (f : Option (Object Addr) → B)
+  pub same_by : {B : Type 0} (f : Option (Object Addr) → B)
       → ((o : Option (Object Addr)) → f (option_map unregistered o) ≡ f o)
       → f (object_at now a) ≡ f (object_at h a)
   same_by f alike =

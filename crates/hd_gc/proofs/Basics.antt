@@ -1,9 +1,9 @@
 -- The names that most proofs of this crate cite, passed on from one place.
-pub use Rattle.std.proofs.Common.{Bool, List, None, Option, Some, [], ap, arith, cond, drop, false, get_or, inl, inr, is_some, le_trans, length, map, not, refl, set, slice_index_or, subst, suc, sym, true, zero, ℕ, ⊎_elim, ◌&&◌, ◌*◌, ◌+◌, ◌-◌, ◌/◌, ◌<◌, ◌^◌, ◌||◌, ◌∙◌, ◌∷◌, ◌≡◌, ◌≤◌, ◌⊎◌}
-pub use Rattle.std.proofs.Math.Seq.{drop-append_seam}
+pub use Rattle.std.proofs.Common.{Bool, List, None, Option, Some, [], ap, arith, cond, drop, false, get_or, inl, inr, is_some, le_trans, length, map, not, refl, set, slice_index_or, subst, suc, sym, true, zero, ℕ, ⊎_elim, ◌&&◌, ◌*◌, ◌++◌, ◌+◌, ◌-◌, ◌/◌, ◌<◌, ◌==◌, ◌^◌, ◌||◌, ◌∙◌, ◌∷◌, ◌≡◌, ◌≤◌, ◌⊎◌}
+pub use Rattle.std.proofs.Math.Seq.{drop-append_seam, take-length}
 pub use Rattle.std.proofs.lemmas.Bool.{and_from, and_parts, cases_Bool, cases_eq, cases_lt, cond-false, cond-true, eq-eqb, eqb-true, false≢true, le-leb, le-ltb, leb-true, lt-ltb, ltb-false, ltb-true, not-true, not_from_false, or_cases, or_left, or_right, true≢false}
-pub use Rattle.std.proofs.lemmas.List.{length-map, take_all}
-pub use Rattle.std.proofs.lemmas.List.Elements.{Contains-get_or}
+pub use Rattle.std.proofs.lemmas.List.{length-map, nil_from_length, take_all, take_more}
+pub use Rattle.std.proofs.lemmas.List.Elements.{Contains-append_left, Contains-get_or, Contains-push, Contains-push_cases}
 pub use Rattle.std.proofs.lemmas.List.Sums.{sum_by_more}
 pub use Rattle.std.specs.Bool.{Decides}
 pub use Rattle.std.specs.FinMap.{get, len}
@@ -15,19 +15,20 @@ pub use Rattle.hd_gc.specs.Clearing.{Clears, marked_table}
 pub use Rattle.hd_gc.specs.Collected.{Collected, LeavesPacked}
 pub use Rattle.hd_gc.specs.Growing.{Holds, IsOldField, Promotes}
 pub use Rattle.hd_gc.specs.MarkAndClear.{FoundSets, MarkedAndCleared, Reports}
-pub use Rattle.hd_gc.specs.Marking.{Resurrected, Resurrection, Traced}
+pub use Rattle.hd_gc.specs.Marking.{MayRevive, Resurrected, Resurrection, Traced}
 pub use Rattle.hd_gc.specs.Ready.{IsReady, Parts, basis_of, parts, scene_of}
-pub use Rattle.hd_gc.specs.RelocateAll.{IsRenamed, NamesKept, RelocatedAll}
+pub use Rattle.hd_gc.specs.RelocateAll.{IsRenamed, MayRelocate, NamesKept, RelocatedAll}
 pub use Rattle.hd_gc.specs.Steps.{collected_steps, marked_steps, task_visits}
 pub use Rattle.hd_gc.specs.declared.mark_and_clear.Found.{Found}
 pub use Rattle.hd_heap.specs.Calls.{IsExtent, IsNext, IsWalk, is_after, is_old_carded}
 pub use Rattle.hd_mark.specs.Marks.{IsSettledMarks, MarksOf, first_marks, pinned_in, promoted_in}
-pub use Rattle.hd_model.proofs.EdgeChains.{grows_like, leads_on}
+pub use Rattle.hd_model.proofs.EdgeChains.{grows_like, grows_none, grows_on, leads_on}
 pub use Rattle.hd_model.proofs.EdgeInvariants.{grown_within, leads_like}
 pub use Rattle.hd_model.proofs.EqualTables.{due_again, due_faded, same_table_on, visits_alike, visits_same}
 pub use Rattle.hd_model.proofs.KindExtras.{pins_hold}
 pub use Rattle.hd_model.proofs.KindTests.{few_kinds, listed_kind}
 pub use Rattle.hd_model.proofs.MarkReach.{decides_kept, decides_reached, settled_closed, undue_in_place}
+pub use Rattle.hd_model.proofs.Members.{not_in_none}
 pub use Rattle.hd_model.proofs.MovedScenes.{moved_ages, moved_by_identity, moved_whole, whole_in_place}
 pub use Rattle.hd_model.proofs.PinTest.{pinned_held}
 pub use Rattle.hd_model.proofs.PropertyCounts.{counts_le, counts_like, counts_named, counts_once, counts_where}
@@ -53,4 +54,4 @@ pub use Rattle.hd_plan.specs.Commit.{IsSameShape, moved_object}
 pub use Rattle.hd_plan.specs.Plan.{HasNoEmptyRegion, IsLaid, PlanOf, StartsInRegion, kept_in, place_in, stays_in}
 pub use Rattle.hd_scan.specs.Tasks.{has_role, is_role, long_tasks, role_number, root_tasks, short_tasks, swept, takes, takes_any, task_kind}
 pub use Rattle.hd_scan.specs.declared.task.Task.{Task}
-pub use Rattle.hd_model.specs.declared.limits.TheConstants.{BLOCKS, CLUMP, LEFT, OPEN, REGION, ROWS}
+pub use Rattle.hd_model.specs.declared.limits.TheConstants.{BLOCKS, CLUMP, CLUMPS, LEFT, OPEN, REGION, ROWS}

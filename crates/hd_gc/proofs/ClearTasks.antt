@@ -1,21 +1,9 @@
 -- The passes of several tasks that clear, one after another.
-use Rattle.std.proofs.Common.{ℕ, ◌+◌, ◌<◌, false, List, take, length, get_or, refl, sym, subst}
-use Rattle.hd_model.specs.Table.{Table}
-use Rattle.hd_model.proofs.EqualTables.{same_table_on}
-use Rattle.hd_mark.specs.Marks.{MarksOf}
-use Rattle.hd_scan.specs.declared.task.Task.{Task}
-use Rattle.hd_scan.specs.Tasks.{takes, takes_any}
+use Rattle.hd_gc.proofs.Basics.{Clears, List, MarksOf, Table, Task, get_or, length, marked_table, refl, same_table_on, subst, sym, take, takes, takes_any, ℕ, ◌+◌, ◌<◌}
 use Rattle.hd_scan.specs.Passes.{ClearPass}
 use Rattle.hd_scan.specs.Whole.{WholeClear}
 use Rattle.hd_scan.proofs.TaskRoles.{short_cover, long_cover}
-use Rattle.hd_scan.proofs.TestedPasses.{clears_none, clears_twice, taken_more}
-use Rattle.hd_gc.specs.Clearing.{Clears, marked_table}
-
-pub none_cleared : (t : Table) (m : MarksOf) → Clears (λ h. false) t t m 0
-none_cleared t m = record {
-  whole = clears_none (marked_table t m);
-  table = record { chains = refl; uses = refl; blocks = refl };
-}
+use Rattle.hd_scan.proofs.TestedPasses.{clears_twice, taken_more}
 
 -- the pass of the next task of a list
 pub cleared_more : (ts : List Task) (i : ℕ) (d : Task) {old now next : Table} {m : MarksOf} {a b n : ℕ}

@@ -3,6 +3,8 @@ use Rattle.hd_gc.proofs.Basics.{Addr, Basis, Bool, Collected, Collects, Counts, 
 use Rattle.std.proofs.Math.Bool.{and-false, and-true}
 use Rattle.hd_model.specs.{declared.data.Id.Id, Compact.IsCompact}
 use Rattle.hd_model.proofs.{RenamedPins.pins_renamed, IdleCollection.cleared_same, RenamedReach.is_object_read, PinnedTargets.counts_objects, PinnedTargets.pinned_count}
+use Rattle.hd_model.specs.Heap.{id_in}
+use Rattle.hd_final.proofs.QueueRevive.{one_identity}
 use Rattle.hd_plan.specs.PackedRegions.{IsPacked}
 use Rattle.hd_gc.proofs.{LostRegistrations.same_used, LostRegistrations.same_full, KeptScene.goes_by, KeptScene.left_kept}
 
@@ -16,30 +18,11 @@ moved_survivor : (place : Addr → Addr) (n : ℕ) (resurrected : Bool) (v : Opt
     ≡ option_map (rename_object place) (option_map (survivor n resurrected) v)
 unfolding registered_by
 moved_survivor place n true None = refl
-moved_survivor place n true (Some o) = λ i. Some (record {
-  fields = map (option_map place) o.fields;
-  value = o.value;
-  generation = raised n o.generation;
-  registered = sym (and-false o.registered) i;
-})
+moved_survivor place n true (Some o) =
+    λ i. Some (record (moved_object place n o) { registered = sym (and-false o.registered) i })
 moved_survivor place n false None = refl
-moved_survivor place n false (Some o) = λ i. Some (record {
-  fields = map (option_map place) o.fields;
-  value = o.value;
-  generation = raised n o.generation;
-  registered = sym (and-true o.registered) i;
-})
-
--- an object at an address is an entry there
-placed : (h : Heap) (x : Addr) → is_object (object_at h) x ≡ true → (p : Placed)
-    × (get h.objects x.0 ≡ Some p)
-placed h x e = by (get h.objects x.0) refl e
-  where
-    by : (o : Option Placed) → get h.objects x.0 ≡ o
-        → is_some (option_map (object_in (region_generation h (region_of x))) o) ≡ true → (p : Placed)
-        × (get h.objects x.0 ≡ Some p)
-    by None at k = absurd (true≢false (sym k))
-    by (Some p) at k = (p, at)
+moved_survivor place n false (Some o) =
+    λ i. Some (record (moved_object place n o) { registered = sym (and-true o.registered) i })
 
 module _ {A Z : Parts} {t2 : Table} {q2 : Queue} {n : ℕ} {plan : PlanOf} {found : Found} {report : Report}
     {joined s0 s1 s2 : ℕ} (ready : IsReady A)
@@ -156,28 +139,20 @@ module _ {A Z : Parts} {t2 : Table} {q2 : Queue} {n : ℕ} {plan : PlanOf} {foun
 
   identities_after : HasIdentities Z.heap
   identities_after a b p r at_a at_b same =
-      let left : (x : Addr) × ((kept_in plan x ≡ true) × (Place x ≡ record { 0 = a })) =
-      sh.commits.only (record { 0 = a })
-      (ap (λ o. is_some (option_map (object_in (region_generation Z.heap (region_of (record { 0 = a })))) o))
-      at_a) in
-      let right : (y : Addr) × ((kept_in plan y ≡ true) × (Place y ≡ record { 0 = b })) =
-      sh.commits.only (record { 0 = b })
-      (ap (λ o. is_some (option_map (object_in (region_generation Z.heap (region_of (record { 0 = b })))) o))
-      at_b) in
-      let x : Addr = left.0 in
-      let y : Addr = right.0 in
-      let (px, at_x) = placed A.heap x (sf.keeping.objects x left.1.0) in
-      let (py, at_y) = placed A.heap y (sf.keeping.objects y right.1.0) in
-      let id_a : id_at A.heap x ≡ p.id =
-      sym (same_id x left.1.0) ∙ ap (id_at Z.heap) left.1.1 ∙ ap Rattle.hd_model.specs.Heap.id_in at_a in
-      let id_b : id_at A.heap y ≡ r.id =
-      sym (same_id y right.1.0) ∙ ap (id_at Z.heap) right.1.1 ∙ ap Rattle.hd_model.specs.Heap.id_in at_b in
-      let ids : px.id ≡ py.id =
-      sym (ap Rattle.hd_model.specs.Heap.id_in at_x) ∙ id_a ∙ same ∙ sym id_b
-      ∙ ap Rattle.hd_model.specs.Heap.id_in at_y in
-      let numbers : x.0 ≡ y.0 = ready.identities x.0 y.0 px py at_x at_y ids in
-      let names : x ≡ y = λ i. record { 0 = numbers i } in
-      ap (λ (z : Addr). z.0) (sym left.1.1 ∙ ap Place names ∙ right.1.1)
+      let (x, left) = found_at a p at_a in
+      let (y, right) = found_at b r at_b in
+      let names = one_identity A.heap ready.identities x y (sf.keeping.objects x left.0)
+      (sf.keeping.objects y right.0)
+      (ap (λ (i : Id). i.0) (sym (same_id x left.0) ∙ ap (id_at Z.heap) left.1 ∙ ap id_in at_a ∙ same
+      ∙ sym (ap id_in at_b) ∙ sym (ap (id_at Z.heap) right.1) ∙ same_id y right.0)) in
+      ap (λ (z : Addr). z.0) (sym left.1 ∙ ap Place names ∙ right.1)
+    where
+      found_at : (a : ℕ) (p : Placed) → get Z.heap.objects a ≡ Some p
+          → (x : Addr) × ((kept_in plan x ≡ true) × (Place x ≡ record { 0 = a }))
+      found_at a p at =
+          let c : Addr = record { 0 = a } in
+          sh.commits.only c
+          (ap (λ o. is_some (option_map (object_in (region_generation Z.heap (region_of c))) o)) at)
 
   -- as many objects are there after it as are kept
   few_objects : len Z.heap.objects ≤ len A.heap.objects
@@ -216,7 +191,7 @@ module _ {A Z : Parts} {t2 : Table} {q2 : Queue} {n : ℕ} {plan : PlanOf} {foun
         (moved_ages ready.whole (goes_by ready sf rp) moved A.ages ready.ages_sound);
     cards_sound = λ x y field younger. (sh.commits.cards (Rattle.hd_model.specs.Heap.card_of x)).1
         (record { from = x; to = y; in_card = refl; field = field; younger = younger });
-    full = sh.commits.full (same_full sf.sets.joins A.heap sh.middle unregisters ready.full);
+    full = sh.commits.full (same_full unregisters ready.full);
     clumps =
         ap length sh.aged ∙ length-map A.ages (raised n) ∙ ready.clumps
         ∙ ap (λ b. 4 * b) (sym table_after.blocks);
@@ -308,7 +283,7 @@ module _ {A Z : Parts} {t2 : Table} {q2 : Queue} {n : ℕ} {plan : PlanOf} {foun
     older = λ x old. stays x (sf.keeping.older x old) (sf.keeping.in_place x old);
     aged = sh.aged;
     cards = sh.commits.cards;
-    used = le_trans sh.commits.used (same_used sf.sets.joins A.heap sh.middle unregisters);
+    used = le_trans sh.commits.used (same_used unregisters);
     limit = sh.commits.limit ∙ ap (λ (g : Heap). g.limit) unregisters.same;
     table = table_after;
     room = room_after;

@@ -1,5 +1,5 @@
 -- What is resurrected and kept, by what is reached and by the rows that the clearing of short handles left.
-use Rattle.hd_gc.proofs.Basics.{Bool, Contains, Counts, Decides, Handle, IsAttached, IsEdge, IsKept, IsOut, IsReached, IsToBeFinalized, List, None, Object, Objects, Option, Resurrection, Role, Rows, Scene, Some, [], and_from, and_parts, ap, attaches, cases_Bool, counts_like, decides_kept, false, false≢true, generation_at, generation_in, has_role, inl, inr, is_role, le-leb, leads_like, leb-true, mapped_value, nat_le, not, not-true, not_from_false, option_map, refl, role, short, swept, sym, true, true≢false, ℕ, ⊎_elim, ◌&&◌, ◌∙◌, ◌≡◌, ◌≤◌}
+use Rattle.hd_gc.proofs.Basics.{Bool, Contains, Counts, Decides, Handle, IsAttached, IsEdge, IsKept, IsOut, IsReached, IsToBeFinalized, List, Objects, Resurrection, Role, Rows, Scene, Some, [], ap, attaches, cases_Bool, counts_like, decides_kept, false, has_role, inl, inr, is_role, leads_like, mapped_value, option_map, refl, role, short, swept, sym, true, true≢false, ℕ, ⊎_elim, ◌∙◌, ◌≡◌}
 use Rattle.hd_gc.proofs.HandleRoles.{other_stays}
 
 -- dependent handles whose rows stay
@@ -45,38 +45,6 @@ module _ {N : Type 0} (r : Role) (p : N → Bool) (before after : Rows N)
         (λ a. inr (attached_like after before
         (λ slot h e is. row_before slot h e (ap (is_role r) is ∙ apart)) x y a))
 
--- a test for a registered condemned object outside a set
-abbrev pub is_registered : {N : Type 0} → Option (Object N) → Bool
-is_registered None = false
-is_registered (Some o) = o.registered
-
-abbrev pub is_out : {N : Type 0} → Objects N → ℕ → (N → Bool) → N → Bool
-is_out o n p x = is_registered (o x) && (nat_le (generation_at o x) n && not (p x))
-
-module _ {N : Type 0} (o : Objects N) (n : ℕ) (p : N → Bool) where
-  out_from : (x : N) (v : Option (Object N)) → o x ≡ v → is_registered v ≡ true → generation_in v ≤ n
-      → p x ≡ false → IsOut o n p x
-  out_from x None e registered young out = absurd (false≢true registered)
-  out_from x (Some object) e registered young out = record {
-    object = object;
-    is_stored = e;
-    registered = registered;
-    young = young;
-    out = out;
-  }
-
-  pub out_decides : (x : N) → Decides (is_out o n p x) (IsOut o n p x)
-  out_decides x = (
-    λ e.
-        let (registered, rest) = and_parts (is_registered (o x)) _ e in
-        let (young, out) = and_parts (nat_le (generation_at o x) n) (not (p x)) rest in
-        out_from x (o x) refl registered (leb-true (generation_at o x) n young) (not-true (p x) out),
-    λ h. and_from (is_registered (o x)) _ (ap is_registered h.is_stored ∙ h.registered)
-        (and_from (nat_le (generation_at o x) n) (not (p x))
-        (ap (λ v. nat_le (generation_in v) n) h.is_stored ∙ le-leb h.object.generation n h.young)
-        (not_from_false (p x) h.out)),
-  )
-
 module _ {N : Type 0} (s : Scene N) (n : ℕ) (reach : N → Bool)
     (reach_is : (x : N) → Decides (reach x) (IsReached s n x)) where
   pub out_resurrected : (x : N) → IsOut s.object n reach x → IsToBeFinalized s n x
@@ -97,12 +65,6 @@ module _ {N : Type 0} (s : Scene N) (n : ℕ) (reach : N → Bool)
     out = ⊎_elim (λ e. absurd (v.lost ((reach_is x).0 e))) (λ e. e) (cases_Bool (reach x));
   }
 
-  pub resurrected_decides : (x : N) → Decides (is_out s.object n reach x) (IsToBeFinalized s n x)
-  resurrected_decides x = (
-    λ e. out_resurrected x ((out_decides s.object n reach x).0 e),
-    λ v. (out_decides s.object n reach x).1 (resurrected_out x v),
-  )
-
   module _ {rows : Rows N}
       (short_rows : (slot : ℕ) → rows slot ≡ option_map (swept true (has_role short) reach) (s.handle slot))
       {rank : N → ℕ} {kept : N → Bool} {after : List N}
@@ -122,14 +84,15 @@ module _ {N : Type 0} (s : Scene N) (n : ℕ) (reach : N → Bool)
           ),
         ))
 
-    pub joins_decide : (x : N) → Decides (is_out s.object n reach x) (Contains v.joins x)
-    joins_decide x = (
-      λ e. (v.joins_are x).1 ((out_decides s.object n reach x).0 e),
-      λ h. (out_decides s.object n reach x).1 ((v.joins_are x).0 h),
-    )
+    -- where a test finds those that join the queue, it finds what is resurrected
+    module _ {test : N → Bool} (finds : (x : N) → Decides (test x) (Contains v.joins x)) where
+      pub resurrected_decides : (x : N) → Decides (test x) (IsToBeFinalized s n x)
+      resurrected_decides x = (
+        λ e. out_resurrected x ((v.joins_are x).0 ((finds x).0 e)),
+        λ w. (finds x).1 ((v.joins_are x).1 (resurrected_out x w)),
+      )
 
-  pub resurrections_counted : (k : ℕ) → Counts (IsOut s.object n reach) k
-      → Counts (λ x. is_out s.object n reach x ≡ true) k
-  resurrections_counted k =
-      counts_like (IsOut s.object n reach) (λ x. is_out s.object n reach x ≡ true) k
-      (λ x h. (out_decides s.object n reach x).1 h) (λ x e. (out_decides s.object n reach x).0 e)
+      pub resurrections_counted : (k : ℕ) → Counts (IsOut s.object n reach) k → Counts (λ x. test x ≡ true) k
+      resurrections_counted k =
+          counts_like (IsOut s.object n reach) (λ x. test x ≡ true) k
+          (λ x h. (finds x).1 ((v.joins_are x).1 h)) (λ x e. (v.joins_are x).0 ((finds x).0 e))

@@ -1,5 +1,5 @@
 -- The scene that a collection leaves in place, by what was found: what it references is kept.
-use Rattle.hd_gc.proofs.Basics.{Addr, Basis, Contains, Counts, Found, GoesBy, IsCondemned, IsReady, IsRemoved, IsSurviving, IsWhole, LosesAs, MarkedAndCleared, NamesKept, Parts, PlanOf, Queue, Report, Reports, Scene, Some, Table, attaches, counts_like, false, id_at, is_object, kept_in, left_by, left_from, long, object_at, objects_of, row_at, scene_of, short, subst, survivor, sym, true, whole_in_place, ℕ, ◌∙◌, ◌≡◌}
+use Rattle.hd_gc.proofs.Basics.{Addr, Basis, CLUMPS, Contains, Counts, Found, GoesBy, IsCondemned, IsReady, IsRemoved, IsSurviving, IsWhole, LosesAs, MarkedAndCleared, MayRelocate, Parts, PlanOf, Queue, Report, Reports, Scene, Table, ap, attaches, counts_like, false, id_at, is_object, kept_in, left_by, left_from, long, object_at, objects_of, scene_of, short, subst, survivor, sym, true, whole_in_place, ℕ, ◌*◌, ◌∙◌, ◌≡◌}
 use Rattle.hd_model.proofs.MapEntries.{some_value}
 
 module _ {A : Parts} {t2 : Table} {q2 : Queue} {n : ℕ} {plan : PlanOf} {found : Found} {report : Report}
@@ -61,21 +61,22 @@ module _ {A : Parts} {t2 : Table} {q2 : Queue} {n : ℕ} {plan : PlanOf} {found 
       sf.plan_kept x
       ∙ (left_from (sf.sets.kept x) (survivor n (sf.sets.resurrected x)) (object_at A.heap x) o at).0
 
-  pub rows_kept : NamesKept (kept_in plan) (row_at t2)
-  rows_kept = record {
-    targets =
-        λ slot g x is_stored e. left_kept x (whole_left.targets slot g x (sym (sf.rows slot) ∙ is_stored) e);
-    secondaries = λ slot g x is_stored e.
-        left_kept x (whole_left.secondaries slot g x (sym (sf.rows slot) ∙ is_stored) e);
+  -- so the plan may be carried out
+  pub may_relocate : MayRelocate (record A { table = t2; queue = q2 }) plan
+  may_relocate = record {
+    laid = sf.laid;
+    heap = ap (λ (g : Basis). g.heap) sf.basis;
+    cards = ready.cards_sound;
+    clumps = ready.clumps ∙ ap (λ b. CLUMPS * b) (sym sf.table.blocks);
+    rows = record {
+      targets = λ slot g x is e. left_kept x (whole_left.targets slot g x (sym (sf.rows slot) ∙ is) e);
+      secondaries = λ slot g x is e.
+          left_kept x (whole_left.secondaries slot g x (sym (sf.rows slot) ∙ is) e);
+    };
+    queued = kept;
+    objects = λ x is. sf.keeping.objects x (kept x is);
+    roots = λ x names. left_kept x (whole_left.named x names);
   }
-
-  pub queued_kept : (x : Addr) → Contains q2.queued x → kept_in plan x ≡ true
-  queued_kept x is_queued =
-      left_kept x (whole_left.queue x
-      (subst (λ (p : Queue). Contains p.queued x) sf.queue is_queued))
-
-  pub queued_objects : (x : Addr) → Contains q2.queued x → is_object (object_at A.heap) x ≡ true
-  queued_objects x is_queued = sf.keeping.objects x (queued_kept x is_queued)
-
-  pub roots_kept : (x : Addr) → Contains A.roots (Some x) → kept_in plan x ≡ true
-  roots_kept x names = left_kept x (whole_left.named x names)
+    where
+      kept : (x : Addr) → Contains q2.queued x → kept_in plan x ≡ true
+      kept x is = left_kept x (whole_left.queue x (subst (λ (p : Queue). Contains p.queued x) sf.queue is))

@@ -1,9 +1,11 @@
 -- The phases between the start of the marks and the plan, one after another.
-use Rattle.hd_gc.proofs.Basics.{Addr, Basis, Bool, CLUMP, Clears, Contains, Counts, FoundSets, IsAllDetached, IsClosed, IsCondemned, IsEdge, IsField, IsKeeping, IsLaid, IsLostAt, IsOut, IsPinned, IsReady, IsSameTable, List, MarkedAndCleared, MarksOf, MayVisitDue, Objects, Parts, PlanOf, Queue, Resurrected, Resurrection, Scene, Table, Traced, [], ap, arith, basis_of, cases_lt, counts_like, due_again, generation_at, has_role, held, id_at, inl, is_object, kept_in, long, long_tasks, marked_steps, object_at, objects_of, parts, pinned_held, pinned_in, place_in, promoted_in, queued, reached_on, refl, root_reached, row_at, same_table_on, scene_of, short, short_tasks, stays_in, subst, sym, task_visits, true, visits_of, visits_same, ℕ, ⊎_elim, ◌*◌, ◌+◌, ◌∙◌, ◌≡◌, ◌≤◌}
-use Rattle.std.proofs.Common.{length}
-use Rattle.hd_mark.specs.Marks.{IsSettledMarks, log_of}
+use Rattle.hd_gc.proofs.Basics.{Addr, Basis, Bool, CLUMP, Clears, Contains, Counts, Decides, FoundSets, IsAllDetached, IsClosed, IsCondemned, IsField, IsKeeping, IsLaid, IsLostAt, IsOut, IsPinned, IsReady, IsSameTable, IsSettledMarks, List, MarkedAndCleared, MarksOf, MayRevive, MayVisitDue, Objects, Parts, PlanOf, Queue, Resurrected, Resurrection, Scene, Table, Traced, [], ap, arith, basis_of, cases_lt, counts_like, due_again, generation_at, has_role, held, id_at, inl, is_after, is_object, kept_in, length, long, long_tasks, marked_steps, object_at, objects_of, parts, pinned_held, pinned_in, place_in, promoted_in, queued, reached_on, refl, root_reached, row_at, same_table_on, scene_of, short, short_tasks, stays_in, subst, sym, task_visits, true, visits_of, visits_same, ℕ, ⊎_elim, ◌*◌, ◌+◌, ◌∙◌, ◌≡◌}
+use Rattle.std.specs.Set.{is_member}
+use Rattle.std.proofs.lemmas.Map.Made.{is_member-Decides}
+use Rattle.hd_final.proofs.QueueRevive.{address_decides, is_address}
+use Rattle.hd_mark.specs.Marks.{log_of}
 use Rattle.hd_gc.proofs.ClearedRows.{ready_due, cleared_due, tasks_alike}
-use Rattle.hd_gc.proofs.KeptObjects.{edge_before, is_out, resurrected_decides, kept_decides, joins_decide, resurrections_counted}
+use Rattle.hd_gc.proofs.KeptObjects.{edge_before, resurrected_decides, kept_decides, resurrections_counted}
 use Rattle.hd_gc.proofs.LostTargets.{cleared_rows, short_losses, long_losses, dependent_losses}
 use Rattle.hd_model.specs.declared.data.Kind.TheVariants as kind
 
@@ -37,21 +39,20 @@ module _ {A : Parts} {n s0 s1 : ℕ} {m1 : MarksOf} (ready : IsReady A) (tr : Tr
   due2 = due_again tr.basis refl due1
 
   -- the room that was taken for dependent handles is still enough
-  pub room2 : {taken room : ℕ} → taken ≡ CLUMP * visits_of A.table A.ages n kind.Dependent → room ≡ taken
-      → CLUMP * visits_of t1 A.ages n kind.Dependent ≤ room
-  room2 first same =
-      omega (arith, first, same, visits_same A.table t1 A.ages n kind.Dependent clear1.table)
-
-  pub fields2 : IsClosed (IsField O) (promoted_in m1)
-  fields2 x y e f = (tr.reach_is y).1 (reached_on n S x y ((tr.reach_is x).0 e) (inl f))
-
-  pub edges2 : IsClosed (IsEdge O (row_at t1)) (promoted_in m1)
-  edges2 x y e f =
-      (tr.reach_is y).1 (reached_on n S x y ((tr.reach_is x).0 e)
-      (edge_before short (promoted_in m1) (row_at A.table) (row_at t1) clear1.whole.swept refl O x y f))
-
-  pub queued2 : (x : Addr) → Contains A.queue.queued x → promoted_in m1 x ≡ true
-  queued2 x is_queued = (tr.reach_is x).1 (root_reached n S x (queued is_queued))
+  pub may_revive : {taken room : ℕ} → taken ≡ CLUMP * visits_of A.table A.ages n kind.Dependent
+      → room ≡ taken → MayRevive (parts A.heap t1 A.ages A.queue []) n m1 room
+  may_revive first same = record {
+    settled = tr.settled;
+    basis = tr.basis;
+    due = due2;
+    cards = ready.cards_sound;
+    edges = λ x y e f. (tr.reach_is y).1 (reached_on n S x y ((tr.reach_is x).0 e)
+        (edge_before short (promoted_in m1) (row_at A.table) (row_at t1) clear1.whole.swept refl O x y f));
+    queued = λ x is. (tr.reach_is x).1 (root_reached n S x (queued is));
+    identities = ready.identities;
+    room = ready.room;
+    handles = omega (arith, first, same, visits_same A.table t1 A.ages n kind.Dependent clear1.table);
+  }
 
   -- up to that of long ones
   module _ {m3 : MarksOf} {after : List Addr} {s2 s3 : ℕ}
@@ -82,6 +83,10 @@ module _ {A : Parts} {n s0 s1 : ℕ} {m1 : MarksOf} (ready : IsReady A) (tr : Tr
         (same3 : IsSameTable t2 t3) (lost : Counts (IsLostAt (row_at t2) Kept) dep_n)
         {resurrected_n : ℕ} (resurrections : Counts (IsOut O n Reach) resurrected_n) {kept_n : ℕ}
         (kept : Counts (λ x. IsCondemned O n x × (Kept x ≡ true)) kept_n) where
+      joins_are : (x : Addr)
+          → Decides (is_member is_address resurrection.joins x) (Contains resurrection.joins x)
+      joins_are = is_member-Decides address_decides resurrection.joins
+
       pub sets : FoundSets A n (record {
         kept = kept_n;
         short = short_n;
@@ -90,12 +95,17 @@ module _ {A : Parts} {n s0 s1 : ℕ} {m1 : MarksOf} (ready : IsReady A) (tr : Tr
         revived = resurrected_n;
       })
       sets = record {
-        decision = record
-            { reach = Reach; resurrected = is_out O n Reach; kept = Kept; joins = resurrection.joins };
+        decision = record {
+          reach = Reach;
+          resurrected = is_member is_address resurrection.joins;
+          kept = Kept;
+          joins = resurrection.joins;
+        };
         reach_is = tr.reach_is;
-        resurrected_is = resurrected_decides S n Reach tr.reach_is;
+        resurrected_is =
+            resurrected_decides S n Reach tr.reach_is clear1.whole.swept resurrection joins_are;
         kept_is = kept_decides S n Reach tr.reach_is clear1.whole.swept resurrection;
-        joins_are = joins_decide S n Reach tr.reach_is clear1.whole.swept resurrection;
+        joins_are = joins_are;
         rising = resurrection.rising;
         short =
             short_losses S Reach Kept clear1.whole.swept clear2.whole.swept detaches short_n
@@ -103,7 +113,9 @@ module _ {A : Parts} {n s0 s1 : ℕ} {m1 : MarksOf} (ready : IsReady A) (tr : Tr
         long =
             long_losses S Reach Kept clear1.whole.swept clear2.whole.swept detaches long_n clear2.whole.count;
         dep = dependent_losses S Reach Kept clear1.whole.swept clear2.whole.swept detaches dep_n lost;
-        resurrections = resurrections_counted S n Reach tr.reach_is resurrected_n resurrections;
+        resurrections =
+            resurrections_counted S n Reach tr.reach_is clear1.whole.swept resurrection joins_are
+            resurrected_n resurrections;
       }
 
       same12 : IsSameTable A.table t2

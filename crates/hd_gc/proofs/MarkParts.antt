@@ -1,65 +1,45 @@
 -- What the marking comes to, part by part.
-use Rattle.std.proofs.lemmas.List.{nil_from_length}
-use Rattle.hd_model.proofs.Members.{not_in_none}
-use Rattle.hd_gc.proofs.Basics.{Bool, Contains, Counts, Decides, Grows, IsClosed, IsClosure, IsEdge, IsField, IsHeld, IsOut, IsReached, IsRoot, IsYoungField, Leads, List, Objects, Resurrection, Resurrects, Rows, Scene, Some, decides_reached, generation_at, grown_within, held, inl, inr, leads_like, leads_on, named, older, queued, reached_on, root_reached, subst, true, ℕ, ⊎_elim, ◌<◌, ◌≡◌}
+use Rattle.hd_gc.proofs.Basics.{Bool, Contains, Counts, Decides, Grows, IsClosed, IsClosure, IsEdge, IsField, IsHeld, IsOut, IsReached, IsRoot, IsYoungField, Leads, List, Objects, Resurrection, Resurrects, Rows, Scene, Some, decides_reached, generation_at, grown_within, held, inl, inr, leads_like, leads_on, named, nil_from_length, not_in_none, older, queued, reached_on, root_reached, subst, true, ℕ, ⊎_elim, ◌<◌, ◌≡◌, ◌⊎◌}
 
 -- a field of a condemned object is an edge
 pub young_edge : {N : Type 0} (o : Objects N) (rows : Rows N) (n : ℕ) (x y : N) → IsYoungField o n x y
     → IsEdge o rows x y
 young_edge o rows n x y e = inl e.field
 
--- from older objects, what the roots reference, the queue, the handles that hold, and what a set of fields of
--- older objects references, and then along all edges, exactly what is reached is promoted
-module _ {N : Type 0} (s : Scene N) (n : ℕ) (F : N → Type 0) (p0 p1 p2 p3 p4 q : N → Bool)
-    (starts : (x : N) → p0 x ≡ true → n < generation_at s.object x)
-    (has_older : (x : N) → n < generation_at s.object x → p0 x ≡ true)
+-- what a collection starts from, besides older objects: what the roots reference, the queue, what handles
+-- hold, and what a set of fields of older objects references
+abbrev pub Starts : {N : Type 0} → Scene N → (N → Type 0) → N → Type 0
+Starts s F x = ((Contains s.named (Some x) ⊎ Contains s.queue x) ⊎ IsHeld s.handle x) ⊎ F x
+
+-- from older objects and all these, and then along all edges, exactly what is reached is promoted
+module _ {N : Type 0} (s : Scene N) (n : ℕ) (F : N → Type 0) (p r q : N → Bool)
+    (starts : (x : N) → p x ≡ true → n < generation_at s.object x)
+    (has_older : (x : N) → n < generation_at s.object x → p x ≡ true)
     (fields : (y : N) → F y → (x : N) × ((n < generation_at s.object x) × IsField s.object x y))
-    (by_named : Grows (IsYoungField s.object n) (λ x. Contains s.named (Some x)) p0 p1)
-    (by_queue : Grows (IsYoungField s.object n) (λ x. Contains s.queue x) p1 p2)
-    (by_handles : Grows (IsYoungField s.object n) (IsHeld s.handle) p2 p3)
-    (by_fields : Grows (IsYoungField s.object n) F p3 p4)
-    (closure : IsClosure (IsEdge s.object s.handle) p4 q) where
+    (grows : Grows (IsYoungField s.object n) (Starts s F) p r)
+    (closure : IsClosure (IsEdge s.object s.handle) r q) where
   roots_in : (x : N) → IsRoot s n x → q x ≡ true
-  roots_in x (named h) =
-      closure.keeps x (by_fields.keeps x (by_handles.keeps x (by_queue.keeps x (by_named.joins x h))))
-  roots_in x (queued h) = closure.keeps x (by_fields.keeps x (by_handles.keeps x (by_queue.joins x h)))
-  roots_in x (held h) = closure.keeps x (by_fields.keeps x (by_handles.joins x h))
-  roots_in x (older l) =
-      closure.keeps x
-      (by_fields.keeps x (by_handles.keeps x (by_queue.keeps x (by_named.keeps x (has_older x l)))))
+  roots_in x (named h) = closure.keeps x (grows.joins x (inl (inl (inl h))))
+  roots_in x (queued h) = closure.keeps x (grows.joins x (inl (inl (inr h))))
+  roots_in x (held h) = closure.keeps x (grows.joins x (inl (inr h)))
+  roots_in x (older l) = closure.keeps x (grows.keeps x (has_older x l))
 
-  on_field : (x y : N) → IsReached s n x → IsYoungField s.object n x y → IsReached s n y
-  on_field x y h e = reached_on n s x y h (inl e.field)
-
-  only1 : (x : N) → p1 x ≡ true → IsReached s n x
-  only1 =
-      grown_within (IsYoungField s.object n) (λ x. Contains s.named (Some x)) (IsReached s n) p0 p1 on_field
-      (λ x h. root_reached n s x (older (starts x h))) (λ x h. root_reached n s x (named h)) by_named
-
-  only2 : (x : N) → p2 x ≡ true → IsReached s n x
-  only2 =
-      grown_within (IsYoungField s.object n) (λ x. Contains s.queue x) (IsReached s n) p1 p2 on_field only1
-      (λ x h. root_reached n s x (queued h)) by_queue
-
-  only3 : (x : N) → p3 x ≡ true → IsReached s n x
-  only3 =
-      grown_within (IsYoungField s.object n) (IsHeld s.handle) (IsReached s n) p2 p3 on_field only2
-      (λ x h. root_reached n s x (held h)) by_handles
-
-  only4 : (x : N) → p4 x ≡ true → IsReached s n x
-  only4 =
-      grown_within (IsYoungField s.object n) F (IsReached s n) p3 p4 on_field only3
-      (λ y h. let (x, both) = fields y h in
-      reached_on n s x y (root_reached n s x (older both.0)) (inl both.1)) by_fields
-
-  only : (x : N) → q x ≡ true → IsReached s n x
-  only x h =
-      let (r, rest) = closure.only x h in
-      let (root, chain) = only4 r rest.0 in
-      (root, (chain.0, leads_on (IsEdge s.object s.handle) chain.1 rest.1))
+  start_reached : (x : N) → Starts s F x → IsReached s n x
+  start_reached x (inl (inl (inl h))) = root_reached n s x (named h)
+  start_reached x (inl (inl (inr h))) = root_reached n s x (queued h)
+  start_reached x (inl (inr h)) = root_reached n s x (held h)
+  start_reached x (inr f) =
+      let (y, both) = fields x f in reached_on n s y x (root_reached n s y (older both.0)) (inl both.1)
 
   pub traced : (x : N) → Decides (q x) (IsReached s n x)
-  traced = decides_reached s n q roots_in closure.closed only
+  traced =
+      decides_reached s n q roots_in closure.closed (λ x h.
+      let (y, rest) = closure.only x h in
+      let (root, chain) =
+      grown_within (IsYoungField s.object n) (Starts s F) (IsReached s n) p r
+      (λ x y h e. reached_on n s x y h (inl e.field)) (λ x h. root_reached n s x (older (starts x h)))
+      start_reached grows y rest.0 in
+      (root, (chain.0, leads_on (IsEdge s.object s.handle) chain.1 rest.1)))
 
 -- what is out and joins, and what chains lead to from there
 pub resurrection : {N : Type 0} {rank : N → ℕ} (s : Scene N) {n : ℕ} {p r q : N → Bool} {after : List N}

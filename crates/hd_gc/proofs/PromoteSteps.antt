@@ -1,17 +1,5 @@
 -- Marks that promote from one set after another, and from the members of a list one by one.
-use Rattle.std.proofs.Common.{◌≡◌, ℕ, ◌+◌, ◌<◌, List, [], ◌∷◌, ◌++◌, Option, Some, length, get_or, take, refl, sym, ap, ◌∙◌, subst, ⊎_elim, ◌⊎◌}
-use Rattle.std.specs.Prelude.{Contains}
-use Rattle.std.proofs.Math.Seq.{take-length}
-use Rattle.std.proofs.lemmas.List.{take_more}
-use Rattle.std.proofs.lemmas.List.Elements.{Contains-append_left, Contains-push, Contains-push_cases}
-use Rattle.hd_model.specs.declared.data.Addr.{Addr}
-use Rattle.hd_model.specs.Leads.{Grows}
-use Rattle.hd_model.specs.Scene.{IsYoungField}
-use Rattle.hd_model.specs.Heap.{Basis, objects_of}
-use Rattle.hd_model.proofs.EdgeChains.{grows_on, grows_none, grows_like}
-use Rattle.hd_model.proofs.Members.{not_in_none}
-use Rattle.hd_mark.specs.Marks.{MarksOf, promoted_in, IsSettledMarks}
-use Rattle.hd_gc.specs.Growing.{Promotes}
+use Rattle.hd_gc.proofs.Basics.{Addr, Basis, Contains, Contains-append_left, Contains-push, Contains-push_cases, Grows, IsSettledMarks, IsYoungField, List, MarksOf, Promotes, [], ap, get_or, grows_like, grows_none, grows_on, length, objects_of, promoted_in, refl, subst, sym, take, take-length, take_more, ℕ, ⊎_elim, ◌++◌, ◌+◌, ◌<◌, ◌∙◌, ◌∷◌, ◌≡◌, ◌⊎◌}
 
 pub promotes_none : (S : Addr → Type 0) (m : MarksOf) → IsSettledMarks m → ((x : Addr) → S x → ⊥)
     → Promotes S m m
@@ -33,18 +21,26 @@ promotes_like S T m k to back a = record {
       back a.grows;
 }
 
+-- an edge of a collection: a field of a condemned object
+abbrev pub Edge : MarksOf → Addr → Addr → Type 0
+Edge m = IsYoungField (objects_of m.basis) m.basis.condemned
+
+-- one growth after another, over one basis
+pub grows_after : (S T : Addr → Type 0) (m k o : MarksOf) → k.basis ≡ m.basis
+    → Grows (Edge m) S (promoted_in m) (promoted_in k) → Grows (Edge k) T (promoted_in k) (promoted_in o)
+    → Grows (Edge m) (λ x. S x ⊎ T x) (promoted_in m) (promoted_in o)
+grows_after S T m k o basis a b =
+    grows_on (Edge m) S T (promoted_in m) (promoted_in k) (promoted_in o) a
+    (subst (λ (g : Basis). Grows (IsYoungField (objects_of g) g.condemned) T (promoted_in k) (promoted_in o))
+    basis b)
+
 pub promotes_on : (S T : Addr → Type 0) (m k o : MarksOf) → Promotes S m k → Promotes T k o
     → Promotes (λ x. S x ⊎ T x) m o
 promotes_on S T m k o a b = record {
   settled = b.settled;
   basis = b.basis ∙ a.basis;
   pinned = b.pinned ∙ a.pinned;
-  grows =
-      grows_on (IsYoungField (objects_of m.basis) m.basis.condemned) S T (promoted_in m) (promoted_in k)
-      (promoted_in o) a.grows
-      (subst (λ (g : Basis). Grows (IsYoungField (objects_of g) g.condemned) T (promoted_in k)
-      (promoted_in o))
-      a.basis b.grows);
+  grows = grows_after S T m k o a.basis a.grows b.grows;
 }
 
 -- from the first members of a list of references to one more
@@ -66,12 +62,3 @@ pub promoted_all : {A : Type 0} (name : Addr → A) (xs : List A) (i : ℕ) (m k
     → Promotes (λ x. Contains (take i xs) (name x)) m k → Promotes (λ x. Contains xs (name x)) m k
 promoted_all name xs i m k e a =
     subst (λ ys. Promotes (λ x. Contains ys (name x)) m k) (ap (λ j. take j xs) e ∙ take-length xs) a
-
-pub none_taken : {A : Type 0} (xs : List A) (x : A) → Contains (take 0 xs) x → ⊥
-none_taken xs x h = not_in_none x h
-
--- before the first member of a list of references
-pub named_first : (xs : List (Option Addr)) (m : MarksOf) → IsSettledMarks m
-    → Promotes (λ x. Contains (take 0 xs) (Some x)) m m
-named_first xs m settled =
-    promotes_none (λ x. Contains (take 0 xs) (Some x)) m settled (λ x h. not_in_none (Some x) h)

@@ -1,10 +1,10 @@
 -- The numbers of a report, from what was condemned and what of it is kept.
-use Rattle.hd_gc.proofs.Basics.{Addr, Bool, Counts, Heap, IsCondemned, IsExtent, and_from, and_parts, arith, cases_lt, cases_Bool, counts_like, false, generation_at, inl, inr, is_object, le-leb, leb-true, len, not, not-true, not_from_false, object_at, subst, true, ℕ, ⊎_elim, ◌+◌, ◌-◌, ◌<◌, ◌≡◌, ◌≤◌, ◌⊎◌}
+use Rattle.hd_gc.proofs.Basics.{Addr, Bool, Counts, Heap, IsCondemned, IsExtent, and_from, and_parts, arith, cases_Bool, cases_lt, counts_le, counts_like, counts_once, counts_where, false, generation_at, inl, inr, is_object, le-leb, leb-true, len, not, not-true, not_from_false, object_at, subst, true, ℕ, ⊎_elim, ◌+◌, ◌-◌, ◌<◌, ◌≡◌, ◌≤◌, ◌⊎◌}
 use Rattle.std.proofs.lemmas.Bool.{both_ways}
 use Rattle.hd_final.proofs.ObjectLookup.{few_differ}
 use Rattle.hd_heap.specs.Calls.{is_condemned}
 use Rattle.hd_heap.specs.declared.condemned.Extent.{Extent}
-use Rattle.hd_model.proofs.PropertyCounts.{counts_join, counts_le, counts_once, counts_where}
+use Rattle.hd_model.proofs.PropertyCounts.{counts_join}
 
 module _ (h : Heap) (n : ℕ) where
   condemned_is : (a : Addr) → IsCondemned (object_at h) n a → is_condemned h n a ≡ true

@@ -1,6 +1,18 @@
 -- The relocations of one kind after another update every row in a visited slot.
-use Rattle.hd_gc.proofs.Basics.{Addr, Bool, Handle, IsSameTable, Kind, List, NamesKept, None, Option, Some, Table, and_parts, ap, arith, cases_Bool, cases_lt, cond, eq-eqb, eqb-true, false, is_due, is_kind, kind_number, le-ltb, lt-ltb, mapped_value, nat_lt, option_map, or_left, or_right, refl, rename_handle, row_at, same_table_on, subst, sym, true, true≢false, ℕ, ⊎_elim, ◌&&◌, ◌+◌, ◌||◌, ◌∙◌, ◌≡◌}
+use Rattle.hd_gc.proofs.Basics.{Addr, Bool, Handle, IsSameTable, Kind, List, NamesKept, None, Option, Some, Table, and_parts, ap, arith, cond, false, is_due, is_kind, kind_number, mapped_value, nat_lt, option_map, refl, rename_handle, row_at, same_table_on, subst, sym, true, true≢false, ℕ, ◌&&◌, ◌+◌, ◌==◌, ◌||◌, ◌∙◌, ◌≡◌}
+use Rattle.std.proofs.lemmas.Bool.Decides.{nat_tests}
 use Rattle.hd_scan.specs.Relocation.{relocated, Relocates, CanRelocate, KeepsNames}
+
+-- a number j beside k, which is i
+module _ {i k : ℕ} (j : ℕ) (number : k ≡ i) where
+  not_below : (k == j) ≡ true → nat_lt j i ≡ false
+  not_below e = grind (arith, nat_tests)
+
+  apart : nat_lt j i ≡ true → (k == j) ≡ false
+  apart low = grind (arith, nat_tests)
+
+  below_more : nat_lt j (i + 1) ≡ (nat_lt j i || (k == j))
+  below_more = grind (arith, nat_tests)
 
 module _ (place : Addr → Addr) (ages : List ℕ) (n : ℕ) where
   -- a handle after the kinds whose number is below i
@@ -35,33 +47,6 @@ module _ (place : Addr → Addr) (ages : List ℕ) (n : ℕ) where
   -- a kind with the number i
   module _ {i : ℕ} {old now : Table} (done : IsRelocating i old now) (k : Kind)
       (number : kind_number k ≡ i) where
-    not_below : (j : Kind) → is_kind k j ≡ true → nat_lt (kind_number j) i ≡ false
-    not_below j e =
-        let same : kind_number k ≡ kind_number j = eqb-true (kind_number k) (kind_number j) e in
-        le-ltb (kind_number j) i (omega (arith, same, number))
-
-    apart : (j : Kind) → nat_lt (kind_number j) i ≡ true → is_kind k j ≡ false
-    apart j low =
-        ⊎_elim (λ e. absurd (true≢false (sym low ∙ not_below j e))) (λ no. no) (cases_Bool (is_kind k j))
-
-    below_more : (j : Kind) → nat_lt (kind_number j) (i + 1) ≡ (nat_lt (kind_number j) i || is_kind k j)
-    below_more j =
-        ⊎_elim
-        (λ low. lt-ltb (kind_number j) (i + 1) (omega arith)
-        ∙ sym (or_left (nat_lt (kind_number j) i) (is_kind k j) (lt-ltb (kind_number j) i low)))
-        (λ high. ⊎_elim
-        (λ e. let same : kind_number k ≡ kind_number j = eqb-true (kind_number k) (kind_number j) e in
-        lt-ltb (kind_number j) (i + 1) (omega (arith, same, number))
-        ∙ sym (or_right (nat_lt (kind_number j) i) (is_kind k j) e))
-        (λ no. ⊎_elim
-        (λ lower. absurd (true≢false (sym (eq-eqb (kind_number k) (kind_number j)
-        (omega (arith, lower, high, number))) ∙ no)))
-        (λ above. le-ltb (kind_number j) (i + 1) above
-        ∙ sym (λ v. le-ltb (kind_number j) i high v || no v))
-        (cases_lt (kind_number j) (i + 1)))
-        (cases_Bool (is_kind k j)))
-        (cases_lt (kind_number j) i)
-
     pub can_relocate : (kept : Addr → Bool) → NamesKept kept (row_at old) → CanRelocate kept ages n k now
     can_relocate kept w slot h is_stored visited =
         let (g, both) =
@@ -69,7 +54,8 @@ module _ (place : Addr → Addr) (ages : List ℕ) (n : ℕ) where
         let kind_is : h.kind ≡ g.kind = ap (λ (q : Handle Addr). q.kind) (sym both.1) ∙ kind_kept _ g in
         let still : g ≡ h =
         sym (ap (λ b. cond (b && is_due ages n slot) (rename_handle place g) g)
-        (not_below g.kind (ap (is_kind k) (sym kind_is) ∙ (and_parts _ _ visited).0))) ∙ both.1 in
+        (not_below (kind_number g.kind) number (ap (is_kind k) (sym kind_is) ∙ (and_parts _ _ visited).0)))
+        ∙ both.1 in
         subst (KeepsNames kept) still (record {
           target = λ x e. w.targets slot g x both.0 e;
           secondary = λ x e. w.secondaries slot g x both.0 e;
@@ -94,4 +80,4 @@ module _ (place : Addr → Addr) (ages : List ℕ) (n : ℕ) where
             (ap (λ (q : Kind). relocated (is_kind k q && is_due ages n slot) place (renamed_below i slot h))
             (kind_kept (below && is_due ages n slot) h)
             ∙ one_more below (is_kind k h.kind) (nat_lt (kind_number h.kind) (i + 1)) (is_due ages n slot) h
-            (apart h.kind) (below_more h.kind))
+            (apart (kind_number h.kind) number) (below_more (kind_number h.kind) number))

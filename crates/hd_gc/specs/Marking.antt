@@ -1,7 +1,9 @@
 -- What is promoted and pinned after the marking, and after the resurrection.
-use Rattle.std.specs.Prelude.{◌≡◌, ◌↔◌, ◌⊎◌, ℕ, ◌+◌, ◌<◌, Bool, true, List, ◌++◌, Contains, AllPairs}
+use Rattle.std.specs.Prelude.{◌≡◌, ◌↔◌, ◌⊎◌, ℕ, ◌+◌, ◌*◌, ◌<◌, ◌≤◌, Bool, true, List, ◌++◌, Contains, AllPairs}
 use Rattle.std.specs.Bool.{Decides}
-use Rattle.hd_model.specs.{declared.data.Addr.Addr, Leads.Leads, Leads.IsClosed, Scene.Scene, Scene.IsCondemned, Heap.object_at, Heap.id_at, Table.row_at, Visits.visits_of}
+use Rattle.std.specs.FinMap.{len}
+use Rattle.hd_model.specs.{declared.data.Addr.Addr, declared.limits.TheConstants.CLUMP, Leads.Leads, Leads.IsClosed, Scene.Scene, Scene.IsCondemned, Ages.HasSoundCards, Table.row_at, Visits.MayVisitDue, Visits.visits_of}
+use Rattle.hd_model.specs.Heap.{HasIdentities, id_at, is_carded, object_at}
 use Rattle.hd_model.specs.declared.data.Kind.TheVariants as kind
 use Rattle.hd_model.specs.Reach.{IsEdge, IsReached, IsPinned}
 use Rattle.hd_mark.specs.Marks.{MarksOf, promoted_in, pinned_in, IsSettledMarks}
@@ -19,6 +21,20 @@ pub record Traced (p : Parts) (n : ℕ) (new : MarksOf) (before after : ℕ) : T
       (x : Addr) → IsCondemned (object_at p.heap) n x → (pinned_in new x ≡ true) ↔ IsPinned (row_at p.table) x
   pub steps :
       after ≡ before + task_visits p.table p.ages n root_tasks + visits_of p.table p.ages n kind.Dependent
+
+-- what the resurrection needs: passes may visit what is due, what is promoted has the queue and is closed
+-- under edges, cards rule out what may be skipped, no two objects have one identity, and there is room for
+-- all objects and for all rows of dependent handles in visited clumps
+pub record MayRevive (p : Parts) (n : ℕ) (marks : MarksOf) (rows : ℕ) : Type 0 where
+  pub settled : IsSettledMarks marks
+  pub basis : marks.basis ≡ basis_of p n
+  pub due : MayVisitDue marks.basis p.table p.ages n
+  pub cards : HasSoundCards (object_at p.heap) (is_carded p.heap)
+  pub edges : IsClosed (IsEdge (object_at p.heap) (row_at p.table)) (promoted_in marks)
+  pub queued : (x : Addr) → Contains p.queue.queued x → promoted_in marks x ≡ true
+  pub identities : HasIdentities p.heap
+  pub room : len p.heap.objects ≤ p.queue.room
+  pub handles : CLUMP * visits_of p.table p.ages n kind.Dependent ≤ rows
 
 -- q is p with what is registered, condemned and outside p, and with what chains of edges lead to; those
 -- outside join the queue in rising rank

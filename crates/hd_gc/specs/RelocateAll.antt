@@ -1,9 +1,11 @@
 -- What the moving leaves.
-use Rattle.std.specs.Prelude.{◌≡◌, ℕ, ◌+◌, Bool, true, cond, List, Some, option_map, map, drop}
-use Rattle.hd_model.specs.{Kinds.all_kinds, Scene.Rows, Ages.is_due, Ages.grown, Heap.Heap, Table.row_at, Visits.IsSameTable, Visits.visits_over}
+use Rattle.std.specs.Prelude.{◌≡◌, ℕ, ◌+◌, ◌*◌, Bool, true, cond, List, Some, option_map, map, length, drop, Contains}
+use Rattle.hd_model.specs.declared.{data.Addr.Addr, limits.TheConstants.CLUMPS}
+use Rattle.hd_model.specs.Heap.{Heap, has_object, is_carded, object_at}
+use Rattle.hd_model.specs.{Kinds.all_kinds, Scene.Rows, Ages.HasSoundCards, Ages.is_due, Ages.grown, Table.row_at, Visits.IsSameTable, Visits.visits_over}
 use Rattle.hd_model.specs.State.{Handle, secondary_of, rename_handle}
 use Rattle.hd_final.specs.Settling.{Unregisters}
-use Rattle.hd_plan.specs.{Plan.PlanOf, Plan.place_in, Commit.Commits}
+use Rattle.hd_plan.specs.{Plan.PlanOf, Plan.IsLaid, Plan.kept_in, Plan.place_in, Commit.Commits}
 use Rattle.hd_gc.specs.Ready.{Parts}
 
 -- each target and each secondary is in a set
@@ -11,6 +13,18 @@ pub record NamesKept {N : Type 0} (kept : N → Bool) (rows : Rows N) : Type 0 w
   pub targets : (slot : ℕ) (h : Handle N) (x : N) → rows slot ≡ Some h → h.target ≡ Some x → kept x ≡ true
   pub secondaries :
       (slot : ℕ) (h : Handle N) (x : N) → rows slot ≡ Some h → secondary_of h.extra ≡ Some x → kept x ≡ true
+
+-- what the moving by a plan of a heap needs: cards rule out what may be skipped, there is an age for each
+-- clump, what is queued is an object, and what a row, the queue or a root references is kept
+pub record MayRelocate (p : Parts) (plan : PlanOf) : Type 0 where
+  pub laid : IsLaid plan
+  pub heap : plan.basis.heap ≡ p.heap
+  pub cards : HasSoundCards (object_at p.heap) (is_carded p.heap)
+  pub clumps : length p.ages ≡ CLUMPS * p.table.blocks
+  pub rows : NamesKept (kept_in plan) (row_at p.table)
+  pub queued : (x : Addr) → Contains p.queue.queued x → kept_in plan x ≡ true
+  pub objects : (x : Addr) → Contains p.queue.queued x → has_object p.heap x ≡ true
+  pub roots : (x : Addr) → Contains p.roots (Some x) → kept_in plan x ≡ true
 
 -- in a visited slot each reference is the new address
 abbrev pub IsRenamed : {N : Type 0} → List ℕ → ℕ → (N → N) → (before after : Rows N) → Type 0

@@ -1,13 +1,11 @@
 // What is kept: it is marked, and the handles of all else are cleared.
-ghost use Rattle.std.specs.Prelude.{◌≡◌, ◌*◌, ◌<◌, ◌≤◌, ◌^◌, true, [], Contains, IfOk, OnErr};
+ghost use Rattle.std.specs.Prelude.{◌≡◌, ◌<◌, ◌^◌, [], IfOk, OnErr};
 ghost use Rattle.std.specs.FinMap.{len};
-ghost use Rattle.hd_model.specs.declared.data.Kind.TheVariants as kind;
-ghost use Rattle.hd_model.specs.{Counting.Counts, Scene.IsField, Reach.IsEdge, Table.row_at, Leads.IsClosed, Visits.MayVisitDue, Visits.visits_of, Ages.HasSoundCards};
+ghost use Rattle.hd_model.specs.{Counting.Counts, Heap.object_at};
 ghost use Rattle.hd_final.specs.Resurrection.{IsOut};
-ghost use Rattle.hd_model.specs.Heap.{HasIdentities, is_carded, object_at};
-ghost use Rattle.hd_mark.specs.Marks.{IsSettledMarks, promoted_in};
+ghost use Rattle.hd_mark.specs.Marks.{promoted_in};
 ghost use Rattle.hd_plan.specs.Plan.{IsTakenPlan};
-ghost use Rattle.hd_gc.specs.{Ready.IsReady, Ready.parts, Marking.Resurrected, MarkAndClear.MarkedAndCleared};
+ghost use Rattle.hd_gc.specs.{Ready.IsReady, Ready.parts, Marking.MayRevive, Marking.Resurrected, MarkAndClear.MarkedAndCleared};
 
 use crate::clearing::{clear_long, clear_short};
 use crate::marking::trace;
@@ -16,7 +14,6 @@ use hd_dep::{DependentIndex, clear, follow};
 use hd_final::Final;
 use hd_heap::Heap;
 use hd_mark::Marks;
-use hd_model::limits::CLUMP;
 use hd_model::{Addr, Kind, Memory, PromotionLog, Steps};
 use hd_plan::Plan;
 use hd_seg::Seg;
@@ -46,23 +43,15 @@ fn revive<L: Ledger>(
     n: u8,
     steps: &mut Steps<L>,
 ) -> u32
-    requires settled { IsSettledMarks marks.old }
-    requires basis { marks.old.basis ≡ record { heap = heap.now; condemned = n } }
-    requires due { MayVisitDue marks.old.basis seg.now ages.now n }
-    requires cards { HasSoundCards (object_at heap.now) (is_carded heap.now) }
-    requires fields { IsClosed (IsField (object_at heap.now)) (promoted_in marks.old) }
-    requires edges { IsClosed (IsEdge (object_at heap.now) (row_at seg.now)) (promoted_in marks.old) }
-    requires queued { (x : Addr) → Contains fin.old.queued x → promoted_in marks.old x ≡ true }
-    requires identities { HasIdentities heap.now }
-    requires room { len heap.now.objects ≤ fin.old.room }
-    requires handles { CLUMP * visits_of seg.now ages.now n kind.Dependent ≤ index.old }
+    requires { MayRevive (parts heap.now seg.now ages.now fin.old []) n marks.old index.old }
     ensures room { fin.new.room ≡ fin.old.room }
     ensures resurrected { Resurrected (parts heap.now seg.now ages.now fin.old []) n marks.old
         marks.new fin.new.queued steps.old steps.new }
     ensures count { Counts (IsOut (object_at heap.now) n (promoted_in marks.old)) result }
 {
     let revived = fin.revive(heap, marks, n);
-    if revived == 0 {
+    let nobody = revived == 0;
+    if nobody {
         // Nothing was promoted since the last pass, so this one looks at no row of its clumps.
         pass_due(seg, ages, Kind::Dependent, n, steps);
         return revived;

@@ -1,10 +1,9 @@
 // The moving of what is kept, and the update of all references.
 ghost use Rattle.std.specs.Prelude.{◌≡◌, ◌+◌, ◌*◌, true, Some, length, map, option_map, Contains};
 ghost use Rattle.std.specs.Option.{ForSome};
-ghost use Rattle.hd_model.specs.Heap.{has_object, is_carded, object_at};
-ghost use Rattle.hd_model.specs.{Table.row_at, Ages.HasSoundCards, Kinds.all_kinds, Visits.IsSameTable, Visits.visits_over};
+ghost use Rattle.hd_model.specs.{Table.row_at, Kinds.all_kinds, Visits.IsSameTable, Visits.visits_over};
 ghost use Rattle.hd_plan.specs.Plan.{IsLaid, kept_in, place_in};
-ghost use Rattle.hd_gc.specs.RelocateAll.{NamesKept, IsRenamed, RelocatedAll};
+ghost use Rattle.hd_gc.specs.RelocateAll.{NamesKept, IsRenamed, MayRelocate, RelocatedAll};
 ghost use Rattle.hd_gc.specs.Ready.{parts};
 
 use hd_ages::AgeMap;
@@ -67,14 +66,7 @@ pub(crate) fn relocate_all<L: Ledger>(
     n: u8,
     steps: &mut Steps<L>,
 )
-    requires laid { IsLaid plan.old }
-    requires heap { plan.old.basis.heap ≡ heap.old }
-    requires cards { HasSoundCards (object_at heap.old) (is_carded heap.old) }
-    requires clumps { length ages.old ≡ CLUMPS * seg.old.blocks }
-    requires rows { NamesKept (kept_in plan.old) (row_at seg.old) }
-    requires queued { (x : Addr) → Contains fin.old.queued x → kept_in plan.old x ≡ true }
-    requires objects { (x : Addr) → Contains fin.old.queued x → has_object heap.old x ≡ true }
-    requires roots { (x : Addr) → Contains roots.old (Some x) → kept_in plan.old x ≡ true }
+    requires { MayRelocate (parts heap.old seg.old ages.old fin.old roots.old) plan.old }
     ensures plan { plan.new ≡ plan.old }
     ensures relocated_all { RelocatedAll (parts heap.old seg.old ages.old fin.old roots.old)
         (parts heap.new seg.new ages.new fin.new roots.new) plan.old joined n steps.old steps.new }

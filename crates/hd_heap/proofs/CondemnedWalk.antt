@@ -1,29 +1,19 @@
 -- Lemmas on the objects of a region by their headers.
-use Rattle.hd_heap.proofs.Basics.{Addr, Area, Contents, HEADER, Heap, IsFirstFrom, IsFirstIn, IsFirstObject, IsHeader, IsObject, List, None, Placed, REGION, Some, address, ap, arith, cases_lt, contents, get, has_object, inl, inr, is_some, length, length-map, object_at, option_map, placed_at, placed_in, placed_of, refl, subst, sym, unwrap_or, ℕ, ◌%◌, ◌*◌, ◌+◌, ◌/◌, ◌∙◌, ◌≡◌, ◌≤◌}
-use Rattle.hd_cells.specs.declared.region.Header.{Header}
-use Rattle.hd_model.specs.Heap.{region_of}
-use Rattle.hd_heap.specs.Areas.{area_at}
-use Rattle.hd_heap.specs.Walks.{IsWalkIn}
-use Rattle.hd_heap.proofs.{Areas.object_there, HeapValues.no_placed, RegionReads.IsHeap, RegionReads.IsHeldAt, RegionReads.has-get, RegionReads.is_some_map, RegionReads.objects_at}
+use Rattle.hd_heap.proofs.Basics.{Addr, Area, Bool, Contents, HEADER, Header, Heap, IsFirstFrom, IsFirstIn, IsFirstObject, IsHeader, IsObject, IsWalkIn, List, None, Placed, REGION, Some, address, ap, arith, cases_lt, contents, get, has_object, inl, inr, is_some, length, length-map, object_at, option_map, placed_at, placed_of, refl, region_of, subst, sym, unwrap_or, ℕ, ◌%◌, ◌*◌, ◌+◌, ◌/◌, ◌∙◌, ◌≡◌, ◌≤◌}
+use Rattle.hd_heap.proofs.{Areas.object_there, HeapValues.no_placed, RegionReads.IsHeap, RegionReads.IsHeldAt, RegionReads.has-get, RegionReads.is_some_map, RegionReads.read_in}
 
 -- a walk begins
-pub walk_begins : {areas : List Area} {spares : List ℕ} {limit capacity cells objects holds current : ℕ}
-    {h : Heap} → IsHeap areas spares limit capacity (cells, objects, holds) current h → {r k : ℕ} {a : Area}
+pub walk_begins : {areas : List Area} {spares : List ℕ} {limit capacity cells objects holds : ℕ}
+    {notes : ℕ × Bool × Bool} {h : Heap}
+    → IsHeap areas spares limit capacity (cells, objects, holds) notes h → {r k : ℕ} {a : Area}
     → IsHeldAt areas h r k a → (s : Contents) → s ≡ contents a → IsWalkIn h r 0 s
-walk_begins {areas = areas} {h = h} heap {r} {a = a} at s is =
-    subst (IsWalkIn h r 0) (sym is) (record {
-      held = at.there;
-      number = omega (arith, at.place.number, at.place.within, heap.kept.few);
-      reads = λ k low.
-          let n : ℕ = r * REGION + k in
-          let number : n / REGION ≡ r = omega (arith, low) in
-          let off : n % REGION ≡ k = omega (arith, low) in
-          objects_at heap n ∙ ap (λ m. placed_in (area_at areas m) (n % REGION)) number
-          ∙ ap (λ x. placed_in x (n % REGION)) at.place.here
-          ∙ ap (λ j. option_map placed_of (get (contents a).objects j)) off;
-      laid_out = at.area.laid_out;
-      ends = inl refl;
-    })
+walk_begins {h = h} heap {r} at s is = subst (IsWalkIn h r 0) (sym is) (record {
+  held = at.there;
+  number = omega (arith, at.place.number, at.place.within, heap.kept.few);
+  reads = read_in heap at.place;
+  laid_out = at.area.laid_out;
+  ends = inl refl;
+})
 
 module _ {h : Heap} {region end : ℕ} {r : Contents} (w : IsWalkIn h region end r) where
   -- where an object is

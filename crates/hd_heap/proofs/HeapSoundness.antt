@@ -1,7 +1,5 @@
 -- What is kept of the fields of a heap is what its users see.
-use Rattle.hd_heap.proofs.Basics.{Addr, Area, CARDS, Heap, IsObject, IsSound, List, None, Option, Placed, REGION, Region, Some, StartsIn, [], address, ap, area_at, arith, card_in, cases_eq, cells_of, contents, false, get_or, inl, inr, is_in_use, is_some, length, length-map, map, refl, subst, suc, sum-many, sum_by, sum_by-cons, sym, true, ℕ, ◌%◌, ◌*◌, ◌+◌, ◌/◌, ◌<◌, ◌^◌, ◌∙◌, ◌∷◌, ◌≡◌, ◌≢◌, ◌≤◌}
-use Rattle.hd_cells.specs.Region.{object_at as object_in_region}
-use Rattle.hd_model.specs.Heap.{region_of, card_of}
+use Rattle.hd_heap.proofs.Basics.{Addr, Area, Bool, CARDS, Heap, IsObject, IsSound, List, None, Option, Placed, REGION, Region, Some, StartsIn, [], address, ap, area_at, arith, card_in, card_of, cases_eq, cells_of, contents, false, get_or, inl, inr, is_in_use, is_some, length, length-map, map, object_at, refl, region_of, subst, suc, sum-many, sum_by, sum_by-cons, sym, true, ℕ, ◌%◌, ◌*◌, ◌+◌, ◌/◌, ◌<◌, ◌^◌, ◌∙◌, ◌∷◌, ◌≡◌, ◌≢◌, ◌≤◌}
 use Rattle.hd_heap.proofs.{RegionReads.IsHeap, RegionReads.get-regions, RegionReads.found, RegionReads.held_found, RegionReads.has_there, RegionReads.set_at, RegionReads.used_is, RegionReads.count_is, RegionSums.cells_placed}
 use Rattle.std.specs.FinMap as fin
 
@@ -13,8 +11,9 @@ lives_small (a ∷ areas) small =
     let rest = lives_small areas (λ k x e. small (suc k) x e) in
     omega (arith, small 0 a refl, rest, sum_by-cons (λ (x : Area). x.live) a areas)
 
-module _ {areas : List Area} {spares : List ℕ} {limit capacity cells objects holds current : ℕ} {h : Heap}
-    (heap : IsHeap areas spares limit capacity (cells, objects, holds) current h) where
+module _ {areas : List Area} {spares : List ℕ} {limit capacity cells objects holds : ℕ}
+    {notes : ℕ × Bool × Bool} {h : Heap}
+    (heap : IsHeap areas spares limit capacity (cells, objects, holds) notes h) where
   pub cells_small : cells ≤ REGION * length areas
   cells_small =
       let small = lives_small areas (λ k a e. let is = heap.kept.each (suc k) a e in
@@ -64,13 +63,13 @@ module _ {areas : List Area} {spares : List ℕ} {limit capacity cells objects h
     within = λ a is.
         let f = (found heap a is).2 in
         (let known = f.located.area.laid_out.below_fill (a.0 % REGION) f.object in
-        let also = cells_placed (object_in_region (contents (found heap a is).1) (a.0 % REGION)) in
+        let also = cells_placed (object_at (contents (found heap a is).1) (a.0 % REGION)) in
         omega (arith, known, also, ap cells_of f.placed, ap (λ (g : Region). g.fill) f.located.region));
     apart = λ a b is_a is_b below.
         let f = (found heap a is_a).2 in
         let g = (found heap b is_b).2 in
         let laid = f.located.area.laid_out in
-        let size = cells_placed (object_in_region (contents (found heap a is_a).1) (a.0 % REGION)) in
+        let size = cells_placed (object_at (contents (found heap a is_a).1) (a.0 % REGION)) in
         let low = laid.below_fill (a.0 % REGION) f.object in
         elim (cases_eq (a.0 / REGION) (b.0 / REGION)) [
           | inl same ↦
@@ -89,7 +88,7 @@ module _ {areas : List Area} {spares : List ℕ} {limit capacity cells objects h
         let f = (found heap a is).2 in
         (let known = (f.located.area.laid_out.well_formed (a.0 % REGION) f.object).few_fields in
         let also =
-        length-map (object_in_region (contents (found heap a is).1) (a.0 % REGION)).fields address in
+        length-map (object_at (contents (found heap a is).1) (a.0 % REGION)).fields address in
         omega (arith, known, also, ap (λ (p : Placed). length p.fields) f.placed));
     fills = λ r is. let f = (held_found heap r is).2 in
         omega (arith, f.area.laid_out.within_region, ap (λ (g : Region). g.fill) f.region);

@@ -1,7 +1,5 @@
 -- Lemmas on lists that are read as maps and sets by index.
-use Rattle.hd_heap.proofs.Basics.{Bool, List, None, Option, [], ap, arith, cond, eq-eqb, eq_by_cmp, false, flagged, get_or, get_or-append_right, get_or_append_left, length, nat_cmp, nat_cmp_total, ne_eqb, places_of, refl, suc, sym, true, unsigned_tied, zero, ℕ, ◌*◌, ◌++◌, ◌+◌, ◌-◌, ◌<◌, ◌||◌, ◌∙◌, ◌∷◌, ◌≡◌}
-use Rattle.std.specs.List.{list_any}
-use Rattle.hd_heap.specs.Places.{table, tables}
+use Rattle.hd_heap.proofs.Basics.{Bool, List, None, Option, [], ap, arith, eq-eqb, eq_by_cmp, false, flagged, get_or, get_or-append_right, get_or_append_left, length, list_any, nat_cmp, nat_cmp_total, ne_eqb, places_of, refl, suc, sym, table, tables, true, unsigned_tied, zero, ℕ, ◌*◌, ◌++◌, ◌+◌, ◌-◌, ◌<◌, ◌||◌, ◌∙◌, ◌∷◌, ◌≡◌}
 use Rattle.std.specs.FinSet as set
 
 -- the order's test at two numbers that are equal, and at two that are not
@@ -10,10 +8,6 @@ tied q i same = unsigned_tied q i ∙ eq-eqb q i same
 
 pub untied : (q i : ℕ) → (q ≡ i → ⊥) → eq_by_cmp nat_cmp q i ≡ false
 untied q i apart = unsigned_tied q i ∙ ne_eqb q i apart
-
--- what is found at a key that is the first one
-pub found_here : {A : Type 0} (q i : ℕ) (x o : Option A) → q ≡ i → cond (eq_by_cmp nat_cmp q i) x o ≡ x
-found_here q i x o same = ap (λ b. cond b x o) (tied q i same)
 
 any-flagged_below : (i q : ℕ) (bs : List Bool) → q < i → list_any (eq_by_cmp nat_cmp q) (flagged i bs) ≡ false
 any-flagged_below i q [] below = refl
@@ -50,12 +44,12 @@ get_or-table (suc n) f zero d below = refl
 get_or-table (suc n) f (suc k) d below = get_or-table n (λ j. f (suc j)) k d (omega arith)
 
 -- a read of the tables of a list: the item's table has it, or there is no such item
-get_or-tables_at : {A B : Type 0} (n : ℕ) (f : Option A → ℕ → B) (d : B) → ((k : ℕ) → f None k ≡ d)
-    → (os : List (Option A)) (i j q : ℕ) → q ≡ i * n + j → j < n → get_or (tables n f os) q d ≡ f
+pub get_or-tables : {A B : Type 0} (n : ℕ) (f : Option A → ℕ → B) (d : B) → ((k : ℕ) → f None k ≡ d)
+    → (os : List (Option A)) (q i j : ℕ) → q ≡ i * n + j → j < n → get_or (tables n f os) q d ≡ f
     (get_or os i None) j
 unfolding tables
-get_or-tables_at n f d none [] i j q at below = sym (none j)
-get_or-tables_at n f d none (o ∷ os) zero j q at below =
+get_or-tables n f d none [] q i j at below = sym (none j)
+get_or-tables n f d none (o ∷ os) q zero j at below =
     let short = length-table n (f o) in
     let is : q ≡ j = omega (arith, zero_times n) in
     ap (λ k. get_or (table n (f o) ++ tables n f os) k d) is
@@ -63,17 +57,12 @@ get_or-tables_at n f d none (o ∷ os) zero j q at below =
   where
     zero_times : (n : ℕ) → 0 * n ≡ 0
     zero_times n = omega arith
-get_or-tables_at n f d none (o ∷ os) (suc i) j q at below =
+get_or-tables n f d none (o ∷ os) q (suc i) j at below =
     let short = length-table n (f o) in
     let times : suc i * n ≡ n + i * n = omega arith in
-    let rest = get_or-tables_at n f d none os i j (i * n + j) refl below in
+    let rest = get_or-tables n f d none os (i * n + j) i j refl below in
     let is : q ≡ length (table n (f o)) + (i * n + j) = omega arith in
     let less : length (table n (f o)) + (i * n + j) - n ≡ i * n + j = omega arith in
     ap (λ k. get_or (table n (f o) ++ tables n f os) k d) is
     ∙ get_or-append_right (table n (f o)) (tables n f os) n (length (table n (f o)) + (i * n + j)) d short
     (omega arith) ∙ ap (λ k. get_or (tables n f os) k d) less ∙ rest
-
-pub get_or-tables : {A B : Type 0} (n : ℕ) (f : Option A → ℕ → B) (d : B) → ((k : ℕ) → f None k ≡ d)
-    → (os : List (Option A)) (q i j : ℕ) → q ≡ i * n + j → j < n → get_or (tables n f os) q d ≡ f
-    (get_or os i None) j
-get_or-tables n f d none os q i j at below = get_or-tables_at n f d none os i j q at below

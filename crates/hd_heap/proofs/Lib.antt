@@ -12,8 +12,7 @@ pub mod RegionUse
 pub mod RegionWalk
 pub mod RegionReserve
 pub mod HeapValues
-pub mod FullRegions
-pub mod HeapFlags
+pub mod HeapNotes
 pub mod FieldForward
 pub mod HeapReferences
 pub mod RunCopies

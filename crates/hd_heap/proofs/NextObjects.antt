@@ -1,8 +1,5 @@
 -- The objects of a condemned region, one after another, for callers that walk over it.
-use Rattle.hd_heap.proofs.Basics.{Addr, Heap, IsFirstIn, IsFirstObject, IsSound, None, ObjectHeader, Option, Placed, REGION, Some, ap, arith, cases_eq, generation_at, generation_in, has_object, inl, inr, is_condemned, is_some, le-leb, nat_le, object_in, option_map, refl, region_generation, true, ℕ, ◌&&◌, ◌*◌, ◌+◌, ◌/◌, ◌<◌, ◌∙◌, ◌≡◌, ◌≤◌}
-use Rattle.hd_model.specs.Heap.{object_at, region_of}
-use Rattle.hd_heap.specs.Walks.{end_in}
-use Rattle.hd_heap.proofs.RegionWalk.{and_first}
+use Rattle.hd_heap.proofs.Basics.{Addr, Heap, IsFirstIn, IsFirstObject, IsSound, None, ObjectHeader, Option, Placed, REGION, Some, and_parts, ap, arith, cases_eq, end_in, generation_at, generation_in, has_object, inl, inr, is_condemned, is_some, le-leb, nat_le, object_at_heap, object_in, option_map, refl, region_generation, region_of, true, ℕ, ◌&&◌, ◌*◌, ◌+◌, ◌/◌, ◌<◌, ◌∙◌, ◌≡◌, ◌≤◌}
 
 -- the first condemned object from an address on
 pub record IsNextFrom (h : Heap) (n bound : ℕ) (at : Addr) : Type 0 where
@@ -12,7 +9,7 @@ pub record IsNextFrom (h : Heap) (n bound : ℕ) (at : Addr) : Type 0 where
 
 -- the generation of an object is that of its region
 pub generation_is : (h : Heap) (a : Addr) → has_object h a ≡ true
-    → generation_at (object_at h) a ≡ region_generation h (region_of a)
+    → generation_at (object_at_heap h) a ≡ region_generation h (region_of a)
 generation_is h a is = by (region_generation h (region_of a)) _ is
   where
     by : (g : ℕ) (o : Option Placed) → is_some (option_map (object_in g) o) ≡ true
@@ -22,19 +19,19 @@ generation_is h a is = by (region_generation h (region_of a)) _ is
 
 -- what is condemned is an object
 pub condemned_has : (h : Heap) (n : ℕ) (a : Addr) → is_condemned h n a ≡ true → has_object h a ≡ true
-condemned_has h n a is = and_first _ _ is
+condemned_has h n a is = (and_parts _ _ is).0
 
 module _ (h : Heap) (n : ℕ) (sound : IsSound h) {r : ℕ} (young : region_generation h r ≤ n) {end : ℕ}
     {o : ObjectHeader} (is : IsFirstObject h r end o) where
-  pub generation_same : generation_at (object_at h) o.at ≡ region_generation h r
+  pub generation_same : generation_at (object_at_heap h) o.at ≡ region_generation h r
   generation_same = generation_is h o.at is.object ∙ ap (region_generation h) is.region
 
   -- the next object is condemned, and no condemned one is before it
   pub next_from : IsNextFrom h n (r * REGION + end) o.at
   next_from = record {
     member =
-        (λ i. is.object i && nat_le (generation_at (object_at h) o.at) n)
-        ∙ le-leb (generation_at (object_at h) o.at) n (omega (arith, generation_same, young));
+        (λ i. is.object i && nat_le (generation_at (object_at_heap h) o.at) n)
+        ∙ le-leb (generation_at (object_at_heap h) o.at) n (omega (arith, generation_same, young));
     from = is.beyond;
     least = λ a condemned from. is.least a (condemned_has h n a condemned) from;
   }

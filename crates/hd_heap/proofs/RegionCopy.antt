@@ -1,11 +1,6 @@
 -- Lemmas on a list of regions that is split, and on copies from one region of a heap into another one.
-use Rattle.std.proofs.lemmas.List.{set-get_or, set-set}
-use Rattle.hd_heap.proofs.Basics.{Addr, Area, Bool, Contains, HasFlags, Heap, IsLaidOut, IsPutInto, List, Object, Option, Placed, REGION, Region, ap, arith, cells_of, contents, forwarded, get_or, get_or-append_right, get_or_append_left, has_object, length, length-map, length-set, option_map, placed_at, refl, region_at, region_forwarded, set, set-append_left, set-append_right, size_of, stored_place, subst, suc, sym, true, unwrap_or, with_moved, zero, ℕ, ◌%◌, ◌*◌, ◌++◌, ◌+◌, ◌-◌, ◌/◌, ◌<◌, ◌∙◌, ◌≡◌, ◌≢◌, ◌≤◌}
-use Rattle.hd_cells.specs.Region.{object_at as object_in_region}
-use Rattle.hd_model.specs.Heap.{region_of}
-use Rattle.hd_heap.specs.{declared.moves.Move.Move, Moves.move_at}
-use Rattle.hd_heap.specs.Runs.{AreLaidOut, ArePutBetween, IsRun, MayPutRun, MayRun, area_run, cells_run, object_of, put_run, run_copied}
-use Rattle.hd_heap.proofs.{Areas.absent, Areas.area_put, RunCopies.run_one, RunCopies.run_part, RunCopies.run_regions, RunCopies.run_fill, RegionReads.IsHeap, RegionReads.IsHeldAt, RegionReads.IsFound, RegionReads.IsPlace, RegionReads.place_reads, RegionReads.area_here, RegionReads.area_other, RegionReads.found_at, RegionReads.has_there, RegionReads.located_by, RegionReads.found_read, RegionReads.held_read, RegionReads.object_of as found_object, RegionSums.cells_placed, RegionChanges.object_put, FieldForward.field_of, FieldForward.forwarded_placed, HeapFlags.flags_written, HeapValues.get_same, HeapValues.get_other, HeapValues.no_placed}
+use Rattle.hd_heap.proofs.Basics.{Addr, AreLaidOut, ArePutBetween, Area, Bool, Contains, Heap, IsLaidOut, IsRun, List, MayPutRun, MayRun, Move, Option, Placed, REGION, Region, ap, area_run, arith, cells_of, cells_run, contents, forwarded, get_or, get_or-append_right, get_or_append_left, has_object, length, length-map, length-set, move_at, object_of, option_map, placed_at, put_run, refl, region_at, region_forwarded, region_of, run_copied, set, set-append_left, set-append_right, set-get_or, set-set, size_of, stored_place, subst, suc, sym, true, unwrap_or, with_moved, zero, ℕ, ◌*◌, ◌++◌, ◌+◌, ◌-◌, ◌/◌, ◌<◌, ◌∙◌, ◌≡◌, ◌≢◌}
+use Rattle.hd_heap.proofs.{Areas.area_after_put, RunCopies.run_one, RunCopies.run_part, RunCopies.run_regions, RunCopies.run_fill, RegionReads.IsHeap, RegionReads.IsHeldAt, RegionReads.IsFound, RegionReads.IsPlace, RegionReads.noted, RegionReads.place_reads, RegionReads.area_here, RegionReads.area_other, RegionReads.found_at, RegionReads.has_there, RegionReads.located_by, RegionReads.found_read, RegionReads.held_read, RegionReads.object_of as found_object, RegionSums.cells_placed, RegionChanges.object_put, FieldForward.field_of, FieldForward.forwarded_placed, HeapValues.get_same, HeapValues.get_other, HeapValues.no_placed}
 use Rattle.std.specs.FinMap as fin
 
 -- two regions of a list, and the list with another one in the place of the second
@@ -55,37 +50,10 @@ put_between {xs = xs} {j = j} {a = a} {b} {z} p put laid cells = record {
   cells_is = cells;
 }
 
-plus_none : (n : ℕ) → n ≡ n + 0
-plus_none n = omega arith
-
--- the cells of a copy
-copy_size : (place : Addr → Addr) (o : Object) → size_of (region_forwarded place o) ≡ size_of o
-copy_size place o = omega (arith, length-map o.fields (stored_place place))
-
--- an object of one region of a heap is copied into another one
-module _ {areas : List Area} {spares : List ℕ} {limit capacity cells objects holds current : ℕ} {h : Heap}
-    (heap : IsHeap areas spares limit capacity (cells, objects, holds) current h) {from : Addr} {r k m : ℕ}
-    {a b : Area} (f : IsFound areas h from k a) (t : IsHeldAt areas h r m b) where
-  pub object_moved : (place : Addr → Addr) (x : Area)
-      → let o = object_in_region (contents a) (from.0 % REGION) in
-      ((n : ℕ) → Contains o.fields n → n ≢ 0 → (place (record { 0 = n })).0 ≢ 0)
-      → (contents b).fill + size_of o ≤ REGION → IsLaidOut (contents x)
-      → IsPutInto b x (region_forwarded place o)
-      → IsHeap (set areas m x) spares limit capacity (cells + size_of o, objects + 1, holds) current
-      (with_moved h from r place)
-  object_moved place x some room laid put =
-      let o = object_in_region (contents a) (from.0 % REGION) in
-      let free = absent (contents b) (contents b).fill (λ there. omega (
-        arith,
-        t.area.laid_out.below_fill (contents b).fill there,
-      )) in
-      object_put heap x (region_forwarded place o) (forwarded place (placed_at h from))
-      (forwarded_placed place o some ∙ ap (forwarded place) (sym f.placed)) (size_of o)
-      (sym (copy_size place o)) t (area_put b x (region_forwarded place o) t.area t.held free laid put) room put
-
 -- a run from one region of a heap into another one
-module _ {areas : List Area} {spares : List ℕ} {limit capacity cells objects holds current : ℕ} {h : Heap}
-    (heap : IsHeap areas spares limit capacity (cells, objects, holds) current h) (ms : List Move)
+module _ {areas : List Area} {spares : List ℕ} {limit capacity cells objects holds : ℕ}
+    {notes : ℕ × Bool × Bool} {h : Heap}
+    (heap : IsHeap areas spares limit capacity (cells, objects, holds) notes h) (ms : List Move)
     (first : ℕ) {k m : ℕ} {a b : Area} (f : IsFound areas h (move_at ms first).from k a)
     (t : IsHeldAt areas h (region_of (move_at ms first).to) m b) (place : Addr → Addr) where
   module _ {kept : Addr → Bool} (may : MayRun kept place h ms first) where
@@ -151,19 +119,18 @@ module _ {areas : List Area} {spares : List ℕ} {limit capacity cells objects h
     }
 
   -- the heap after n copies
-  pub record IsUnderWay (n : ℕ) : Type 0 where
-    pub heap_is : IsHeap (set areas m (area_run place (contents a) ms first n b)) spares limit capacity
-        (cells + cells_run (contents a) ms first n, objects + n, holds) current (run_copied place h ms first n)
-    pub flags : {c g : Bool} → HasFlags h c g → HasFlags (run_copied place h ms first n) c g
+  abbrev IsUnderWay : ℕ → Type 0
+  IsUnderWay n = IsHeap (set areas m (area_run place (contents a) ms first n b)) spares limit capacity
+      (cells + cells_run (contents a) ms first n, objects + n, holds) notes (run_copied place h ms first n)
 
   module _ {kept : Addr → Bool} (may : MayPutRun kept (contents a) (contents b) ms first)
       (places : (y : Addr) → kept y ≡ true → (place y).0 ≢ 0)
       (apart : (move_at ms first).from.0 / REGION ≢ region_of (move_at ms first).to) where
     -- one copy more
-    goes_on : {n : ℕ} → IsUnderWay n → IsRun ms first (first + n + 1)
+    goes_on : (n : ℕ) → IsUnderWay n → IsRun ms first (first + n + 1)
         → IsLaidOut (put_run place (contents a) ms first (suc n) (contents b)) → IsUnderWay (suc n)
     unfolding run_copied cells_run put_run
-    goes_on {n} g run laid =
+    goes_on n g run laid =
         let j = first + n in
         let from = (move_at ms j).from in
         let o = object_of (contents a) ms j in
@@ -184,61 +151,58 @@ module _ {areas : List Area} {spares : List ℕ} {limit capacity cells objects h
           within = omega (arith, long, t.place.within);
           here = area_here t.place y;
         } in
-        let has : has_object x from ≡ true = has_there g.heap_is from a source.here ∙ may.objects j run in
-        let into : IsPutInto y z (region_forwarded place o) = record {
-          contents_are = refl;
-          held = refl;
-          generation = refl;
-          live = omega (arith, copy_size place o);
-          count = omega arith;
-          cards = refl;
-        } in
+        let has : has_object x from ≡ true = has_there g from a source.here ∙ may.objects j run in
         let cells_before = ap (cells_run (contents a) ms first) (let e : j - first ≡ n = omega arith in e) in
         let fill = run_fill place (contents a) ms first n (contents b) in
-        let moved = object_moved g.heap_is (found_at g.heap_is from source has)
-        (located_by g.heap_is target t.held) place z (λ i has nz. places _ (may.fields j run i has nz))
-        (omega (arith, may.room j run, cells_before, fill)) laid into in
+        let size : size_of o ≡ size_of (region_forwarded place o) =
+        omega (arith, length-map o.fields (stored_place place)) in
+        let found = found_at g from source has in
+        let some = λ (i : ℕ) (c : Contains o.fields i) (nz : i ≢ 0). places _ (may.fields j run i c nz) in
+        let both = area_after_put (region_forwarded place o) (located_by g target t.held).area t.held refl laid
+        size in
+        let moved = object_put g (region_forwarded place o) (forwarded place (placed_at x from)) (size_of o)
+        (forwarded_placed place o some ∙ ap (forwarded place) (sym found.placed)) size
+        (located_by g target t.held) both.0 (omega (arith, may.room j run, cells_before, fill)) both.1 (λ off. off)
+        (λ off. (noted g).flags.registrations off from has) in
         let whole : with_moved x from r place ≡ run_copied place h ms first (suc n) =
         ap (λ q. with_moved x from q place) (sym to) in
+        let live : (b.live + cells_run (contents a) ms first n) + size_of o
+        ≡ b.live + cells_run (contents a) ms first (suc n) = omega arith in
+        let number : (b.count + n) + 1 ≡ b.count + suc n = omega arith in
         let sum : (cells + cells_run (contents a) ms first n) + size_of o
         ≡ cells + cells_run (contents a) ms first (suc n) = omega arith in
         let count : (objects + n) + 1 ≡ objects + suc n = omega arith in
-        record {
-          heap_is = subst (λ (w : List Area × ℕ × ℕ × Heap).
-              IsHeap w.0 spares limit capacity (w.1, w.2, holds) current w.3)
-              (λ i. (set-set areas m y z i, sum i, count i, whole i)) moved;
-          flags = λ {c} {g = e} flags. subst (λ (w : Heap). HasFlags w c e) whole
-              (flags_written x (with_moved x from r place) _ _ refl refl (λ off. off)
-              (λ off. (g.flags flags).registrations off from has) (g.flags flags));
-        }
+        subst (λ (w : List Area × ℕ × ℕ × Heap). IsHeap w.0 spares limit capacity (w.1, w.2, holds) notes w.3)
+        (λ i. (
+          (set-set areas m y _
+              ∙ ap (set areas m) (λ q. record z { live = live q; count = number q })) i,
+          sum i,
+          count i,
+          whole i,
+        )) moved
 
     under_way : (n : ℕ) → (0 < n → IsRun ms first (first + n))
         → AreLaidOut place (contents a) ms first n (contents b) → IsUnderWay n
     unfolding run_copied cells_run put_run
     under_way zero run laid =
+        let none = λ (n : ℕ). let e : n ≡ n + 0 = omega arith in e in
         let same : areas ≡ set areas m b =
         sym (ap (set areas m) (place_reads t.place) ∙ set-get_or areas m b) in
-        record {
-          heap_is = subst (λ (w : List Area × ℕ × ℕ). IsHeap w.0 spares limit capacity (w.1, w.2, holds) current h)
-              (λ i. (
-                (same ∙ ap (set areas m) (λ q. record b {
-                  live = plus_none b.live q;
-                  count = plus_none b.count q;
-                })) i,
-                plus_none cells i,
-                plus_none objects i,
-              )) heap;
-          flags = λ flags. flags;
-        }
+        subst (λ (w : List Area × ℕ × ℕ). IsHeap w.0 spares limit capacity (w.1, w.2, holds) notes h) (λ i. (
+          (same ∙ ap (set areas m) (λ q. record b { live = none b.live q; count = none b.count q })) i,
+          none cells i,
+          none objects i,
+        )) heap
     under_way (suc n) run laid =
         let here : IsRun ms first (first + n + 1) =
         subst (IsRun ms first) (let e : first + suc n ≡ first + n + 1 = omega arith in e) (run (omega arith)) in
-        goes_on (under_way n (λ some. run_part ms first (first + n) _ here (omega arith) (omega arith))
+        goes_on n (under_way n (λ some. run_part ms first (first + n) _ here (omega arith) (omega arith))
         (λ j below. laid j (omega arith))) here (laid n (omega arith))
 
 -- the heap after the copies of a run
-module _ {areas : List Area} {spares : List ℕ} {limit capacity cells objects holds current : ℕ} {h : Heap}
-    (heap : IsHeap areas spares limit capacity (cells, objects, holds) current h) (ms : List Move)
+module _ {areas : List Area} {spares : List ℕ} {limit capacity cells objects holds : ℕ}
+    {notes : ℕ × Bool × Bool} {h : Heap}
+    (heap : IsHeap areas spares limit capacity (cells, objects, holds) notes h) (ms : List Move)
     (first : ℕ) {kept : Addr → Bool} {place : Addr → Addr} (may : MayRun kept place h ms first) where
   -- the regions of the list that are read
   pub source_read : {old : List Area} {i : ℕ} {a : Area} → old ≡ areas → a ≡ get_or old i a
@@ -255,9 +219,7 @@ module _ {areas : List Area} {spares : List ℕ} {limit capacity cells objects h
   pub run_moved : ((y : Addr) → kept y ≡ true → (place y).0 ≢ 0) → {old new : List Area} {i j n size : ℕ}
       → old ≡ areas → i ≡ (move_at ms first).from.0 / REGION - 1 → j ≡ (move_at ms first).to.0 / REGION - 1
       → ArePutBetween place old new i j ms first n size → IsRun ms first (first + n)
-      → IsHeap new spares limit capacity (cells + size, objects + n, holds) current
-      (run_copied place h ms first n)
-      × ((d e : Bool) → HasFlags h d e → HasFlags (run_copied place h ms first n) d e)
+      → IsHeap new spares limit capacity (cells + size, objects + n, holds) notes (run_copied place h ms first n)
   unfolding region_of
   run_moved places {j = j} {n} same source target c run =
       let f = source_read same c.source_is source in
@@ -265,8 +227,6 @@ module _ {areas : List Area} {spares : List ℕ} {limit capacity cells objects h
       let is = under_way heap ms first f t place (may_put heap ms first f t place may) places may.apart n
       (λ some. run) c.laid_out in
       let list = ap (λ xs. set xs j (area_run place (contents c.from) ms first n c.before)) (sym same)
-      ∙ sym c.list in (
-        subst (λ (w : List Area × ℕ). IsHeap w.0 spares limit capacity (cells + w.1, objects + n, holds) current
-            (run_copied place h ms first n)) (λ i. (list i, sym c.cells_is i)) is.heap_is,
-        λ d e flags. is.flags flags,
-      )
+      ∙ sym c.list in
+      subst (λ (w : List Area × ℕ). IsHeap w.0 spares limit capacity (cells + w.1, objects + n, holds) notes
+      (run_copied place h ms first n)) (λ i. (list i, sym c.cells_is i)) is

@@ -1,6 +1,5 @@
 -- What a heap has after a region was given up with its objects.
-use Rattle.hd_heap.proofs.Basics.{Addr, Bool, CARDS, Heap, IsSound, None, REGION, [], ap, arith, cases_eq, cond, eq-eqb, false, false_from_ne_true, has_object, inl, inr, is_set, nat_eq, ne_eqb, not, refl, sym, true, without_region, ℕ, ◌&&◌, ◌++◌, ◌/◌, ◌∙◌, ◌∷◌, ◌≡◌, ◌≢◌}
-use Rattle.hd_model.specs.Heap.{region_of, card_of}
+use Rattle.hd_heap.proofs.Basics.{Addr, CARDS, Heap, IsSound, None, REGION, [], and-false, and-true, ap, arith, card_of, cases_eq, cond, eq-eqb, false, false_from_ne_true, has_object, inl, inr, is_set, nat_eq, ne_eqb, not, region_of, sym, true, without_region, ℕ, ◌&&◌, ◌++◌, ◌/◌, ◌∙◌, ◌∷◌, ◌≡◌, ◌≢◌}
 use Rattle.hd_heap.proofs.{HeapValues.not_there, RegionReads.has-get, RegionWrites.same_maps, RegionWrites.same_sets}
 use Rattle.std.specs.FinMap as fin
 use Rattle.std.specs.FinSet as set_of
@@ -10,14 +9,6 @@ kept_there n r same = ap not (eq-eqb n r same)
 
 kept_elsewhere : (n r : ℕ) → n ≢ r → not (nat_eq n r) ≡ true
 kept_elsewhere n r apart = ap not (ne_eqb n r apart)
-
-and-true : (b : Bool) → (b && true) ≡ b
-and-true true = refl
-and-true false = refl
-
-and-false : (b : Bool) → (b && false) ≡ false
-and-false true = refl
-and-false false = refl
 
 module _ (h : Heap) (r : ℕ) where
   -- a number is kept by its region

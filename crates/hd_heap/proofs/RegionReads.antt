@@ -1,18 +1,10 @@
 -- Lemmas on a heap that is read from its regions.
-use Rattle.hd_heap.proofs.Basics.{Addr, AreOthersFull, Area, Bool, CARDS, HasFlags, Heap, IsArea, IsKept, IsObject, IsObjectOf, List, None, Option, Placed, REGION, Region, Some, [], address, ap, area_at, arith, both_ways, card_in, cards_in, cases_lt, cond, contents, deque_capacity, false, fields_in, from_one, generation_in, get-by_place, get_or, get_or-map, get_or-set_other, get_or-set_same, get_or_past, has_object, heap_of, inl, inr, is_in_use, is_set, is_some, length, length-map, length-set, map, map-set, object_in, objects_in, option_map, placed_at, placed_in, placed_of, refl, region_at, region_generation, region_in, regions_in, set, subst, suc, sym, tables, true, unwrap_or, used_of, zero, ℕ, ◌%◌, ◌+◌, ◌-◌, ◌/◌, ◌<◌, ◌∙◌, ◌∷◌, ◌≡◌, ◌≢◌}
-use Rattle.hd_cells.specs.Region.{object_at as object_in_region}
-use Rattle.hd_model.specs.Heap.{region_of}
-use Rattle.hd_heap.specs.declared.heap.Heap.TheInside.{Inside}
+use Rattle.hd_heap.proofs.Basics.{Addr, AreOthersFull, Area, Bool, CARD, CARDS, HasFlags, Heap, IsArea, IsKept, IsObject, IsObjectOf, List, None, Option, Placed, REGION, Region, Some, [], address, ap, area_at, arith, both_ways, card_in, cards_in, cases_lt, cond, contents, deque_capacity, false, fields_in, from_one, generation_in, get-by_place, get_or, get_or-map, get_or-set_other, get_or-set_same, get_or_past, has_object, heap_of, inl, inr, is_in_use, is_set, is_some, length, length-map, length-set, map, map-set, object_at, object_in, objects_in, option_map, placed_at, placed_in, placed_of, refl, region_at, region_generation, region_in, region_of, regions_in, set, subst, suc, sym, tables, true, unwrap_or, used_of, zero, ℕ, ◌%◌, ◌*◌, ◌+◌, ◌-◌, ◌/◌, ◌<◌, ◌∙◌, ◌≡◌, ◌≢◌}
 use Rattle.hd_heap.proofs.{IndexedLists.contains-places_of, IndexedLists.get_or-tables, Areas.object_there, Areas.held_by_object, RegionSums.cells_sum, RegionSums.count_sum}
+use Rattle.std.proofs.Math.ListN.{get_or-map as map_read}
+use Rattle.hd_heap.specs.declared.heap.Heap.TheInside.{Inside}
 use Rattle.std.specs.FinMap as fin
 use Rattle.std.specs.FinSet as set_of
-
--- a read of a list of options through a function
-get_or-option : {A B : Type 0} (f : Option A → Option B) (os : List (Option A)) (k : ℕ) → f None ≡ None
-    → get_or (map f os) k None ≡ f (get_or os k None)
-get_or-option f [] k none = sym none
-get_or-option f (o ∷ os) zero none = refl
-get_or-option f (o ∷ os) (suc k) none = get_or-option f os k none
 
 -- what the maps and the set have
 pub get-objects : (areas : List Area) (a : ℕ) → fin.get (objects_in areas) a ≡ placed_in
@@ -25,7 +17,7 @@ get-objects areas a =
 
 pub get-regions : (areas : List Area) (r : ℕ) → fin.get (regions_in areas) r ≡ region_in (area_at areas r)
 get-regions areas r = get-by_place (map region_in (from_one areas)) r
-    ∙ get_or-option region_in (from_one areas) r refl
+    ∙ map_read region_in (from_one areas) r None
 
 pub contains-cards : (areas : List Area) (c : ℕ) → set_of.contains (cards_in areas) c ≡ card_in
     (area_at areas (c / CARDS)) (c % CARDS)
@@ -50,14 +42,18 @@ pub record IsPlace (areas : List Area) (r k : ℕ) (a : Area) : Type 0 where
   pub within : k < length areas
   pub here : area_at areas r ≡ Some a
 
-place_of : (areas : List Area) (r : ℕ) (a : Area) → area_at areas r ≡ Some a → (k : ℕ) × IsPlace areas r k a
-place_of areas zero a e = absurd (cc e)
-place_of areas (suc k) a e = elim (cases_lt k (length areas)) [
-  | inl within ↦ (k, record { number = refl; within = within; here = e })
-  | inr past ↦
-      let none = get_or_past (map Some areas) k None (omega (arith, length-map areas Some, past)) in
-      absurd (cc (none, e))
-]
+placed_some : {areas : List Area} (r : ℕ) → (area_at areas r ≡ None → ⊥) → (k : ℕ) × (a : Area)
+    × IsPlace areas r k a
+placed_some zero some = absurd (some refl)
+placed_some {areas} (suc k) some = by (area_at areas (suc k)) refl
+  where
+    by : (o : Option Area) → area_at areas (suc k) ≡ o → (j : ℕ) × (a : Area) × IsPlace areas (suc k) j a
+    by None e = absurd (some e)
+    by (Some a) e = elim (cases_lt k (length areas)) [
+      | inl within ↦ (k, a, record { number = refl; within = within; here = e })
+      | inr past ↦ absurd (some (get_or_past (map Some areas) k None (omega
+          (arith, length-map areas Some, past))))
+    ]
 
 pub place_read : (areas : List Area) (r k : ℕ) (x : Area) → r ≡ k + 1 → k < length areas
     → x ≡ get_or areas k x → IsPlace areas r k x
@@ -99,8 +95,8 @@ pub record IsHeldAt (areas : List Area) (h : Heap) (r k : ℕ) (a : Area) : Type
 pub record IsFound (areas : List Area) (h : Heap) (at : Addr) (k : ℕ) (a : Area) : Type 0 where
   pub located : IsHeldAt areas h (at.0 / REGION) k a
   pub object : IsObject (contents a) (at.0 % REGION)
-  pub get : fin.get h.objects at.0 ≡ Some (placed_of (object_in_region (contents a) (at.0 % REGION)))
-  pub placed : placed_at h at ≡ placed_of (object_in_region (contents a) (at.0 % REGION))
+  pub get : fin.get h.objects at.0 ≡ Some (placed_of (object_at (contents a) (at.0 % REGION)))
+  pub placed : placed_at h at ≡ placed_of (object_at (contents a) (at.0 % REGION))
 
 pub is_some_map : {A B : Type 0} (f : A → B) (o : Option A) → is_some (option_map f o) ≡ is_some o
 is_some_map f None = refl
@@ -109,35 +105,41 @@ is_some_map f (Some x) = refl
 pub has-get : (h : Heap) (a : Addr) → has_object h a ≡ is_some (fin.get h.objects a.0)
 has-get h a = is_some_map _ (fin.get h.objects a.0)
 
+-- what is noted of a heap: the region of the last new object, set cards, and registered objects
+pub record IsNoted (h : Heap) (notes : ℕ × Bool × Bool) : Type 0 where
+  pub full : AreOthersFull h notes.0
+  pub flags : HasFlags h notes.1 notes.2
+
 -- the fields of a heap, with its numbers of cells, of objects and of regions in use, and its value
 pub record IsHeap (areas : List Area) (spares : List ℕ) (limit capacity : ℕ) (counts : ℕ × ℕ × ℕ)
-    (current : ℕ)
-    (h : Heap) : Type 0 where
+    (notes : ℕ × Bool × Bool) (h : Heap) : Type 0 where
   pub view : heap_of areas spares limit ≡ h
   pub kept : IsKept areas spares capacity counts.0 counts.1 counts.2
-  pub full : AreOthersFull (heap_of areas spares limit) current
+  pub notes_are : IsNoted (heap_of areas spares limit) notes
 
 pub opened : (s : Inside) {h : Heap} → heap_of s.areas.items s.spare.items s.limit ≡ h
     → IsKept s.areas.items s.spare.items (deque_capacity s.spare) s.used s.count s.held
     × AreOthersFull (heap_of s.areas.items s.spare.items s.limit) s.current
     × HasFlags (heap_of s.areas.items s.spare.items s.limit) s.carding s.registering
     → IsHeap s.areas.items s.spare.items s.limit (deque_capacity s.spare)
-    (s.used, s.count, s.held) s.current h
-opened s view invariant = record { view = view; kept = invariant.0; full = invariant.1 }
+    (s.used, s.count, s.held) (s.current, s.carding, s.registering) h
+opened s view invariant = record {
+  view = view;
+  kept = invariant.0;
+  notes_are = record { full = invariant.1; flags = invariant.2 };
+}
 
-module _ {areas : List Area} {spares : List ℕ} {limit capacity cells objects holds current : ℕ} {h : Heap}
-    (heap : IsHeap areas spares limit capacity (cells, objects, holds) current h) where
-  -- the heap's fields after a step, and its value
-  pub heap_by : {areas2 : List Area} {spares2 : List ℕ} {limit2 capacity2 cells2 objects2 holds2 current2 : ℕ}
-      {new : Heap} → IsKept areas2 spares2 capacity2 cells2 objects2 holds2
-      → heap_of areas2 spares2 limit2 ≡ new → (AreOthersFull h current → AreOthersFull new current2)
-      → IsHeap areas2 spares2 limit2 capacity2 (cells2, objects2, holds2) current2 new
-  heap_by {current2 = d} kept view step = record {
-    view = view;
-    kept = kept;
-    full = subst (λ x. AreOthersFull x d) (sym view)
-        (step (subst (λ x. AreOthersFull x current) heap.view heap.full));
-  }
+pub closed : {areas : List Area} {spares : List ℕ} {limit capacity : ℕ} {counts : ℕ × ℕ × ℕ}
+    {notes : ℕ × Bool × Bool} {h : Heap} → IsHeap areas spares limit capacity counts notes h
+    → IsKept areas spares capacity counts.0 counts.1 counts.2
+    × AreOthersFull (heap_of areas spares limit) notes.0 × HasFlags (heap_of areas spares limit) notes.1 notes.2
+closed heap = (heap.kept, heap.notes_are.full, heap.notes_are.flags)
+
+module _ {areas : List Area} {spares : List ℕ} {limit capacity cells objects holds : ℕ}
+    {notes : ℕ × Bool × Bool} {h : Heap}
+    (heap : IsHeap areas spares limit capacity (cells, objects, holds) notes h) where
+  pub noted : IsNoted h notes
+  noted = subst (λ x. IsNoted x notes) heap.view heap.notes_are
 
   pub used_is : cells ≡ used_of h
   used_is = heap.kept.lives ∙ cells_sum areas heap.kept.each ∙ ap used_of heap.view
@@ -154,6 +156,23 @@ module _ {areas : List Area} {spares : List ℕ} {limit capacity cells objects h
 
   pub set_at : (c : ℕ) → is_set h c ≡ card_in (area_at areas (c / CARDS)) (c % CARDS)
   set_at c = ap (λ (x : Heap). set_of.contains x.cards c) (sym heap.view) ∙ contains-cards areas c
+
+  -- what the heap has in a region, and whether a card of a region is set
+  pub read_in : {r k : ℕ} {a : Area} → IsPlace areas r k a → (j : ℕ) → j < REGION
+      → fin.get h.objects (r * REGION + j) ≡ option_map placed_of (fin.get (contents a).objects j)
+  read_in {r} {a = a} p j low =
+      let n = r * REGION + j in
+      let number : n / REGION ≡ r = omega arith in
+      let offset : n % REGION ≡ j = omega arith in
+      objects_at n ∙ (λ i. placed_in (area_at areas (number i)) (offset i)) ∙ ap (λ o. placed_in o j) p.here
+
+  pub card_at : {k : ℕ} {a : Area} (at : Addr) → IsPlace areas (at.0 / REGION) k a
+      → is_set h (at.0 / CARD) ≡ card_in (Some a) ((at.0 % REGION) / CARD)
+  card_at at p =
+      let number : (at.0 / CARD) / CARDS ≡ at.0 / REGION = omega arith in
+      let card : (at.0 / CARD) % CARDS ≡ (at.0 % REGION) / CARD = omega arith in
+      set_at (at.0 / CARD) ∙ (λ i. card_in (area_at areas (number i)) (card i))
+      ∙ ap (λ o. card_in o ((at.0 % REGION) / CARD)) p.here
 
   -- an object of a region is one of the heap
   pub has_there : (at : Addr) (a : Area) → area_at areas (at.0 / REGION) ≡ Some a
@@ -197,20 +216,15 @@ module _ {areas : List Area} {spares : List ℕ} {limit capacity cells objects h
 
   -- the place of what is there
   pub found : (at : Addr) → has_object h at ≡ true → (k : ℕ) × (a : Area) × IsFound areas h at k a
-  found at is = by (area_at areas (at.0 / REGION)) refl
-    where
-      by : (o : Option Area) → area_at areas (at.0 / REGION) ≡ o → (k : ℕ) × (a : Area) × IsFound areas h at k
-          a
-      by None e = absurd (both_ways _
-          (has-get h at ∙ ap is_some (objects_at at.0 ∙ ap (λ o. placed_in o (at.0 % REGION)) e)) is)
-      by (Some a) e = let p = place_of areas (at.0 / REGION) a e in (p.0, a, found_at at p.1 is)
+  found at is =
+      let (k, a, p) = placed_some (at.0 / REGION) (λ none. both_ways _ (has-get h at
+      ∙ ap is_some (objects_at at.0 ∙ ap (λ o. placed_in o (at.0 % REGION)) none)) is) in
+      (k, a, found_at at p is)
 
   pub held_found : (r : ℕ) → is_in_use h r ≡ true → (k : ℕ) × (a : Area) × IsHeldAt areas h r k a
-  held_found r is = by (area_at areas r) refl
-    where
-      by : (o : Option Area) → area_at areas r ≡ o → (k : ℕ) × (a : Area) × IsHeldAt areas h r k a
-      by None e = absurd (both_ways _ (ap is_some (regions_at r ∙ ap region_in e)) is)
-      by (Some a) e = let p = place_of areas r a e in (p.0, a, held_at p.1 is)
+  held_found r is =
+      let (k, a, p) = placed_some r (λ none. both_ways _ (ap is_some (regions_at r ∙ ap region_in none)) is) in
+      (k, a, held_at p is)
 
   -- the index of an object's region, and of a region in use
   pub index_of : (at : Addr) {k : ℕ} → has_object h at ≡ true → k ≡ at.0 / REGION - 1 → k < length areas
@@ -233,6 +247,13 @@ module _ {areas : List Area} {spares : List ℕ} {limit capacity cells objects h
   held_read {r} {k} {x} is e read =
       let index = held_index is e in
       held_at (place_read areas r k x (omega (arith, e, index.0)) index.1 read) is
+
+-- the heap's fields after a step, and its value
+pub heap_by : {areas : List Area} {spares : List ℕ} {limit capacity : ℕ} {counts : ℕ × ℕ × ℕ}
+    {notes : ℕ × Bool × Bool} {h : Heap} → IsKept areas spares capacity counts.0 counts.1 counts.2
+    → heap_of areas spares limit ≡ h → IsNoted h notes → IsHeap areas spares limit capacity counts notes h
+heap_by {notes = notes} kept view now =
+    record { view = view; kept = kept; notes_are = subst (λ x. IsNoted x notes) (sym view) now }
 
 -- an object is read alike in the heap and in its region
 pub object_of : {areas : List Area} {h : Heap} {k : ℕ} {a : Area} (at : Addr) → IsFound areas h at k a

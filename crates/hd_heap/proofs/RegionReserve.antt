@@ -1,6 +1,5 @@
 -- Lemmas on the list of free regions as it grows.
-use Rattle.hd_heap.proofs.Basics.{Heap, List, [], ap, arith, length, length-append, max, refl, sym, take, take-append-le, ℕ, ◌++◌, ◌+◌, ◌<◌, ◌∙◌, ◌∷◌, ◌≡◌, ◌≤◌}
-use Rattle.hd_heap.proofs.HeapValues.{take_whole}
+use Rattle.hd_heap.proofs.Basics.{Heap, [], ap, arith, length, length-append, max, refl, sym, take, take-append-le, take-length, ℕ, ◌++◌, ◌+◌, ◌<◌, ◌∙◌, ◌∷◌, ◌≡◌, ◌≤◌}
 
 -- only the free regions have changed: they are the old ones and more, at most `count`, if those were fewer
 pub record IsLonger (old new : Heap) (count : ℕ) : Type 0 where
@@ -9,13 +8,10 @@ pub record IsLonger (old new : Heap) (count : ℕ) : Type 0 where
   pub more : length old.spare ≤ length new.spare
   pub most : length new.spare ≤ max count (length old.spare)
 
-take_more : (xs : List ℕ) (n y : ℕ) → n ≤ length xs → take n (xs ++ y ∷ []) ≡ take n xs
-take_more xs n y low = take-append-le n xs (y ∷ []) low
-
 pub same_length : (h : Heap) (count : ℕ) → IsLonger h h count
 same_length h count = record {
   same = refl;
-  kept = take_whole h.spare;
+  kept = take-length h.spare;
   more = omega arith;
   most = omega arith;
 }
@@ -31,7 +27,7 @@ one_longer old now new count n is below added =
     record {
       same = added ∙ ap (λ (h : Heap). record h { spare = now.spare ++ n ∷ [] }) is.same
           ∙ ap (λ ns. record old { spare = ns }) (sym spares);
-      kept = ap (take (length old.spare)) spares ∙ take_more now.spare (length old.spare) n is.more ∙ is.kept;
+      kept = ap (take (length old.spare)) spares ∙ take-append-le (length old.spare) now.spare (n ∷ []) is.more ∙ is.kept;
       more = omega arith;
       most = omega arith;
     }

@@ -1,7 +1,5 @@
 -- Sums over the objects of a heap, region by region.
-use Rattle.hd_heap.proofs.Basics.{Area, HEADER, IsArea, List, None, Object, Option, Placed, REGION, Some, [], address, ap, area_at, arith, cases_lt, cells_of, contents, find-numbered_below, get-by_place, get_or, get_or_past, inl, inr, length, length-map, map, nat_cmp, nat_cmp_total, objects_in, option_map, placed_in, placed_of, refl, share, size_of, suc, sum-insert, sum_by, sum_by-append, sum_by-cons, sym, zero, ℕ, ◌+◌, ◌∙◌, ◌∷◌, ◌≡◌, ◌≤◌}
-use Rattle.hd_model.specs.Indexed.{by_place, numbered}
-use Rattle.hd_heap.specs.Places.{table, tables}
+use Rattle.hd_heap.proofs.Basics.{Area, HEADER, IsArea, List, None, Object, Option, Placed, REGION, Some, [], address, ap, area_at, arith, by_place, cases_lt, cells_of, contents, find-numbered_below, get-by_place, get_or, get_or_past, inl, inr, length-map, map, nat_cmp, nat_cmp_total, numbered, objects_in, option_map, placed_in, placed_of, refl, share, size_of, suc, sum-insert, sum_by, sum_by-append, sum_by-cons, sum_ones, sym, table, tables, zero, ℕ, ◌+◌, ◌∙◌, ◌∷◌, ◌≡◌, ◌≤◌}
 use Rattle.hd_heap.proofs.{Areas.absent, Areas.sum_none, IndexedLists.length-table, IndexedLists.get_or-table}
 use Rattle.std.specs.FinMap as fin
 
@@ -101,12 +99,9 @@ pub cells_sum : (areas : List Area) → ((r : ℕ) (a : Area) → area_at areas 
 cells_sum areas = sum-objects cells_of (λ (a : Area). a.live)
     (λ a is. is.live ∙ (λ i. sum_by (λ o. sym (cells_placed o) i) (fin.values (contents a).objects))) areas
 
-ones : {A : Type 0} (es : List (ℕ × A)) → length es ≡ sum_by (λ (x : A). 1) (map (λ e. e.1) es)
-ones [] = refl
-ones {A} (e ∷ es) = omega (arith, ones es, sum_by-cons (λ (x : A). 1) e.1 (map (λ w. w.1) es))
-
 sum-ones : {A : Type 0} (m : fin.FinMap nat_cmp A) → fin.len m ≡ sum_by (λ (x : A). 1) (fin.values m)
-sum-ones m = fin.len-entries m ∙ ones (fin.entries m)
+sum-ones {A} m = fin.len-entries m ∙ sym (sum_ones (fin.values m)
+    ∙ length-map (fin.entries m) (λ (e : ℕ × A). e.1))
 
 pub count_sum : (areas : List Area) → ((r : ℕ) (a : Area) → area_at areas r ≡ Some a → IsArea a)
     → sum_by (λ (a : Area). a.count) areas ≡ fin.len (objects_in areas)

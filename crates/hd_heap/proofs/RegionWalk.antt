@@ -1,13 +1,8 @@
 -- Lemmas on the walk through the regions of a heap.
-use Rattle.hd_heap.proofs.Basics.{Addr, Any, Area, Bool, CARD, CARDS, Carded, Condemned, Heap, IsArea, IsFirstAt, IsLeastBetween, IsLeastFrom, IsSound, IsWalk, List, None, Option, REGION, Some, Wanted, ap, area_at, arith, both_ways, card_in, cases_eq, cases_lt, contents, false, generation_at, get, has_object, inl, inr, is_set, is_some, is_wanted, length, nat_le, nat_lt, refl, suc, sym, true, wants, ℕ, ◌%◌, ◌&&◌, ◌*◌, ◌+◌, ◌/◌, ◌<◌, ◌∙◌, ◌≡◌, ◌≤◌}
-use Rattle.hd_model.specs.Heap.{region_of, card_of, object_at}
-use Rattle.hd_heap.proofs.{RegionReads.IsPlace, RegionReads.IsHeap, RegionReads.found, RegionReads.found_at, RegionReads.has_there, RegionReads.set_at, RegionReads.object_of, WantedObjects.unwanted}
+use Rattle.hd_heap.proofs.Basics.{Addr, Any, Area, Bool, CARD, Carded, Heap, IsArea, IsFirstAt, IsLeastBetween, IsLeastFrom, IsObject, IsSound, IsWalk, List, None, Option, REGION, Some, Wanted, and_parts, ap, area_at, arith, both_ways, card_in, card_of, cases_eq, cases_lt, contents, false, generation_at, get, has_object, inl, inr, is_condemned, is_some, is_wanted, le-leb, leb-true, length, nat_le, nat_lt, object_at_heap, refl, region_of, suc, sym, true, wants, ℕ, ◌%◌, ◌&&◌, ◌*◌, ◌+◌, ◌/◌, ◌<◌, ◌∙◌, ◌≡◌, ◌≢◌, ◌≤◌}
+use Rattle.hd_heap.proofs.{RegionReads.IsPlace, RegionReads.IsHeap, RegionReads.found, RegionReads.found_at, RegionReads.has_there, RegionReads.card_at, RegionReads.object_of, WantedObjects.unwanted}
 
 -- what is asked second is asked only where the first holds
-pub and_first : (b c : Bool) → (b && c) ≡ true → b ≡ true
-and_first true c e = refl
-and_first false c e = absurd (cc e)
-
 and_same : (b c d : Bool) → (b ≡ true → c ≡ d) → (b && c) ≡ (b && d)
 and_same true c d same = same refl
 and_same false c d same = refl
@@ -15,8 +10,7 @@ and_same false c d same = refl
 -- what is wanted is an object
 pub wanted_has : (h : Heap) (w : Wanted) (at : Addr) → is_wanted h w at ≡ true → has_object h at ≡ true
 wanted_has h Any at is = is
-wanted_has h (Carded n) at is = and_first _ _ (and_first _ _ is)
-wanted_has h (Condemned n) at is = and_first _ _ is
+wanted_has h (Carded n) at is = (and_parts _ _ (and_parts _ _ is).0).0
 
 -- what is wanted lies in its region
 pub wants_low : (w : Wanted) (a : Area) (off : ℕ) → IsArea a → wants w a off ≡ true → off < REGION
@@ -35,8 +29,9 @@ placed {areas} p b same = record {
   here = ap (area_at areas) same ∙ p.here;
 }
 
-module _ {areas : List Area} {spares : List ℕ} {limit capacity cells objects holds current : ℕ} {h : Heap}
-    (heap : IsHeap areas spares limit capacity (cells, objects, holds) current h) where
+module _ {areas : List Area} {spares : List ℕ} {limit capacity cells objects holds : ℕ}
+    {notes : ℕ × Bool × Bool} {h : Heap}
+    (heap : IsHeap areas spares limit capacity (cells, objects, holds) notes h) where
   -- what is wanted of the heap is wanted of its region
   pub wanted_in : (w : Wanted) (at : Addr) {k : ℕ} {a : Area} → IsPlace areas (at.0 / REGION) k a
       → is_wanted h w at ≡ wants w a (at.0 % REGION)
@@ -46,23 +41,37 @@ module _ {areas : List Area} {spares : List ℕ} {limit capacity cells objects h
       has : has_object h at ≡ is_some (get (contents a).objects (at.0 % REGION))
       has = has_there heap at a p.here
 
-      generation : has_object h at ≡ true → generation_at (object_at h) at ≡ a.generation
+      generation : has_object h at ≡ true → generation_at (object_at_heap h) at ≡ a.generation
       generation is = (object_of at (found_at heap at p is)).generation
-
-      card : is_set h (at.0 / CARD) ≡ card_in (Some a) ((at.0 % REGION) / CARD)
-      card = set_at heap (at.0 / CARD) ∙ ap (λ k. card_in (area_at areas k) ((at.0 / CARD) % CARDS))
-          (omega arith)
-          ∙ ap (λ o. card_in o ((at.0 / CARD) % CARDS)) p.here ∙ ap (card_in (Some a)) (omega arith)
 
       by : (w : Wanted) → is_wanted h w at ≡ wants w a (at.0 % REGION)
       by Any = has
       by (Carded n) =
-          (λ i. and_same (has_object h at) (nat_lt n (generation_at (object_at h) at)) (nat_lt n a.generation)
-          (λ is j. nat_lt n (generation is j)) i && card i)
+          (λ i. and_same (has_object h at) (nat_lt n (generation_at (object_at_heap h) at)) (nat_lt n a.generation)
+          (λ is j. nat_lt n (generation is j)) i && card_at heap at p i)
           ∙ ap (λ b. b && nat_lt n a.generation && card_in (Some a) ((at.0 % REGION) / CARD)) has
-      by (Condemned n) =
-          and_same (has_object h at) (nat_le (generation_at (object_at h) at) n) (nat_le a.generation n)
-          (λ is j. nat_le (generation is j) n) ∙ ap (λ b. b && nat_le a.generation n) has
+
+  -- what is condemned is an object of a region that is
+  pub condemned_in : (n : ℕ) (at : Addr) {k : ℕ} {a : Area} → IsPlace areas (at.0 / REGION) k a
+      → is_condemned h n at ≡ true → IsObject (contents a) (at.0 % REGION) × (a.generation ≤ n)
+  condemned_in n at p is =
+      let (has, young) = and_parts _ _ is in
+      let f = found_at heap at p has in
+      (f.object, omega (arith, leb-true _ _ young, (object_of at f).generation))
+
+  pub condemned_there : (n : ℕ) (at : Addr) {k : ℕ} {a : Area} → IsPlace areas (at.0 / REGION) k a
+      → IsObject (contents a) (at.0 % REGION) → a.generation ≤ n → is_condemned h n at ≡ true
+  condemned_there n at {a = a} p there young =
+      let has = has_there heap at a p.here ∙ there in
+      let same = (object_of at (found_at heap at p has)).generation in
+      (λ i. has i && nat_le (generation_at (object_at_heap h) at) n) ∙ le-leb _ n (omega (arith, same, young))
+
+  -- a region whose objects are all older has none that is
+  pub none_condemned : (n : ℕ) {r k : ℕ} {a : Area} → IsPlace areas r k a
+      → ((j : ℕ) → IsObject (contents a) j → n < a.generation) → (b : Addr) → is_condemned h n b ≡ true
+      → b.0 / REGION ≢ r
+  none_condemned n p older b is same =
+      let (there, young) = condemned_in n b (placed p b same) is in omega (arith, older _ there, young)
 
   -- what is wanted is in some region
   pub wanted_place : (w : Wanted) (at : Addr) → is_wanted h w at ≡ true → (k : ℕ) × (at.0 / REGION ≡ suc k)

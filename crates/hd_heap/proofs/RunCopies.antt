@@ -1,9 +1,5 @@
 -- Runs of moves, and what copies of their objects leave of a region.
-use Rattle.std.proofs.lemmas.Bool.{and_parts}
-use Rattle.hd_heap.proofs.Basics.{Addr, Contents, IsLaidOut, List, REGION, ap, arith, cases_lt, eqb-true, inl, inr, length, length-map, ltb-true, region_forwarded, stored_place, subst, suc, true, with_put, zero, ℕ, ◌+◌, ◌-◌, ◌/◌, ◌<◌, ◌∙◌, ◌≡◌, ◌≤◌}
-use Rattle.hd_model.specs.Heap.{region_of}
-use Rattle.hd_heap.specs.{declared.moves.Move.Move, Moves.move_at}
-use Rattle.hd_heap.specs.Runs.{AreLaidOut, ArePut, IsRun, cells_run, goes_with, object_of, put_run}
+use Rattle.hd_heap.proofs.Basics.{Addr, AreLaidOut, ArePut, Contents, IsLaidOut, IsRun, List, Move, REGION, and_parts, ap, arith, cases_lt, cells_run, eqb-true, goes_with, inl, inr, length, length-map, ltb-true, move_at, object_of, put_run, region_forwarded, region_of, region_with_put, stored_place, subst, suc, true, zero, ℕ, ◌+◌, ◌-◌, ◌/◌, ◌<◌, ◌∙◌, ◌≡◌, ◌≤◌}
 
 module _ (ms : List Move) (first : ℕ) where
   pub run_one : first < length ms → IsRun ms first (first + 1)
@@ -79,14 +75,14 @@ module _ (place : Addr → Addr) (source : Contents) (ms : List Move) (first : �
   pub put_next : {k : ℕ} {old mid new : Contents} → first ≤ k → IsRun ms first (k + 1)
       → mid ≡ put_run place source ms first (k - first) old
       → AreLaidOut place source ms first (k - first) old
-      → new ≡ with_put mid (region_forwarded place (object_of source ms k)) → IsLaidOut new
+      → new ≡ region_with_put mid (region_forwarded place (object_of source ms k)) → IsLaidOut new
       → ArePut place source ms first (k + 1) old new
   unfolding put_run
   put_next {k} {old} {mid} {new} le run so_far before put laid =
       let at : k ≡ first + (k - first) = omega arith in
       let more : suc (k - first) ≡ k + 1 - first = omega arith in
       let is : new ≡ put_run place source ms first (suc (k - first)) old =
-      put ∙ (λ i. with_put (so_far i) (region_forwarded place (object_of source ms (at i)))) in
+      put ∙ (λ i. region_with_put (so_far i) (region_forwarded place (object_of source ms (at i)))) in
       record {
         run = run;
         is = is ∙ ap (λ n. put_run place source ms first n old) more;
@@ -99,7 +95,7 @@ module _ (place : Addr → Addr) (source : Contents) (ms : List Move) (first : �
       }
 
   pub put_first : {old new : Contents} → first < length ms
-      → new ≡ with_put old (region_forwarded place (object_of source ms first)) → IsLaidOut new
+      → new ≡ region_with_put old (region_forwarded place (object_of source ms first)) → IsLaidOut new
       → ArePut place source ms first (first + 1) old new
   unfolding put_run
   put_first {old} within put laid =

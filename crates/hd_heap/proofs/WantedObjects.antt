@@ -1,55 +1,46 @@
 -- Lemmas on the objects of a region that a walk returns.
-use Rattle.hd_heap.proofs.Basics.{Any, Area, CARD, Carded, Condemned, Contents, HEADER, IfSome, IsArea, IsFirstFrom, IsFirstSince, IsObject, MatchOption, None, Option, REGION, Some, Wanted, ap, arith, card_in, cases_eq, cases_lt, contents, false, false_from_ne_true, inl, inr, nat_le, nat_lt, refl, subst, sym, true, wants, ℕ, ◌&&◌, ◌+◌, ◌-◌, ◌/◌, ◌<◌, ◌≡◌, ◌≤◌}
+use Rattle.hd_heap.proofs.Basics.{Any, Area, CARD, Carded, Contents, HEADER, IfSome, IsArea, IsFirstAt, IsFirstFrom, IsFirstSince, IsObject, None, Option, REGION, Some, Wanted, ap, arith, card_in, cases_eq, cases_lt, contents, false, false_from_ne_true, inl, inr, nat_lt, subst, sym, wants, ℕ, ◌&&◌, ◌+◌, ◌-◌, ◌/◌, ◌<◌, ◌≡◌, ◌≤◌}
 use Rattle.std.specs.FinMap as map
 
 -- what is not there is not wanted
 pub unwanted : (w : Wanted) (a : Area) (k : ℕ) → ¬ (IsObject (contents a) k) → wants w a k ≡ false
 unwanted Any a k none = false_from_ne_true _ none
-unwanted (Condemned n) a k none =
-    ap (λ b. b && nat_le a.generation n) (false_from_ne_true (map.contains_key (contents a).objects k) none)
 unwanted (Carded n) a k none = ap (λ b. b && nat_lt n a.generation && card_in (Some a) (k / CARD))
     (false_from_ne_true (map.contains_key (contents a).objects k) none)
 
--- how far a search among the objects from `first` on has come: nothing before `next` is wanted
-abbrev pub IsOn : Area → Wanted → Option ℕ → Option ℕ → Type 0
-IsOn a w first next = MatchOption first (next ≡ None) (λ f.
-    MatchOption next ((q : ℕ) → f ≤ q → wants w a q ≡ false)
-    (λ at. (f ≤ at) × ((q : ℕ) → f ≤ q → q < at → wants w a q ≡ false)))
-
-pub on_start : (a : Area) (w : Wanted) (first : Option ℕ) → IsOn a w first first
-on_start a w None = refl
-on_start a w (Some f) = (omega arith, λ q low below. absurd (omega arith))
-
-pub on_next : (a : Area) (w : Wanted) (first : Option ℕ) (at : ℕ) (next : Option ℕ) → IsOn a w first (Some at)
-    → wants w a at ≡ false → IsFirstFrom (contents a) (at + 1) next → IsOn a w first next
-on_next a w None at next on unwanted_here first_is = absurd (cc on)
-on_next a w (Some f) at None on unwanted_here none = λ q low. elim (cases_lt q at) [
-  | inl before ↦ on.1 q low before
-  | inr past ↦ elim (cases_eq q at) [
-    | inl same ↦ subst (λ (k : ℕ). wants w a k ≡ false) (sym same) unwanted_here
-    | inr apart ↦ unwanted w a q (none q (omega (arith, past, apart)))
-  ]
-]
-on_next a w (Some f) at (Some next) on unwanted_here first_is = (
-  (let low = on.0 in let up = first_is.0 in omega arith),
-  λ q low below. elim (cases_lt q at) [
-    | inl before ↦ on.1 q low before
-    | inr past ↦ elim (cases_eq q at) [
-      | inl same ↦ subst (λ (k : ℕ). wants w a k ≡ false) (sym same) unwanted_here
-      | inr apart ↦ unwanted w a q (first_is.2 q (omega (arith, past, apart)) below)
+-- the first object that is wanted after one that is not is the first from that one on
+pub since_next : (a : Area) (w : Wanted) (at : ℕ) (next answer : Option ℕ) → wants w a at ≡ false
+    → IsFirstFrom (contents a) (at + 1) next → IsFirstSince (wants w a) next answer
+    → IsFirstAt (wants w a) at answer
+since_next a w at next answer bare = by next answer
+  where
+    passed : (q : ℕ) → at ≤ q → (at + 1 ≤ q → ¬ (IsObject (contents a) q)) → wants w a q ≡ false
+    passed q low none = elim (cases_eq q at) [
+      | inl same ↦ subst (λ (k : ℕ). wants w a k ≡ false) (sym same) bare
+      | inr apart ↦ unwanted w a q (none (omega (arith, low, apart)))
     ]
-  ],
-)
 
-pub on_found : (a : Area) (w : Wanted) (first : Option ℕ) (at : ℕ) → IsOn a w first (Some at)
-    → wants w a at ≡ true → IsFirstSince (wants w a) first (Some at)
-on_found a w None at on is = absurd (cc on)
-on_found a w (Some f) at on is = (is, on.0, on.1)
+    by : (n x : Option ℕ) → IsFirstFrom (contents a) (at + 1) n → IsFirstSince (wants w a) n x
+        → IsFirstAt (wants w a) at x
+    by None x first is = subst (IsFirstAt (wants w a) at) (sym is) (λ q low. passed q low (first q))
+    by (Some n) None first is = λ q low. elim (cases_lt q n) [
+      | inl before ↦ passed q low (λ later. first.2 q later before)
+      | inr past ↦ is q past
+    ]
+    by (Some n) (Some x) first is = (
+      is.0,
+      omega (arith, first.0, is.1),
+      λ q low below. elim (cases_lt q n) [
+        | inl before ↦ passed q low (λ later. first.2 q later before)
+        | inr past ↦ is.2 q past below
+      ],
+    )
 
-pub on_end : (a : Area) (w : Wanted) (first : Option ℕ) → IsOn a w first None
-    → IsFirstSince (wants w a) first None
-on_end a w None on = refl
-on_end a w (Some f) on = on
+-- the search has come to an object, or to the end: what it finds from there on is what it has to find
+abbrev pub IsSearch : Area → Wanted → Option ℕ → Option ℕ → Type 0
+IsSearch a w first next =
+    ((answer : Option ℕ) → IsFirstSince (wants w a) next answer → IsFirstSince (wants w a) first answer)
+    × IfSome next (λ at. IsObject (contents a) at)
 
 -- what is left of a search
 abbrev pub left : Option ℕ → ℕ

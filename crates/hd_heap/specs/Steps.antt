@@ -1,19 +1,20 @@
 -- What the private steps of a heap do.
-use Rattle.std.specs.Prelude.{◌≡◌, ◌≢◌, ℕ, ◌+◌, ◌*◌, ◌/◌, ◌<◌, ◌≤◌, ◌&&◌, Bool, true, false, if◌then◌else◌, nat_lt, nat_le, List, map, length, slice_index, ⊤, Option, Some, None, MatchOption}
-use Rattle.std.specs.FinMap.{contains_key}
+use Rattle.std.specs.Prelude.{◌≡◌, ◌≢◌, ℕ, ◌+◌, ◌-◌, ◌*◌, ◌/◌, ◌<◌, ◌≤◌, ◌&&◌, Bool, true, false, if◌then◌else◌, nat_lt, List, drop, map, length, slice_index, slice_set, ⊤, Option, Some, None, MatchOption}
+use Rattle.std.specs.Box.{with_value as box_with_value}
+use Rattle.std.specs.FinMap.{contains_key, insert}
 use Rattle.hd_model.specs.declared.limits.TheConstants.{REGION, REGIONS, CARD, LEFT}
 use Rattle.hd_model.specs.declared.data.Addr.{Addr}
-use Rattle.hd_model.specs.Heap.{Placed, Heap, offset_of, has_object, placed_at, object_at, is_in_use, is_set, region_at, region_generation}
+use Rattle.hd_model.specs.Heap.{Placed, Heap, offset_of, region_of, has_object, placed_at, object_at, is_in_use, is_set, region_at, region_generation}
 use Rattle.hd_model.specs.Scene.{fields_at, generation_at}
 use Rattle.hd_heap.specs.declared.area.Area.{Area}
 use Rattle.hd_heap.specs.declared.area.Part.{Part}
 use Rattle.hd_heap.specs.declared.area.Part.TheVariants.{Value, Registered, Field}
 use Rattle.hd_heap.specs.declared.area.Wanted.{Wanted}
-use Rattle.hd_heap.specs.declared.area.Wanted.TheVariants.{Any, Carded, Condemned}
-use Rattle.hd_cells.specs.Region.{IsObject, object_at as object_in_region, with_object as region_with_object, with_put as region_with_put, without_object, empty_region}
+use Rattle.hd_heap.specs.declared.area.Wanted.TheVariants.{Any, Carded}
+use Rattle.hd_cells.specs.Region.{Contents, IsObject, object_at as object_in_region, with_object as region_with_object, with_put as region_with_put, without_object, empty_region}
 use Rattle.hd_cells.specs.Object.{Object, size_of, with_value, with_registered, with_field as region_with_field}
-use Rattle.hd_heap.specs.Areas.{contents, card_in, address, placed_of, IsArea}
-use Rattle.hd_heap.specs.Calls.{is_old_carded, with_field, with_fresh, is_condemned, HasAmount, HasCondemned, AreFull}
+use Rattle.hd_heap.specs.Areas.{contents, card_in, address, placed_of, BeginsIn, IsArea}
+use Rattle.hd_heap.specs.Calls.{is_old_carded, with_field, is_condemned, HasAmount, HasCondemned, AreFull}
 use Rattle.hd_heap.specs.declared.condemned.Extent.{Extent}
 use Rattle.hd_model.specs.Counting.{Counts}
 
@@ -41,27 +42,26 @@ pub record IsRoom (old new : Heap) (region cells : ℕ) : Type 0 where
   pub room : HasRoom new region cells
   pub full : is_in_use old region ≡ false → AreFull old
   pub first : is_in_use old region ≡ false → 0 < length old.spare → region ≡ slice_index old.spare 0
-  pub is : new ≡ (if is_in_use old region then old else with_fresh old region 0)
+  pub is : new ≡ record old {
+    regions = insert old.regions region (region_at old region);
+    spare = if is_in_use old region then old.spare else drop 1 old.spare;
+  }
 
--- an object that a walk returns: any one, one of a generation above n that starts in a set card, or one of no
--- generation above n
+-- an object that a walk returns: any one, or one of a generation above n that starts in a set card
 abbrev pub is_wanted : Heap → Wanted → Addr → Bool
 is_wanted h Any = has_object h
 is_wanted h (Carded n) = is_old_carded h n
-is_wanted h (Condemned n) = is_condemned h n
 
 -- the same of an offset in a region
 abbrev pub wants : Wanted → Area → ℕ → Bool
 wants Any a k = contains_key (contents a).objects k
 wants (Carded n) a k =
     contains_key (contents a).objects k && nat_lt n a.generation && card_in (Some a) (k / CARD)
-wants (Condemned n) a k = contains_key (contents a).objects k && nat_le a.generation n
 
 -- a generation that is asked for
 abbrev pub IsAsked : Wanted → ℕ → Type 0
 IsAsked Any generation = ⊤
 IsAsked (Carded n) generation = n < generation
-IsAsked (Condemned n) generation = generation ≤ n
 
 -- the least offset of which p holds from an offset on, or None
 abbrev pub IsFirstAt : (ℕ → Bool) → ℕ → Option ℕ → Type 0
@@ -84,19 +84,31 @@ IsLeastFrom p low answer = MatchOption answer
     ((a : Addr) → p a ≡ true → a.0 < low)
     (λ a. (p a ≡ true) × (low ≤ a.0) × ((b : Addr) → p b ≡ true → low ≤ b.0 → a.0 ≤ b.0))
 
+-- a region with other contents
+abbrev pub with_contents : Area → Contents → Area
+with_contents a r = record a { region = box_with_value a.region r }
+
+-- with an object in place of another one of the same size, and with one put after all others
+abbrev pub area_written : Area → ℕ → Object → Area
+area_written a at o = with_contents a (region_with_object (contents a) at o)
+
+abbrev pub area_put : Area → Object → Area
+area_put a o = record (with_contents a (region_with_put (contents a) o)) {
+  live = a.live + size_of o;
+  count = a.count + 1;
+}
+
 -- an object of a region is removed, and its card is clear unless another one begins in it
 pub record IsTaken (old new : Area) (at cells : ℕ) : Type 0 where
-  pub removed : contents new ≡ without_object (contents old) at
+  pub card : Bool
+  pub is : new ≡ record (with_contents old (without_object (contents old) at)) {
+    live = old.live - cells;
+    count = old.count - 1;
+    cards = slice_set old.cards (at / CARD) card;
+  }
   pub size : cells ≡ size_of (object_in_region (contents old) at)
-  pub live : new.live + cells ≡ old.live
-  pub count : new.count + 1 ≡ old.count
-  pub held : new.held ≡ old.held
-  pub generation : new.generation ≡ old.generation
-  pub others : (c : ℕ) → c ≢ at / CARD → card_in (Some new) c ≡ card_in (Some old) c
-  pub shared : (k : ℕ) → IsObject (contents new) k → k / CARD ≡ at / CARD
-      → card_in (Some new) (at / CARD) ≡ card_in (Some old) (at / CARD)
-  pub last : ((k : ℕ) → IsObject (contents new) k → k / CARD ≢ at / CARD)
-      → card_in (Some new) (at / CARD) ≡ false
+  pub begins : card ≡ true → BeginsIn (contents new) (at / CARD)
+  pub kept : BeginsIn (contents new) (at / CARD) → card ≡ card_in (Some old) (at / CARD)
 
 -- the object at an address, in its region: both read the same
 pub record IsObjectOf (h : Heap) (at : Addr) (a : Area) (offset : ℕ) : Type 0 where
@@ -130,24 +142,6 @@ HasPart fields (Value v) = ⊤
 HasPart fields (Registered on) = ⊤
 HasPart fields (Field i n) = i < length fields
 
--- an object is another one, of the same size
-pub record IsWritten (old new : Area) (at : ℕ) (o : Object) : Type 0 where
-  pub contents_are : contents new ≡ region_with_object (contents old) at o
-  pub held : new.held ≡ old.held
-  pub generation : new.generation ≡ old.generation
-  pub live : new.live ≡ old.live
-  pub count : new.count ≡ old.count
-  pub cards : new.cards ≡ old.cards
-
--- an object is put after all others
-pub record IsPutInto (old new : Area) (o : Object) : Type 0 where
-  pub contents_are : contents new ≡ region_with_put (contents old) o
-  pub held : new.held ≡ old.held
-  pub generation : new.generation ≡ old.generation
-  pub live : new.live ≡ old.live + size_of o
-  pub count : new.count ≡ old.count + 1
-  pub cards : new.cards ≡ old.cards
-
 -- a region is free, without objects and set cards
 pub record IsFreed (a : Area) : Type 0 where
   pub held : a.held ≡ false
@@ -161,16 +155,11 @@ abbrev pub is_below : Heap → Option Addr → ℕ → Bool
 is_below h None n = false
 is_below h (Some y) n = nat_lt (generation_at (object_at h) y) n
 
--- a region that begins below an address has a condemned object
-abbrev pub HasCondemnedBelow : Heap → (n bound : ℕ) → ℕ → Type 0
-HasCondemnedBelow h n bound r = HasCondemned h n r × (r * REGION < bound)
-
--- what is condemned in the regions below a number, and a number above those of all; no region has the addresses
--- below REGION
+-- what is condemned in the regions below a number, and a number above those of all; region 0 has none
 pub record IsExtentBelow (h : Heap) (n r : ℕ) (e : Extent) : Type 0 where
-  pub objects : HasAmount h (λ a. (is_condemned h n a ≡ true) × (a.0 < r * REGION)) e.objects e.cells
-  pub regions : Counts (HasCondemnedBelow h n (r * REGION)) e.regions
-  pub above : (a : Addr) → has_object h a ≡ true → a.0 / REGION < e.end
+  pub objects : HasAmount h (λ a. (is_condemned h n a ≡ true) × (region_of a < r)) e.objects e.cells
+  pub regions : Counts (λ q. HasCondemned h n q × (q < r)) e.regions
+  pub above : (a : Addr) → has_object h a ≡ true → region_of a < e.end
   pub small : e.end ≤ REGIONS
   pub fewer : e.regions < r
   pub cells : e.cells + REGION ≤ r * REGION

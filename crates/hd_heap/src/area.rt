@@ -7,10 +7,9 @@ ghost use Rattle.hd_cells.specs.Region.{IsFirstFrom, IsLaidOut, IsObject, empty_
 ghost use Rattle.hd_cells.specs.Region.{object_at, with_object};
 ghost use Rattle.hd_heap.specs.Areas.{contents, card_in, BeginsIn, IsArea};
 ghost use Rattle.hd_heap.specs.Steps.{wants, HasPart, IsAsked, IsFirstAt, IsFirstSince, IsTaken};
-ghost use Rattle.hd_heap.specs.Steps.{IsFreed, IsPutInto, IsWritten, region_with_part, registers};
+ghost use Rattle.hd_heap.specs.Steps.{IsFreed, area_put, area_written, region_with_part, registers};
 ghost use Rattle.hd_heap.specs.Runs.{area_run, cells_run, AreLaidOut, IsRun, MayPutRun};
 ghost use Rattle.hd_heap.specs.Forwarding.{region_forwarded, MayForward};
-ghost use Rattle.hd_heap.specs.declared.area.Wanted.TheVariants.{Condemned};
 
 use crate::forwarding::{copy_run, forward_fields};
 use crate::moves::Move;
@@ -34,13 +33,11 @@ pub(crate) struct Area {
     pub(crate) count: u32,
 }
 
-/// What a walk returns: any object, one of a generation above a number that starts in a set card,
-/// or one of no generation above a number.
+/// What a walk returns: any object, or one of a generation above a number that starts in a set card.
 #[derive(Clone, Copy)]
 pub(crate) enum Wanted {
     Any,
     Carded(u8),
-    Condemned(u8),
 }
 
 /// What is written into an object: its value, its registration, or a field as it is stored, counted
@@ -149,12 +146,26 @@ impl Area {
         requires room { (contents self.old).fill + (fields + HEADER) ≤ REGION }
         ensures area { IsArea self.new }
         ensures offset { result ≡ (contents self.old).fill }
-        ensures was_free { map.get (contents self.old).objects result ≡ None }
-        ensures put { IsPutInto self.old self.new (new_object id fields registered) }
+        ensures put { self.new ≡ area_put self.old (new_object id fields registered) }
     {
         self.live += fields + HEADER;
         self.count += 1;
         self.region.put_object(id, fields, registered)
+    }
+
+    /// Puts a copy of an object of another region after all others, and returns its offset.
+    pub(crate) fn put_copy(&mut self, source: &Region, from: u32) -> u32
+        requires area { IsArea self.old }
+        requires held { self.old.held ≡ true }
+        requires object { IsObject source.now from }
+        requires room { (contents self.old).fill + size_of (object_at source.now from) ≤ REGION }
+        ensures area { IsArea self.new }
+        ensures offset { result ≡ (contents self.old).fill }
+        ensures put { self.new ≡ area_put self.old (object_at source.now from) }
+    {
+        self.live += source.fields(from) + HEADER;
+        self.count += 1;
+        self.region.put_copy(source, from)
     }
 
     /// Puts copies of the objects of some moves after all others, with their fields as `forward`
@@ -195,7 +206,7 @@ impl Area {
         requires kept { MayForward (F.kept forward.now) (object_at (contents self.old) at).fields }
         ensures area { IsArea self.new }
         ensures written { let object = object_at (contents self.old) at in
-            IsWritten self.old self.new at (region_forwarded (F.place forward.now) object) }
+            self.new ≡ area_written self.old at (region_forwarded (F.place forward.now) object) }
     {
         let fields = self.region.fields(at);
         forward_fields(&mut self.region, at, fields, forward);
@@ -208,7 +219,7 @@ impl Area {
         requires within { HasPart (object_at (contents self.old) at).fields part }
         ensures area { IsArea self.new }
         ensures written { let after = region_with_part (object_at (contents self.old) at) part in
-            IsWritten self.old self.new at after }
+            self.new ≡ area_written self.old at after }
     {
         write_part(&mut self.region, at, part);
     }
@@ -274,7 +285,8 @@ impl Area {
         requires { IsArea self.now }
         ensures young { result ≡ true → self.now.generation ≤ n }
         ensures some { result ≡ true → self.now.live ≢ 0 }
-        ensures none { result ≡ false → (k : ℕ) → wants (Condemned n) self.now k ≡ false }
+        ensures none { result ≡ false → (k : ℕ) → IsObject (contents self.now) k
+            → n < self.now.generation }
     {
         self.generation <= n && self.live != 0
     }
@@ -288,7 +300,6 @@ impl Area {
         match wanted {
             Wanted::Any => self.live != 0,
             Wanted::Carded(n) => self.generation > n && self.has_set_card(),
-            Wanted::Condemned(n) => self.has_condemned(n),
         }
     }
 
@@ -306,6 +317,7 @@ impl Area {
     }
 
     /// Whether an object is wanted, in a region of a generation that is.
+    #[tactic(auto, using(crate::proofs::WantedObjects::object_below))]
     fn is_wanted(&self, at: u32, wanted: Wanted) -> bool
         requires area { IsArea self.now }
         requires object { IsObject (contents self.now) at }
@@ -313,7 +325,7 @@ impl Area {
         ensures { result ≡ wants wanted self.now at }
     {
         match wanted {
-            Wanted::Any | Wanted::Condemned(_) => true,
+            Wanted::Any => true,
             Wanted::Carded(_) => self.cards[(at / CARD) as usize],
         }
     }

@@ -12,7 +12,7 @@ ghost use Rattle.hd_model.specs.Heap.{is_in_use, is_set, region_at, region_of, o
 ghost use Rattle.hd_heap.specs.Sound.{IsSound};
 ghost use Rattle.hd_heap.specs.Calls.{empty_heap, new_object, with_object, with_put, with_field};
 ghost use Rattle.hd_heap.specs.Calls.{IsMade, IsRefused, LacksSpare, AreFull};
-ghost use Rattle.hd_heap.specs.Calls.{stored, is_younger, with_card, IsWalk, is_old_carded, is_condemned};
+ghost use Rattle.hd_heap.specs.Calls.{stored, is_younger, with_card, IsWalk, is_old_carded};
 ghost use Rattle.hd_heap.specs.Calls.{with_fresh, with_copy, IsRemoved, with_generation};
 ghost use Rattle.hd_heap.specs.Calls.{forwarded, without_region, NamesBelow};
 ghost use Rattle.hd_heap.specs.Areas.{address, contents, IsArea};
@@ -374,15 +374,6 @@ impl Heap {
         self.walk(after, Wanted::Carded(n))
     }
 
-    /// The first object past `after`, which may be any address, that is of no generation above `n`.
-    /// A region of an older generation or without objects is passed at once.
-    pub fn next_condemned(&self, after: Option<Addr>, n: u8) -> Option<Addr>
-        ensures walk { IsWalk (is_condemned self.now n) after result }
-        ensures sound { IsSound self.now }
-    {
-        self.walk(after, Wanted::Condemned(n))
-    }
-
     /// Whether a field of the object at `at` references one of a generation below `n`.
     pub fn names_below(&self, at: Addr, n: u8) -> bool
         requires object { has_object self.now at ≡ true }
@@ -449,14 +440,15 @@ impl Heap {
         ensures was_free { has_object self.old result ≡ false }
         ensures copied { self.new ≡ with_copy self.old from region }
     {
-        let fields = self.fields(from);
-        let copy = self.put(region, self.id(from), fields, self.registered(from));
-        self.write(copy, Part::Value(self.value(from)));
-        for i in 0..fields {
-            let field = self.field(from, i);
-            self.write(copy, Part::Field(i, field));
-        }
-        copy
+        let (area, offset) = self.area_of(from);
+        // It goes through a region of its own, since it may be in the region that it is copied to.
+        let mut copy = Region::empty();
+        let first = copy.put_copy(&area.region, offset);
+        let cells = copy.fill();
+        let end = self.areas[place_of(region)].put_copy(&copy, first);
+        self.used += cells;
+        self.count += 1;
+        address_in(region, end)
     }
 
     /// Copies the object of the move at an index, and those of the moves after it as far as they go

@@ -1,67 +1,80 @@
 -- Bits read as sets of addresses: what a bit more does to them.
-use Rattle.hd_mark.proofs.Basics.{BITS, FinSet, IfSome, IsTable, List, None, Option, REGION, Some, ap, arith, bit_or, cases_eq, contains, contains-empty, contains-insert, empty, false, get_or, get_or-set_other, get_or-set_same, inl, inr, insert, is_set, is_set_in, is_some, length, nat_cmp, place_at, refl, same_set, set, sym, true, ℕ, ◌%◌, ◌*◌, ◌+◌, ◌/◌, ◌<◌, ◌==◌, ◌^◌, ◌||◌, ◌∙◌, ◌≡◌, ◌≢◌}
+use Rattle.hd_mark.proofs.Basics.{Addr, BITS, Bool, FinSet, Gains, IsTable, List, None, Option, REGION, Some, ap, arith, bit_or, cases_eq, contains, contains-empty, contains-insert, empty, false, get_or, get_or-set_other, get_or-set_same, index_of, inl, inr, insert, is_set, is_set_in, length, map, nat_cmp, or_cases, or_left, or_right, place_at, refl, same_address, same_set, set, sym, true, ℕ, ⊎_elim, ◌%◌, ◌*◌, ◌+◌, ◌/◌, ◌<◌, ◌==◌, ◌^◌, ◌||◌, ◌∙◌, ◌≡◌, ◌≢◌}
+use Rattle.std.proofs.Math.ListN.{get_or-map}
+use Rattle.std.proofs.lemmas.Grind.{get_or_default_zero}
 use Rattle.std.specs.{Int.bit_at, FinMap.nat_cmp-IsAntisymmetric, Cmp.nat_cmp_total}
 use Rattle.hd_mask.proofs.Bits.{set_same, set_other}
-use Rattle.hd_heap.proofs.IndexedLists.{tied, untied, contains-places_of, get_or-tables}
 use Rattle.hd_mark.specs.Inside.{set_of}
+use Rattle.hd_heap.proofs.IndexedLists.{tied, untied, contains-places_of, get_or-tables}
 
 -- ---- one bit
 
-module _ (words : List ℕ) (i word : ℕ) (within : i / BITS < length words)
-    (read : word ≡ get_or words (i / BITS) 0) where
-  pub set_here : is_set (set words (i / BITS) (bit_or word (2 ^ (i % BITS)))) i ≡ true
-  set_here =
-      ap (λ w. bit_at w (i % BITS) == 1)
-      (get_or-set_same words (i / BITS) (bit_or word (2 ^ (i % BITS))) 0 within)
-      ∙ ap (λ b. b == 1) (set_same word (i % BITS))
+module _ (words : List ℕ) (i word bit : ℕ) (low : i < BITS * length words)
+    (read : word ≡ get_or words (i / BITS) word) (is : bit ≡ 2 ^ (i % BITS)) where
+  within : i / BITS < length words
+  within = omega (arith, low)
 
-  pub set_elsewhere : (k : ℕ) → k ≢ i
-      → is_set (set words (i / BITS) (bit_or word (2 ^ (i % BITS)))) k ≡ is_set words k
-  set_elsewhere k apart =
-      elim (cases_eq (k / BITS) (i / BITS)) [
-        | inl e ↦
-            ap (λ j. bit_at (get_or (set words (i / BITS) (bit_or word (2 ^ (i % BITS)))) j 0)
-            (k % BITS) == 1) e
-            ∙ ap (λ w. bit_at w (k % BITS) == 1)
-            (get_or-set_same words (i / BITS) (bit_or word (2 ^ (i % BITS))) 0 within)
-            ∙ ap (λ b. b == 1) (set_other word (i % BITS) (k % BITS) (λ s. apart (omega arith)))
-            ∙ ap (λ w. bit_at w (k % BITS) == 1) read
-            ∙ ap (λ j. bit_at (get_or words j 0) (k % BITS) == 1) (sym e)
-        | inr other ↦ ap (λ w. bit_at w (k % BITS) == 1)
-            (get_or-set_other words (i / BITS) (k / BITS) (bit_or word (2 ^ (i % BITS))) 0 other)
-      ]
+  after : get_or (set words (i / BITS) (bit_or word bit)) (i / BITS) 0 ≡ bit_or word (2 ^ (i % BITS))
+  after = get_or-set_same words (i / BITS) (bit_or word bit) 0 within ∙ ap (bit_or word) is
+
+  pub set_here : is_set (set words (i / BITS) (bit_or word bit)) i ≡ true
+  set_here = ap (λ w. bit_at w (i % BITS) == 1) after ∙ ap (λ b. b == 1) (set_same word (i % BITS))
+
+  pub set_elsewhere : (k : ℕ) → k ≢ i → is_set (set words (i / BITS) (bit_or word bit)) k ≡ is_set words k
+  set_elsewhere k apart = elim (cases_eq (k / BITS) (i / BITS)) [
+    | inl e ↦
+        ap (λ j. bit_at (get_or (set words (i / BITS) (bit_or word bit)) j 0) (k % BITS) == 1) e
+        ∙ ap (λ w. bit_at w (k % BITS) == 1) after
+        ∙ ap (λ b. b == 1) (set_other word (i % BITS) (k % BITS) (λ s. apart (omega arith)))
+        ∙ ap (λ w. bit_at w (k % BITS) == 1) (read ∙ get_or_default_zero words (i / BITS) word within)
+        ∙ ap (λ j. bit_at (get_or words j 0) (k % BITS) == 1) (sym e)
+    | inr other ↦ ap (λ w. bit_at w (k % BITS) == 1)
+        (get_or-set_other words (i / BITS) (k / BITS) (bit_or word bit) 0 other)
+  ]
 
 -- ---- members of sets of numbers
 
 module _ (s : FinSet nat_cmp) (k q : ℕ) where
-  pub insert_here : q ≡ k → contains (insert s k) q ≡ true
+  insert_here : q ≡ k → contains (insert s k) q ≡ true
   insert_here e = contains-insert nat_cmp_total s k q ∙ ap (λ b. b || contains s q) (tied q k e)
 
-  pub insert_elsewhere : q ≢ k → contains (insert s k) q ≡ contains s q
+  insert_elsewhere : q ≢ k → contains (insert s k) q ≡ contains s q
   insert_elsewhere apart =
       contains-insert nat_cmp_total s k q ∙ ap (λ b. b || contains s q) (untied q k apart)
 
-  pub insert_keeps : contains s q ≡ true → contains (insert s k) q ≡ true
-  insert_keeps member =
-      elim (cases_eq q k) [ inl e ↦ insert_here e | inr apart ↦ insert_elsewhere apart ∙ member ]
+-- a set, or what it is without a test, gains an address that is inserted
+pub insert_gains : (test : Addr → Bool) (s : FinSet nat_cmp) (a : Addr)
+    → Gains a (λ x. test x || contains s x.0) (λ x. test x || contains (insert s a.0) x.0)
+insert_gains test s a = record {
+  keeps = λ x h. ⊎_elim (or_left (test x) _)
+      (λ member. or_right (test x) _ (elim (cases_eq x.0 a.0) [
+        | inl e ↦ insert_here s a.0 x.0 e
+        | inr apart ↦ insert_elsewhere s a.0 x.0 apart ∙ member
+      ])) (or_cases (test x) _ h);
+  joins = or_right (test a) _ (insert_here s a.0 a.0 refl);
+  only = λ x h. ⊎_elim (λ passes. inl (or_left (test x) _ passes))
+      (λ member. elim (cases_eq x.0 a.0) [
+        | inl e ↦ inr (same_address x a e)
+        | inr apart ↦ inl (or_right (test x) _ (sym (insert_elsewhere s a.0 x.0 apart) ∙ member))
+      ]) (or_cases (test x) _ h);
+}
 
 same_numbers : (s t : FinSet nat_cmp) → ((q : ℕ) → contains s q ≡ contains t q) → s ≡ t
 same_numbers = same_set nat_cmp_total nat_cmp-IsAntisymmetric
 
 -- ---- sets of addresses
 
-pub contains-set_of : (places : List (Option ℕ)) (words : List ℕ) (q : ℕ)
+contains-set_of : (places words : List ℕ) (q : ℕ)
     → contains (set_of places words) q ≡ is_set_in words (place_at places (q / REGION)) (q % REGION)
 unfolding set_of
 contains-set_of places words q =
     contains-places_of _ q
-    ∙ get_or-tables REGION (is_set_in words) false (λ k. refl) places q (q / REGION) (q % REGION)
-    (omega arith)
-    (omega arith)
+    ∙ get_or-tables REGION (is_set_in words) false (λ k. refl) (map index_of places) q (q / REGION)
+    (q % REGION) (omega arith) (omega arith)
+    ∙ ap (λ o. is_set_in words o (q % REGION)) (get_or-map index_of places (q / REGION) 0)
 
 -- where no bit is set, no address is a member
-pub set_of_none : (places : List (Option ℕ)) (words : List ℕ) → ((i : ℕ) → is_set words i ≡ false)
-    → set_of places words ≡ empty
+pub set_of_none : (places words : List ℕ) → ((i : ℕ) → is_set words i ≡ false) → set_of places words ≡ empty
 set_of_none places words none =
     same_numbers _ _ (λ q.
     contains-set_of places words q ∙ in_region (place_at places (q / REGION)) (q % REGION)
@@ -71,45 +84,34 @@ set_of_none places words none =
     in_region None k = refl
     in_region (Some p) k = none (p * REGION + k)
 
--- the bit of an address: whether it is set says whether the address is a member
-pub bit_read : (places : List (Option ℕ)) (words : List ℕ) (q bit : ℕ)
-    → is_some (place_at places (q / REGION)) ≡ true
-    → IfSome (place_at places (q / REGION)) (λ p. bit ≡ p * REGION + q % REGION)
-    → is_set words bit ≡ contains (set_of places words) q
-bit_read places words q bit some is =
-    by_place (place_at places (q / REGION)) some is ∙ sym (contains-set_of places words q)
-  where
-    by_place : (o : Option ℕ) → is_some o ≡ true → IfSome o (λ p. bit ≡ p * REGION + q % REGION)
-        → is_set words bit ≡ is_set_in words o (q % REGION)
-    by_place None none bit_is = absurd (cc none)
-    by_place (Some p) there bit_is = ap (is_set words) bit_is
+-- the bit of an address in a region with an index
+module _ (places : List ℕ) (a p : ℕ) (here : place_at places (a / REGION) ≡ Some p) {bit : ℕ}
+    (is : p * REGION + a % REGION ≡ bit) where
+  -- whether it is set says whether the address is a member
+  pub bit_read : (words : List ℕ) → is_set words bit ≡ contains (set_of places words) a
+  bit_read words =
+      ap (is_set words) (sym is) ∙ ap (λ o. is_set_in words o (a % REGION)) (sym here)
+      ∙ sym (contains-set_of places words a)
 
--- to set the bit of an address is to insert it
-pub bit_joins : (places : List (Option ℕ)) (regions : ℕ) (words after : List ℕ) (a bit : ℕ)
-    → IsTable places regions → is_some (place_at places (a / REGION)) ≡ true
-    → IfSome (place_at places (a / REGION)) (λ p. bit ≡ p * REGION + a % REGION) → is_set after bit ≡ true
-    → ((k : ℕ) → k ≢ bit → is_set after k ≡ is_set words k)
-    → set_of places after ≡ insert (set_of places words) a
-bit_joins places regions words after a bit table some is joins others =
-    same_numbers _ _ (λ q.
-    elim (cases_eq q a) [
-      | inl same ↦
-          ap (contains (set_of places after)) same ∙ sym (bit_read places after a bit some is) ∙ joins
-          ∙ sym (insert_here (set_of places words) a q same)
-      | inr apart ↦
-          contains-set_of places after q
-          ∙ elsewhere q apart (place_at places (a / REGION)) refl some is (place_at places (q / REGION)) refl
-          ∙ sym (contains-set_of places words q)
-          ∙ sym (insert_elsewhere (set_of places words) a q apart)
-    ])
-  where
-    elsewhere : (q : ℕ) → q ≢ a → (o : Option ℕ) → place_at places (a / REGION) ≡ o → is_some o ≡ true
-        → IfSome o (λ p. bit ≡ p * REGION + a % REGION) → (r : Option ℕ) → place_at places (q / REGION) ≡ r
-        → is_set_in after r (q % REGION) ≡ is_set_in words r (q % REGION)
-    elsewhere q apart None here none bit_is r there = absurd (cc none)
-    elsewhere q apart (Some p) here some_p bit_is None there = refl
-    elsewhere q apart (Some p) here some_p bit_is (Some r) there = others (r * REGION + q % REGION) (λ e.
-        let one : r ≡ p = omega (arith, e, bit_is) in
-        let region : q / REGION ≡ a / REGION = table.apart (q / REGION) (a / REGION) r there
-        (here ∙ ap Some (sym one)) in
-        apart (omega (arith, e, bit_is, one, region)))
+  -- to set it is to insert the address
+  pub bit_joins : {regions : ℕ} (words after : List ℕ) → IsTable places regions → is_set after bit ≡ true
+      → ((k : ℕ) → k ≢ bit → is_set after k ≡ is_set words k)
+      → set_of places after ≡ insert (set_of places words) a
+  bit_joins words after table joins others =
+      same_numbers _ _ (λ q.
+      elim (cases_eq q a) [
+        | inl same ↦
+            ap (contains (set_of places after)) same ∙ sym (bit_read after) ∙ joins
+            ∙ sym (insert_here (set_of places words) a q same)
+        | inr apart ↦
+            contains-set_of places after q ∙ elsewhere q apart (place_at places (q / REGION)) refl
+            ∙ sym (contains-set_of places words q) ∙ sym (insert_elsewhere (set_of places words) a q apart)
+      ])
+    where
+      elsewhere : (q : ℕ) → q ≢ a → (r : Option ℕ) → place_at places (q / REGION) ≡ r
+          → is_set_in after r (q % REGION) ≡ is_set_in words r (q % REGION)
+      elsewhere q apart None there = refl
+      elsewhere q apart (Some r) there = others (r * REGION + q % REGION) (λ e.
+          let one : r ≡ p = omega (arith, e, is) in
+          let region = table.apart (q / REGION) (a / REGION) r there (here ∙ ap Some (sym one)) in
+          apart (omega (arith, e, is, one, region)))

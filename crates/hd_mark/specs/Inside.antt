@@ -1,8 +1,8 @@
 -- No public clause needs what is defined here: how marks and pins are stored in bits, and what is always true
 -- of the fields of marks.
-use Rattle.std.specs.Prelude.{◌≡◌, ◌≢◌, ℕ, ◌+◌, ◌*◌, ◌/◌, ◌%◌, ◌<◌, ◌≤◌, ◌==◌, not, Bool, true, false, List, length, filter, take, drop, slice_index, slice_index_or, AllPairs, Contains, Option, Some, None, is_some, option_map, map, zero, suc}
+use Rattle.std.specs.Prelude.{◌≡◌, ℕ, ◌+◌, ◌*◌, ◌/◌, ◌%◌, ◌<◌, ◌≤◌, ◌==◌, not, Bool, true, false, List, length, filter, take, drop, slice_index, Option, Some, None, is_some, option_map, map, zero, suc}
 use Rattle.std.specs.{Int.bit_at, FinSet.FinSet, FinSet.contains, Ordering.nat_cmp}
-use Rattle.hd_model.specs.{declared.limits.TheConstants.REGION, declared.limits.TheConstants.REGIONS, declared.data.Addr.Addr}
+use Rattle.hd_model.specs.{Counting.Counts, declared.limits.TheConstants.REGION, declared.limits.TheConstants.REGIONS, declared.data.Addr.Addr}
 use Rattle.hd_model.specs.Heap.{Heap, Basis, region_of, offset_of, has_object}
 use Rattle.hd_heap.specs.{Calls.is_condemned, Places.places_of, Places.tables}
 use Rattle.hd_mark.specs.{declared.bits.TheConstants.BITS, declared.bits.TheConstants.WORDS, declared.places.Places.Places, Marks.MarksOf, Steps.IsTraced}
@@ -16,13 +16,9 @@ abbrev pub index_of : ℕ → Option ℕ
 index_of zero = None
 index_of (suc p) = Some (suc p)
 
--- the indices of the regions, as they are stored
-abbrev pub indices : List ℕ → List (Option ℕ)
-indices places = map index_of places
-
 -- the index of a region among the condemned ones, if it is one
-abbrev pub place_at : List (Option ℕ) → ℕ → Option ℕ
-place_at places r = slice_index_or places r None
+abbrev pub place_at : List ℕ → ℕ → Option ℕ
+place_at places r = index_of (slice_index places r)
 
 -- whether a word of a region is marked: a condemned region has a bit for each word, from REGION times its
 -- index on
@@ -31,29 +27,33 @@ is_set_in words None k = false
 is_set_in words (Some p) k = is_set words (p * REGION + k)
 
 -- the addresses that are marked
-unfoldable pub set_of : List (Option ℕ) → List ℕ → FinSet nat_cmp
-set_of places words = places_of (tables REGION (is_set_in words) places)
+unfoldable pub set_of : List ℕ → List ℕ → FinSet nat_cmp
+set_of places words = places_of (tables REGION (is_set_in words) (map index_of places))
+
+-- the number of the bit of an address, if its region has an index
+abbrev pub bit_of : List ℕ → Addr → Option ℕ
+bit_of places a = option_map (λ p. p * REGION + offset_of a) (place_at places (region_of a))
 
 -- indices are below the number of condemned regions, and no two regions share one
-pub record IsTable (places : List (Option ℕ)) (regions : ℕ) : Type 0 where
+pub record IsTable (places : List ℕ) (regions : ℕ) : Type 0 where
+  pub few : regions ≤ REGIONS
   pub within : (r p : ℕ) → place_at places r ≡ Some p → p < regions
   pub apart : (r s p : ℕ) → place_at places r ≡ Some p → place_at places s ≡ Some p → r ≡ s
 
--- the number of the bit of an address, if its region has an index
-abbrev pub bit_of : List (Option ℕ) → Addr → Option ℕ
-bit_of places a = option_map (λ p. p * REGION + offset_of a) (place_at places (region_of a))
-
--- the regions of condemned objects have an index, those of older ones have none
-abbrev pub Covers : Heap → ℕ → List (Option ℕ) → Type 0
-Covers h n places =
-    (a : Addr) → has_object h a ≡ true → is_some (place_at places (region_of a)) ≡ is_condemned h n a
+-- each region of an object is in the table; those of condemned objects have an index, those of older ones
+-- have none
+pub record HasPlaces (h : Heap) (n : ℕ) (p : Places) : Type 0 where
+  pub table : IsTable p.places.items p.regions
+  pub covers : (a : Addr) → has_object h a ≡ true
+      → is_some (place_at p.places.items (region_of a)) ≡ is_condemned h n a
+  pub span : (a : Addr) → has_object h a ≡ true → region_of a < length p.places.items
 
 -- how many of these addresses are not in a set
-abbrev pub left : FinSet nat_cmp → List ℕ → ℕ
-left s members = length (filter (λ k. not (contains s k)) members)
+abbrev pub left : FinSet nat_cmp → List Addr → ℕ
+left s members = length (filter (λ a. not (contains s a.0)) members)
 
 -- what is seen of the fields of marks
-abbrev pub seen : Basis → List (Option ℕ) → (marks pins : List ℕ) → List Addr → ℕ → MarksOf
+abbrev pub seen : Basis → (places marks pins : List ℕ) → List Addr → ℕ → MarksOf
 seen b places marks pins log next = record {
   basis = b;
   marks = set_of places marks;
@@ -62,19 +62,15 @@ seen b places marks pins log next = record {
   unscanned = drop next log;
 }
 
--- each region of an object is in the table, each condemned object has a mark bit and a pin bit, the log has room for those that are not marked, and
+-- each condemned object has a mark bit and a pin bit, the log has room for those that are not marked, and
 -- what was scanned names promoted objects alone
 pub record AreMarks (b : Basis) (p : Places) (marks pins : List ℕ) (log : List Addr) (next room : ℕ) : Type 0
   where
-    pub table : IsTable (indices p.places.items) p.regions
-    pub few : p.regions ≤ REGIONS
-    pub covers : Covers b.heap b.condemned (indices p.places.items)
-    pub span : (a : Addr) → has_object b.heap a ≡ true → region_of a < length p.places.items
+    pub places : HasPlaces b.heap b.condemned p
     pub marks_long : length marks ≡ WORDS * p.regions
     pub pins_long : length pins ≡ WORDS * p.regions
-    pub members : List ℕ
-    pub apart : AllPairs (λ x y. x ≢ y) members
-    pub all : (a : Addr) → is_condemned b.heap b.condemned a ≡ true → Contains members a.0
-    pub room_left : length log + left (set_of (indices p.places.items) marks) members ≤ room
+    pub number : ℕ
+    pub condemned : Counts (λ a. is_condemned b.heap b.condemned a ≡ true) number
+    pub room_left : length log + left (set_of p.places.items marks) condemned.members ≤ room
     pub within : next ≤ length log
-    pub traced : IsTraced (seen b (indices p.places.items) marks pins log next)
+    pub traced : IsTraced (seen b p.places.items marks pins log next)

@@ -75,10 +75,11 @@ first_marks h n = record {
 }
 
 -- an object is marked and to be scanned, unless it is promoted
+abbrev pub marked_also : MarksOf → Addr → MarksOf
+marked_also m a = record m { marks = set.insert m.marks a.0; unscanned = m.unscanned ++ a ∷ [] }
+
 abbrev pub pushed : MarksOf → Addr → MarksOf
-pushed m a =
-    if promoted_in m a then m
-    else (record m { marks = set.insert m.marks a.0; unscanned = m.unscanned ++ a ∷ [] })
+pushed m a = if promoted_in m a then m else marked_also m a
 
 -- an object is pinned, unless it is older
 abbrev pub pinned_also : MarksOf → Addr → MarksOf

@@ -1,8 +1,8 @@
 -- No public clause needs what is defined here: how marks grow by the steps of a drain.
-use Rattle.std.specs.Prelude.{◌≡◌, ◌≢◌, ◌⊎◌, true, List, ◌∷◌, ◌++◌, fold, take, drop, Contains, AllPairs, Option, Some, None}
+use Rattle.std.specs.Prelude.{◌≡◌, ◌≢◌, ◌⊎◌, true, List, ◌∷◌, ◌++◌, fold, length, take, drop, Contains, AllPairs, Option, Some, None}
 use Rattle.std.specs.{FinSet.FinSet, FinSet.contains, Ordering.nat_cmp}
-use Rattle.hd_model.specs.{declared.data.Addr.Addr, Scene.IsField, Scene.IsCondemned, Heap.objects_of, Names.HasClosedFields}
-use Rattle.hd_mark.specs.Marks.{MarksOf, log_of, promoted_in, pushed}
+use Rattle.hd_model.specs.{declared.data.Addr.Addr, Leads.Grows, Scene.IsField, Scene.IsCondemned, Scene.IsYoungField, Heap.objects_of, Names.HasClosedFields}
+use Rattle.hd_mark.specs.Marks.{MarksOf, IsSettledMarks, log_of, pinned_in, promoted_in, pushed}
 
 -- what a field references is pushed
 abbrev pub pushed_field : MarksOf → Option Addr → MarksOf
@@ -39,3 +39,12 @@ pub record IsNextDone (m : MarksOf) : Type 0 where
 abbrev pub advanced : MarksOf → MarksOf
 advanced m =
     record m { scanned = m.scanned ++ take 1 m.unscanned; unscanned = drop 1 m.unscanned }
+
+-- an object is promoted, with what it leads to, and nothing is left to scan
+pub record Marked (a : Addr) (old new : MarksOf) : Type 0 where
+  pub settled : IsSettledMarks new
+  pub basis : new.basis ≡ old.basis
+  pub grows : Grows (IsYoungField (objects_of old.basis) old.basis.condemned) (λ x. x ≡ a) (promoted_in old)
+      (promoted_in new)
+  pub pinned : pinned_in new ≡ pinned_in old
+  pub log : take (length (log_of old)) (log_of new) ≡ log_of old

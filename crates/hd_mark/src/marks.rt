@@ -1,11 +1,11 @@
 // The marks of one collection, as its phases see them.
-ghost use Rattle.std.specs.Prelude.{◌≡◌, ◌∷◌, [], ℕ, Bool, true, false, IfOk, MatchOption, Contains, length, take, drop};
+ghost use Rattle.std.specs.Prelude.{◌≡◌, ◌∷◌, [], ℕ, Bool, true, false, IfOk, MatchOption, Contains, drop};
 ghost use Rattle.hd_model.specs.{Leads.Grows, Heap.object_at, Heap.objects_of, Names.HasClosedFields};
 ghost use Rattle.hd_model.specs.Scene.{fields_at, is_object, IsYoungField};
 ghost use Rattle.hd_heap.specs.Calls.{IsExtent};
-ghost use Rattle.hd_mark.specs.Marks.{first_marks, pushed, pinned_also, promoted_in, pinned_in, log_of, GoesOn};
+ghost use Rattle.hd_mark.specs.Marks.{first_marks, pushed, pinned_also, promoted_in, GoesOn};
 ghost use Rattle.hd_mark.specs.Marks.{HasNoneYet, IsSettledMarks};
-ghost use Rattle.hd_mark.specs.Steps.{scanned, advanced, IsTraced, IsNextDone};
+ghost use Rattle.hd_mark.specs.Steps.{scanned, advanced, IsTraced, IsNextDone, Marked};
 
 use crate::bits::Bits;
 use crate::places::Places;
@@ -34,14 +34,14 @@ pub struct Marks<'h> {
 
 impl<'h> Model for Marks<'h> {
     ghost use Rattle.std.specs.Prelude.{vec_capacity};
-    ghost use Rattle.hd_mark.specs.{Marks.MarksOf, Marks.marks_code, Inside.seen, Inside.indices, Inside.AreMarks};
+    ghost use Rattle.hd_mark.specs.{Marks.MarksOf, Marks.marks_code, Inside.seen, Inside.AreMarks};
 
     ghost Value = { MarksOf };
 
     ghost coded = { marks_code };
 
     ghost view = { λ m. seen (record { heap = m.heap.now; condemned = m.condemned })
-        (indices m.places.places.items) m.marks.words.items m.pins.words.items m.log.items m.next };
+        m.places.places.items m.marks.words.items m.pins.words.items m.log.items m.next };
 
     ghost invariant = { λ m. AreMarks (record { heap = m.heap.now; condemned = m.condemned })
         m.places m.marks.words.items m.pins.words.items m.log.items m.next
@@ -129,27 +129,6 @@ impl<'h> Marks<'h> {
         }
     }
 
-    // The same, where one object alone is left to scan. Where that has no fields, it is passed at
-    // once.
-    #[inline(always)]
-    fn drain_one(&mut self, at: Addr)
-        requires one { self.old.unscanned ≡ at ∷ [] }
-        requires object { is_object (objects_of self.old.basis) at ≡ true }
-        ensures settled { IsSettledMarks self.new }
-        ensures basis { self.new.basis ≡ self.old.basis }
-        ensures pins { self.new.pins ≡ self.old.pins }
-        ensures grows { Grows (IsYoungField (objects_of self.old.basis) self.old.basis.condemned)
-            (λ x. Contains self.old.unscanned x) (promoted_in self.old) (promoted_in self.new) }
-        ensures log { GoesOn self.old self.new }
-    {
-        let bare = self.heap.fields(at) == 0;
-        if bare {
-            self.pass_last();
-            return;
-        }
-        self.drain();
-    }
-
     // The next object to scan.
     #[inline(always)]
     fn next_unscanned(&self) -> Option<Addr>
@@ -187,31 +166,21 @@ impl<'h> Marks<'h> {
         self.next += 1;
     }
 
-    // The same of the only object to scan.
-    #[inline(always)]
-    fn pass_last(&mut self)
-        requires next { IsNextDone self.old }
-        requires last { drop 1 self.old.unscanned ≡ [] }
-        ensures after { self.new ≡ advanced self.old }
-        ensures traced { IsTraced self.new }
-    {
-        self.next = self.log.len();
-    }
-
-    // Promotes an object and what is reached from it, where nothing is left to scan.
+    // Promotes an object and what is reached from it, where nothing is left to scan. An object
+    // without fields counts as scanned at once.
     #[inline(always)]
     fn mark(&mut self, at: Addr)
         requires settled { IsSettledMarks self.old }
         requires object { is_object (objects_of self.old.basis) at ≡ true }
-        ensures settled { IsSettledMarks self.new }
-        ensures basis { self.new.basis ≡ self.old.basis }
-        ensures grows { Grows (IsYoungField (objects_of self.old.basis) self.old.basis.condemned)
-            (λ x. x ≡ at) (promoted_in self.old) (promoted_in self.new) }
-        ensures pinned { pinned_in self.new ≡ pinned_in self.old }
-        ensures log { take (length (log_of self.old)) (log_of self.new) ≡ log_of self.old }
+        ensures { Marked at self.old self.new }
     {
         if self.push_new(at) {
-            self.drain_one(at);
+            let bare = self.heap.fields(at) == 0;
+            if bare {
+                self.advance();
+                return;
+            }
+            self.drain();
         }
     }
 

@@ -1,11 +1,11 @@
 // The condemned regions of a heap: their indices among themselves.
-ghost use Rattle.std.specs.Prelude.{◌≡◌, ℕ, ◌<◌, ◌≤◌, true, length, IfOk};
-ghost use Rattle.hd_model.specs.Heap.{has_object, region_of};
+ghost use Rattle.std.specs.Prelude.{◌≡◌, ◌<◌, length, IfOk};
+ghost use Rattle.hd_model.specs.Heap.{region_of};
 ghost use Rattle.hd_heap.specs.Calls.{IsExtent};
-ghost use Rattle.hd_mark.specs.Inside.{bit_of, indices, IsTable, Covers};
+ghost use Rattle.hd_mark.specs.Inside.{bit_of, IsTable, HasPlaces};
 
 use hd_heap::{Extent, Heap};
-use hd_model::limits::{REGION, REGIONS};
+use hd_model::limits::REGION;
 use hd_model::{Addr, Memory};
 use std::alloc::Global;
 
@@ -24,11 +24,7 @@ impl Places {
     #[tactic(auto, unfolding(hd_model::specs::Heap::region_of))]
     pub(crate) fn of(alloc: Global, heap: &Heap, n: u8, extent: Extent) -> Result<Places, Memory>
         requires extent { IsExtent heap.now n extent }
-        ensures table { IfOk result (λ p. IsTable (indices p.places.items) p.regions) }
-        ensures few { IfOk result (λ p. p.regions ≤ REGIONS) }
-        ensures covers { IfOk result (λ p. Covers heap.now n (indices p.places.items)) }
-        ensures span { IfOk result (λ p. (a : Addr) → has_object heap.now a ≡ true
-            → region_of a < length p.places.items) }
+        ensures { IfOk result (HasPlaces heap.now n) }
     {
         let mut places = Vec::new(alloc);
         let Ok(()) = places.resize(extent.end as usize, 0) else {
@@ -52,10 +48,9 @@ impl Places {
     /// The number of the bit of an address, if it lies in a condemned region.
     #[tactic(auto, unfolding(hd_model::specs::Heap::region_of))]
     pub(crate) fn bit(&self, at: Addr) -> Option<u32>
-        requires table { IsTable (indices self.now.places.items) self.now.regions }
-        requires few { self.now.regions ≤ REGIONS }
+        requires table { IsTable self.now.places.items self.now.regions }
         requires span { region_of at < length self.now.places.items }
-        ensures { result ≡ bit_of (indices self.now.places.items) at }
+        ensures { result ≡ bit_of self.now.places.items at }
     {
         match self.places[(at.0 / REGION) as usize] {
             0 => None,

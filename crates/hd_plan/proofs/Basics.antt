@@ -35,7 +35,7 @@ pub use Rattle.hd_model.specs.declared.data.Addr.{Addr}
 pub use Rattle.hd_plan.specs.Commit.{ChangesRegions, Commits, IsSameShape, NeedsCard, moved_object}
 pub use Rattle.hd_plan.specs.CommitSteps.{AreAlike, AreCarded, AreCopied, AreGivenUp, AreRemovedIn, AreRewritten, AreSettledRegions, CanCopy, HasEnd, HasKeptFields, HaveGone, IsKeptAt, IsLeft, IsStayedAt, MayCard, MayGoFrom, MayOpen, NamesYounger, is_pinned, opened_for, starts_in}
 pub use Rattle.hd_plan.specs.LaySteps.{AreChosen, AreMovesTo, ArePut, CanPutAt, HasMoveRoom, HasPlaces, HasRegionRoom, HasSlack, IsCursor, IsFresh, IsLaying, IsMoveOf, IsPlan, IsPut, IsRoom, IsToLay, WasFree, begun, cell_at, cells_laid, first_at, place_among, place_from, spot_in}
-pub use Rattle.hd_plan.specs.Layout.{AreMoves, AreRegions, Fits, FitsMove, Followed, HasStay, IsCondemnedRegion, IsRising, Opened, Room, condemned_at, cursor_of, filled, find_move, followed_cursor, has_region, is_kept_by, opened_cursor, place_by, put_cursors, put_fate, put_move, region_in, room_at, room_of, stays_among, with_cursor}
+pub use Rattle.hd_plan.specs.Layout.{AreMoves, AreMovesOf, AreRegions, AreRegionsOf, Fits, FitsMove, Followed, HasStay, IsCondemnedRegion, IsRising, Opened, Room, condemned_at, cursor_of, filled, find_move, followed_cursor, has_region, is_kept_by, opened_cursor, place_by, put_cursors, put_fate, put_move, region_in, room_at, room_of, stays_among, with_cursor}
 pub use Rattle.hd_heap.specs.Moves.{is_following, is_kept_fate, is_moving, is_opening, is_staying, may_card, move_at}
 pub use Rattle.hd_plan.specs.PackedRegions.{IsPacked, IsYoungRegion, is_older_region}
 pub use Rattle.hd_plan.specs.Plan.{HasFreeRegions, HasNoEmptyCondemned, HasNoEmptyRegion, IsLaid, PlanOf, SparesAtMost, Takes, kept_in, place_in, stays_in}

@@ -1,16 +1,20 @@
 -- Lemmas on cards that are set and cleared.
-use Rattle.hd_plan.proofs.Basics.{Addr, AreCarded, Bool, CARD, Contains, HasClosedFields, Heap, IsField, IsNext, IsSound, IsWalk, List, MayCard, Move, NamesYounger, NeedsCard, None, Object, Option, Some, and_from, and_left, and_parts, ap, arith, both_ways, cases_eq, cases_lt, eq-eqb, eq_by_cmp, eqb-true, false, false_from_ne_true, fields_in, generation_at, has_object, inl, inr, is_after, is_kept_fate, is_old_carded, is_set, is_some, lt-ltb, ltb-false, ltb-true, move_at, nat_cmp, nat_lt, not, object_at, or_left, or_parts, refl, same_Some, same_address, starts_in, subst, sym, true, with_card, ℕ, ◌&&◌, ◌*◌, ◌+◌, ◌-◌, ◌/◌, ◌<◌, ◌^◌, ◌||◌, ◌↔◌, ◌∙◌, ◌≡◌, ◌≢◌, ◌≤◌}
+use Rattle.hd_plan.proofs.Basics.{Addr, AreCarded, Bool, CARD, Contains, HasClosedFields, Heap, IsField, IsNext, IsSound, IsWalk, List, MayCard, Move, NamesYounger, NeedsCard, None, Object, Objects, Option, Some, and_from, and_left, and_parts, ap, arith, both_ways, cases_eq, cases_lt, eq-eqb, eq_by_cmp, eqb-true, false, false_from_ne_true, fields_in, generation_at, has_object, inl, inr, is_after, is_kept_fate, is_old_carded, is_set, is_some, lt-ltb, ltb-false, ltb-true, move_at, nat_cmp, nat_lt, not, object_at, or_left, or_parts, refl, same_Some, same_address, starts_in, subst, sym, true, with_card, ℕ, ◌&&◌, ◌*◌, ◌+◌, ◌-◌, ◌/◌, ◌<◌, ◌^◌, ◌||◌, ◌↔◌, ◌∙◌, ◌≡◌, ◌≢◌, ◌≤◌}
 use Rattle.std.specs.Cmp.{nat_cmp_total}
 use Rattle.hd_model.specs.Heap.{card_of}
 use Rattle.hd_heap.proofs.IndexedLists.{tied, untied}
 use Rattle.hd_plan.proofs.{MoveEnds.ends_cases, LayStep.address_low, LayStep.reach_of, LayStep.reach_on}
 use Rattle.std.specs.FinSet as set_of
 
-module _ (old h new : Heap) (k : ℕ) (on : Bool) (same : h ≡ record old { cards = h.cards })
-    (step : new ≡ with_card h k on) where
-  only_cards : new ≡ record old { cards = new.cards }
-  only_cards = step ∙ ap (λ cs. record h { cards = cs }) (sym (ap (λ (x : Heap). x.cards) step))
-      ∙ ap (λ (x : Heap). record x { cards = new.cards }) same
+-- cards alone were changed, and changed again
+pub cards_alone : (old h new : Heap) → h ≡ record old { cards = h.cards }
+    → new ≡ record h { cards = new.cards } → new ≡ record old { cards = new.cards }
+cards_alone old h new same step = step ∙ ap (λ (x : Heap). record x { cards = new.cards }) same
+
+only_cards : (old h new : Heap) (k : ℕ) (on : Bool) → h ≡ record old { cards = h.cards }
+    → new ≡ with_card h k on → new ≡ record old { cards = new.cards }
+only_cards old h new k on same step = cards_alone old h new same
+    (step ∙ ap (λ cs. record h { cards = cs }) (sym (ap (λ (x : Heap). x.cards) step)))
 
 card_here : (h new : Heap) (k : ℕ) (on : Bool) → new ≡ with_card h k on → is_set new k ≡ on
 card_here h new k true step = ap (λ (x : Heap). is_set x k) step
@@ -27,31 +31,34 @@ card_beside h new k c true apart step = ap (λ (x : Heap). is_set x c) step
 card_beside h new k c false apart step = ap (λ (x : Heap). is_set x c) step
     ∙ set_of.contains-remove nat_cmp_total h.cards k c ∙ ap (λ b. not b && is_set h c) (untied c k apart)
 
-names_like : (old h : Heap) (a : Addr) → h ≡ record old { cards = h.cards } → NamesYounger old a
-    → NamesYounger h a
-names_like old h a same n =
-    let m : NamesYounger (record old { cards = h.cards }) a =
-    record { target = n.target; field = n.field; younger = n.younger } in
-    subst (λ (x : Heap). NamesYounger x a) (sym same) m
+-- what is the same in two heaps with the same objects
+pub names_alike : {h k : Heap} {a : Addr} → object_at h ≡ object_at k → NamesYounger h a → NamesYounger k a
+names_alike {h} {k} {a} same n = record {
+  target = n.target;
+  field = subst (λ (o : Objects Addr). IsField o a n.target) same n.field;
+  younger = subst (λ (o : Objects Addr). generation_at o n.target < generation_at o a) same n.younger;
+}
 
-pub names_back : (old h : Heap) (a : Addr) → h ≡ record old { cards = h.cards } → NamesYounger h a
-    → NamesYounger old a
-names_back old h a same n =
-    let is : (k : Heap) → h ≡ k → NamesYounger k a = λ k e. subst (λ (x : Heap). NamesYounger x a) e n in
-    let m = is (record old { cards = h.cards }) same in
-    record { target = m.target; field = m.field; younger = m.younger }
+needs_alike : {h k : Heap} {c : ℕ} → object_at h ≡ object_at k → NeedsCard h c → NeedsCard k c
+needs_alike same n = record {
+  from = n.from;
+  to = n.to;
+  in_card = n.in_card;
+  field = subst (λ (o : Objects Addr). IsField o n.from n.to) same n.field;
+  younger = subst (λ (o : Objects Addr). generation_at o n.to < generation_at o n.from) same n.younger;
+}
 
 -- the cards of kept objects, one more
-module _ (old h : Heap) (ms : List Move) (i : ℕ) (r : AreCarded old h ms i) where
+module _ {old h : Heap} {ms : List Move} {i : ℕ} (r : AreCarded old h ms i) where
   carded_none : (is_kept_fate (move_at ms i).fate ≡ true → NamesYounger h (move_at ms i).to → ⊥)
       → AreCarded old h ms (i + 1)
   carded_none none = record {
     same = r.same;
     more = r.more;
-    done = λ b e n. elim (ends_cases is_kept_fate (λ m. m.to) ms b i e) [
+    done = λ b e n. elim (ends_cases i e) [
       | inl was ↦ r.done b was n
       | inr here ↦ absurd (none here.0
-          (names_like old h (move_at ms i).to r.same (subst (NamesYounger old) (sym here.1) n)))
+          (names_alike (sym (ap object_at r.same)) (subst (NamesYounger old) (sym here.1) n)))
     ];
   }
 
@@ -66,7 +73,7 @@ module _ (old h : Heap) (ms : List Move) (i : ℕ) (r : AreCarded old h ms i) wh
       record {
         same = only_cards old h new k true r.same step;
         more = λ c was. more c (r.more c was);
-        done = λ b e n. elim (ends_cases is_kept_fate (λ m. m.to) ms b i e) [
+        done = λ b e n. elim (ends_cases i e) [
           | inl was ↦ more (card_of b) (r.done b was n)
           | inr here ↦ ap (λ x. is_set new (card_of x)) (sym here.1) ∙ card_here h new k true step
         ];
@@ -145,8 +152,8 @@ unneeding_starts h first is least = record {
   before = λ b starts low needs. (let high = least b starts in absurd (omega arith));
 }
 
-module _ (h : Heap) (card : ℕ) (place : Option Addr) (at : Addr) (is : place ≡ Some at)
-    (r : AreUnneeding h card place) where
+module _ {h : Heap} {card : ℕ} {place : Option Addr} (r : AreUnneeding h card place) (at : Addr)
+    (is : place ≡ Some at) where
   pub unneeding_object : has_object h at ≡ true
   unneeding_object = (starts_parts h card at (r.here at is)).0
 
@@ -196,8 +203,8 @@ module _ (h : Heap) (card : ℕ) (place : Option Addr) (at : Addr) (is : place �
       by (Some x) w = (let up = ltb-true at.0 x.0 w.beyond in
           let low = (address_low h sound at unneeding_object).1 in omega arith)
 
-pub unneeding_ends : (h : Heap) (card : ℕ) → AreUnneeding h card None → NeedsCard h card → ⊥
-unneeding_ends h card r n =
+pub unneeding_ends : {h : Heap} {card : ℕ} → AreUnneeding h card None → NeedsCard h card → ⊥
+unneeding_ends {h} {card} r n =
     r.before n.from (starts_from h card n.from (has_from h n.from n.to n.field) n.in_card) tt
     (record { target = n.to; field = n.field; younger = n.younger })
 
@@ -211,22 +218,10 @@ pub record IsExactBehind (old h : Heap) (after : Option Addr) (some : Bool) : Ty
   pub kept : (c : ℕ) → NeedsCard old c → is_set h c ≡ true
   pub is : reach_of after ≡ end * CARD
 
-needs_like : (old h : Heap) (c : ℕ) → h ≡ record old { cards = h.cards } → NeedsCard h c → NeedsCard old c
-needs_like old h c same n =
-    let is : (k : Heap) → h ≡ k → NeedsCard k c = λ k e. subst (λ (x : Heap). NeedsCard x c) e n in
-    let m = is (record old { cards = h.cards }) same in
-    record { from = m.from; to = m.to; in_card = m.in_card; field = m.field; younger = m.younger }
-
-needs_back : (old h : Heap) (c : ℕ) → h ≡ record old { cards = h.cards } → NeedsCard old c → NeedsCard h c
-needs_back old h c same n =
-    let m : NeedsCard (record old { cards = h.cards }) c =
-    record { from = n.from; to = n.to; in_card = n.in_card; field = n.field; younger = n.younger } in
-    subst (λ (x : Heap). NeedsCard x c) (sym same) m
-
 module _ {old h : Heap} {after : Option Addr} {some : Bool} (sound : IsSound h) (grown : (a : Addr)
     → has_object old a ≡ true → 0 < generation_at (object_at old) a) (r : IsExactBehind old h after some) where
   pub exact_fields : HasClosedFields (object_at old) → HasClosedFields (object_at h)
-  exact_fields closed = subst (λ (k : Heap). HasClosedFields (object_at k)) (sym r.same) closed
+  exact_fields closed = subst HasClosedFields (sym (ap object_at r.same)) closed
 
   -- an object in a set card after the end is walked over later
   beyond : (b : Addr) → r.end ≤ card_of b → is_after after b ≡ true
@@ -281,7 +276,7 @@ module _ {old h : Heap} {after : Option Addr} {some : Bool} (sound : IsSound h) 
         | inl here ↦
             let on : needed ≡ true = sym (card_here h new (card_of at) needed step)
             ∙ ap (is_set new) (sym here) ∙ set in
-            subst (NeedsCard old) (sym here) (needs_like old h (card_of at) r.same (decides.0 on))
+            subst (NeedsCard old) (sym here) (needs_alike (ap object_at r.same) (decides.0 on))
         | inr apart ↦
             let was = sym (card_beside h new (card_of at) c needed apart step) ∙ set in
             elim (cases_lt c r.end) [
@@ -301,7 +296,7 @@ module _ {old h : Heap} {after : Option Addr} {some : Bool} (sound : IsSound h) 
       kept = λ c n. elim (cases_eq c (card_of at)) [
         | inl here ↦
             let on : needed ≡ true =
-            decides.1 (needs_back old h (card_of at) r.same (subst (NeedsCard old) here n)) in
+            decides.1 (needs_alike (sym (ap object_at r.same)) (subst (NeedsCard old) here n)) in
             ap (is_set new) here ∙ card_here h new (card_of at) needed step ∙ on
         | inr apart ↦ card_beside h new (card_of at) c needed apart step ∙ r.kept c n
       ];
@@ -321,14 +316,9 @@ module _ {old h : Heap} {after : Option Addr} {some : Bool} (sound : IsSound h) 
 
     pub exact_ends : (c : ℕ) → (is_set h c ≡ true) ↔ NeedsCard h c
     exact_ends c = (
-      λ set. needs_back old h c r.same (r.needed c (behind c set) set),
-      λ n. r.kept c (needs_like old h c r.same n),
+      λ set. needs_alike (sym (ap object_at r.same)) (r.needed c (behind c set) set),
+      λ n. r.kept c (needs_alike (ap object_at r.same) n),
     )
 
     pub none_set : some ≡ false → (c : ℕ) → is_set h c ≡ false
     none_set e c = false_from_ne_true (is_set h c) (λ set. both_ways _ (r.none e c (behind c set)) set)
-
--- cards alone were changed, and changed again
-pub cards_alone : (old h new : Heap) → h ≡ record old { cards = h.cards }
-    → new ≡ record h { cards = new.cards } → new ≡ record old { cards = new.cards }
-cards_alone old h new same step = step ∙ ap (λ (x : Heap). record x { cards = new.cards }) same

@@ -1,24 +1,24 @@
 -- Lemmas on what is removed.
-use Rattle.hd_plan.proofs.Basics.{Addr, AreGivenUp, AreRemovedIn, Bool, CARD, Condemned, Heap, IsRemoved, List, Move, None, Option, REGION, Region, Some, ap, arith, both_ways, cases_Bool, cases_eq, cases_lt, condemned_at, false, false≢true, get_left, get_other, get_removed, get_same, has-get, has_object, inl, inr, is_set, is_some, is_staying, length, move_at, nat_cmp, not, refl, region_at, same_address, subst, sym, true, unwrap_or, with_generation, without_region, ℕ, ◌+◌, ◌/◌, ◌<◌, ◌∙◌, ◌≡◌, ◌≢◌}
+use Rattle.hd_plan.proofs.Basics.{Addr, AreGivenUp, AreRemovedIn, Bool, CARD, Condemned, Heap, IsRemoved, List, Move, None, Option, REGION, Region, Some, ap, arith, both_ways, cases_Bool, cases_eq, condemned_at, false, false≢true, get_left, get_other, get_removed, get_same, has-get, has_object, inl, inr, is_set, is_some, is_staying, length, move_at, nat_cmp, not, refl, region_at, same_address, subst, sym, true, unwrap_or, with_generation, without_region, ℕ, ⊎_elim, ◌+◌, ◌/◌, ◌<◌, ◌∙◌, ◌≡◌, ◌≢◌}
 use Rattle.hd_model.specs.Heap.{region_of, card_of}
 use Rattle.hd_heap.proofs.RegionGiveUp.{object_gone, object_left, card_left}
-use Rattle.hd_plan.proofs.{MoveEnds.ends_more, MoveEnds.ends_here, MoveEnds.ends_cases, CommitCopies.has_alike}
+use Rattle.hd_plan.proofs.{MoveEnds.up_to, MoveEnds.ends_more, MoveEnds.ends_here, MoveEnds.ends_cases, CommitCopies.has_alike, CommitCopies.no_region}
 use Rattle.std.specs.FinMap as fin
 
 -- what a map has where something was removed
 get_gone : {A : Type 0} (m : fin.FinMap nat_cmp A) (k q : ℕ) → q ≡ k → fin.get (fin.remove m k) q ≡ None
 get_gone m k q same = ap (fin.get (fin.remove m k)) same ∙ get_removed m k
 
-module _ (here : ℕ → Bool) (old h : Heap) (ms : List Move) (i : ℕ) (r : AreRemovedIn here old h ms i) where
+module _ {here : ℕ → Bool} {old h : Heap} {ms : List Move} {i : ℕ} (r : AreRemovedIn here old h ms i) where
   removed_rest : (not (is_staying (move_at ms i).fate) ≡ true → here (region_of (move_at ms i).from) ≡ false)
       → AreRemovedIn here old h ms (i + 1)
   removed_rest rest = record {
-    gone = λ a e on. elim (ends_cases (λ w. not (is_staying w)) (λ m. m.from) ms a i e) [
+    gone = λ a e on. elim (ends_cases i e) [
       | inl was ↦ r.gone a was on
       | inr now ↦ absurd (both_ways _ (rest now.0) (ap (λ (x : Addr). here (region_of x)) now.1 ∙ on))
     ];
     others = λ a none. r.others a
-        (λ e. none (ends_more (λ w. not (is_staying w)) (λ m. m.from) ms a i (i + 1) (omega arith) e));
+        (λ e. none (ends_more i (i + 1) (omega arith) e));
     same = r.same;
     cards = r.cards;
   }
@@ -35,24 +35,21 @@ module _ (here : ℕ → Bool) (old h : Heap) (ms : List Move) (i : ℕ) (r : Ar
       record {
         gone = λ a e o. elim (cases_eq a.0 at.0) [
           | inl same ↦ gone a same
-          | inr apart ↦ beside a apart ∙ elim (ends_cases (λ w. not (is_staying w)) (λ m. m.from) ms a i e) [
-            | inl was ↦ r.gone a was o
-            | inr new_one ↦ absurd (apart (ap (λ (x : Addr). x.0) (sym new_one.1)))
-          ]
+          | inr apart ↦ beside a apart ∙ ⊎_elim (λ was. r.gone a was o)
+              (λ now. absurd (apart (ap (λ (x : Addr). x.0) (sym now.1))))
+              (ends_cases i e)
         ];
         others = λ a none.
             beside a (λ same.
             let is : at ≡ a = sym (same_address a at same) in
-            both_ways _ (none (ends_here (λ w. not (is_staying w)) (λ m. m.from) ms a i left is))
+            both_ways _ (none (ends_here i left is))
             (ap (λ (x : Addr). here (region_of x)) (sym is) ∙ on))
             ∙ r.others a (λ e. none
-            (ends_more (λ w. not (is_staying w)) (λ m. m.from) ms a i (i + 1) (omega arith) e));
-        same = step.removed ∙ ap (λ (x : Heap). record x {
-          objects = fin.remove h.objects at.0;
+            (ends_more i (i + 1) (omega arith) e));
+        same = step.removed ∙ (λ k. record (r.same k) {
+          objects = sym (ap (λ (x : Heap). x.objects) step.removed) k;
           cards = new.cards;
-        }) r.same
-            ∙ ap (λ os. record old { objects = os; cards = new.cards })
-            (sym (ap (λ (x : Heap). x.objects) step.removed));
+        });
         cards = λ a is.
             let apart : a.0 ≢ at.0 =
             λ e. false≢true (ap is_some (sym (gone a e)) ∙ sym (has-get new a) ∙ is) in
@@ -85,9 +82,9 @@ unfolding region_of card_of
 card_region a = omega arith
 
 -- the regions, one after another
-module _ (old h : Heap) (cs : List Condemned) (i : ℕ) (low : i < length cs) (rising : (j k : ℕ) → j < k
-    → k < length cs → (condemned_at cs j).region < (condemned_at cs k).region)
-    (r : AreGivenUp old h cs i) where
+module _ {old h : Heap} {cs : List Condemned} {i : ℕ} (r : AreGivenUp old h cs i) (low : i < length cs)
+    (rising : (j k : ℕ) → j < k → k < length cs
+    → (condemned_at cs j).region < (condemned_at cs k).region) where
   region_apart : (k : ℕ) → k < i → (condemned_at cs k).region ≢ (condemned_at cs i).region
   region_apart k below same = (let less = rising k i below low in omega arith)
 
@@ -107,60 +104,34 @@ module _ (old h : Heap) (cs : List Condemned) (i : ℕ) (low : i < length cs) (r
         → fin.get new.objects a.0 ≡ fin.get h.objects a.0
     cards : (a : Addr) → has_object new a ≡ true
         → (has_object h a ≡ true) × (is_set new (card_of a) ≡ is_set h (card_of a))
-    same : new ≡ record h {
-      objects = new.objects;
-      regions = new.regions;
-      spare = new.spare;
-      cards = new.cards;
-    }
+    limit : new.limit ≡ h.limit
 
   settled_on : (new : Heap) (g : Option Region) → LeavesRegion new g → AreGivenUp old new cs (i + 1)
   settled_on new g is = record {
     regions = record {
-      raised = λ k before pinned. elim (cases_lt k i) [
-        | inl below ↦ is.beside (condemned_at cs k).region (region_apart k below) ∙ r.regions.raised k below
-            pinned
-        | inr high ↦
-            let same : i ≡ k = omega arith in
-            subst (λ j. (condemned_at cs j).pinned ≡ true
-            → fin.get new.regions (condemned_at cs j).region ≡ Some
-            (record {
-              generation = (condemned_at cs j).generation;
-              fill = (region_at old (condemned_at cs j).region).fill;
-            })) same
-            (λ p. is.here (condemned_at cs i).region refl ∙ is.raised p) pinned
-      ];
-      given_up = λ k before unpinned. elim (cases_lt k i) [
-        | inl below ↦ is.beside (condemned_at cs k).region (region_apart k below) ∙ r.regions.given_up k below
-            unpinned
-        | inr high ↦
-            let same : i ≡ k = omega arith in
-            subst (λ j. (condemned_at cs j).pinned ≡ false
-            → fin.get new.regions (condemned_at cs j).region ≡ None) same
-            (λ p. is.here (condemned_at cs i).region refl ∙ is.given_up p) unpinned
-      ];
+      raised = λ k before. up_to (λ j. (condemned_at cs j).pinned ≡ true
+          → fin.get new.regions (condemned_at cs j).region ≡ Some (record {
+            generation = (condemned_at cs j).generation;
+            fill = (region_at old (condemned_at cs j).region).fill;
+          })) i (λ j below pinned. is.beside _ (region_apart j below) ∙ r.regions.raised j below pinned)
+          (λ pinned. is.here _ refl ∙ is.raised pinned) k (omega arith);
+      given_up = λ k before. up_to (λ j. (condemned_at cs j).pinned ≡ false
+          → fin.get new.regions (condemned_at cs j).region ≡ None) i
+          (λ j below free. is.beside _ (region_apart j below) ∙ r.regions.given_up j below free)
+          (λ free. is.here _ refl ∙ is.given_up free) k (omega arith);
       others = λ q none. is.beside q (λ same. none i (omega arith) (sym same))
           ∙ r.regions.others q (λ k below. none k (omega arith));
     };
-    gone = λ k before unpinned a inside. elim (cases_lt k i) [
-      | inl below ↦ is.left a (λ p same. region_apart k below (sym (same ∙ inside)))
-          ∙ r.gone k below unpinned a inside
-      | inr high ↦
-          let same : i ≡ k = omega arith in
-          subst (λ j. (condemned_at cs j).pinned ≡ false → region_of a ≡ (condemned_at cs j).region
-          → fin.get new.objects a.0 ≡ None) same (λ p q. is.gone p a q) unpinned inside
-    ];
+    gone = λ k before. up_to (λ j. (condemned_at cs j).pinned ≡ false → (a : Addr)
+        → region_of a ≡ (condemned_at cs j).region → fin.get new.objects a.0 ≡ None) i
+        (λ j below free a inside. is.left a (λ p same. region_apart j below (sym (same ∙ inside)))
+        ∙ r.gone j below free a inside) is.gone k (omega arith);
     left = λ a none. is.left a (none i (omega arith)) ∙ r.left a (λ k below. none k (omega arith));
     cards = λ a there.
         let now = is.cards a there in
         let was = r.cards a now.0 in
         (was.0, now.1 ∙ was.1);
-    same = is.same ∙ ap (λ (x : Heap). record x {
-      objects = new.objects;
-      regions = new.regions;
-      spare = new.spare;
-      cards = new.cards;
-    }) r.same;
+    limit = is.limit ∙ r.limit;
   }
 
   settled_raised : (new : Heap) → (condemned_at cs i).pinned ≡ true
@@ -174,11 +145,7 @@ module _ (old h : Heap) (cs : List Condemned) (i : ℕ) (low : i < length cs) (r
       settled_on new (Some g) (record {
         here = λ q same. ap (λ (x : Heap). fin.get x.regions q) step ∙ get_same h.regions n q g same;
         beside = λ q apart. ap (λ (x : Heap). fin.get x.regions q) step ∙ get_other h.regions n q g apart;
-        raised = λ p. ap (λ (o : Option Region).
-            Some (record {
-              generation = (condemned_at cs i).generation;
-              fill = (unwrap_or o (record { generation = 0; fill = 0 })).fill;
-            })) was;
+        raised = λ p. ap (λ (o : Option Region). Some (record g { fill = (unwrap_or o no_region).fill })) was;
         given_up = λ p. absurd (both_ways _ p pinned);
         gone = λ p. absurd (both_ways _ p pinned);
         left = λ a other. ap (λ os. fin.get os a.0) objects;
@@ -186,12 +153,7 @@ module _ (old h : Heap) (cs : List Condemned) (i : ℕ) (low : i < length cs) (r
           sym (has_alike h new a (ap (λ os. fin.get os a.0) objects)) ∙ there,
           ap (λ (x : Heap). is_set x (card_of a)) step,
         );
-        same = step ∙ (λ k. record h {
-          objects = sym objects k;
-          regions = sym (ap (λ (x : Heap). x.regions) step) k;
-          spare = sym (ap (λ (x : Heap). x.spare) step) k;
-          cards = sym (ap (λ (x : Heap). x.cards) step) k;
-        });
+        limit = ap (λ (x : Heap). x.limit) step;
       })
 
   settled_given_up : (new : Heap) → (condemned_at cs i).pinned ≡ false
@@ -207,21 +169,15 @@ module _ (old h : Heap) (cs : List Condemned) (i : ℕ) (low : i < length cs) (r
         beside = λ q apart. ap (λ (x : Heap). fin.get x.regions q) step ∙ get_left h.regions n q apart;
         raised = λ p. absurd (both_ways _ unpinned p);
         given_up = λ p. refl;
-        gone = λ p a inside. gone a inside;
+        gone = λ p. gone;
         left = λ a other. left a (λ same. other unpinned (sym same));
         cards = λ a there.
             let apart : region_of a ≢ n =
-            λ same. false≢true (ap is_some (sym (gone a same)) ∙ sym (has-get new a) ∙ there) in (
-              sym (has_alike h new a (left a apart)) ∙ there,
-              ap (λ (x : Heap). is_set x (card_of a)) step
-                  ∙ card_left h n (card_of a) (λ same. apart (sym (card_region a) ∙ same)),
-            );
-        same = step ∙ (λ k. record h {
-          objects = sym (ap (λ (x : Heap). x.objects) step) k;
-          regions = sym (ap (λ (x : Heap). x.regions) step) k;
-          spare = sym (ap (λ (x : Heap). x.spare) step) k;
-          cards = sym (ap (λ (x : Heap). x.cards) step) k;
-        });
+            λ same. false≢true (ap is_some (sym (gone a same)) ∙ sym (has-get new a) ∙ there) in
+            let kept = card_left h n (card_of a) (λ same. apart (sym (card_region a) ∙ same)) in
+            let was = sym (has_alike h new a (left a apart)) ∙ there in
+            (was, ap (λ (x : Heap). is_set x (card_of a)) step ∙ kept);
+        limit = ap (λ (x : Heap). x.limit) step;
       })
 
   pub settled_step : (new : Heap) → ((condemned_at cs i).pinned ≡ true

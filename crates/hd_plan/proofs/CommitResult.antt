@@ -1,7 +1,8 @@
 -- The heap after the moving.
 use Rattle.hd_heap.proofs.NextObjects.{generation_is}
-use Rattle.hd_plan.proofs.Basics.{Addr, AreAlike, AreCarded, ArePut, ChangesRegions, Commits, Contains, HEADER, HasClosedFields, HasNoEmptyRegion, HasSoundCards, HasStay, Heap, IsCondemned, IsCondemnedRegion, IsField, IsKeptAt, IsPacked, List, NamesYounger, NeedsCard, None, Option, Placed, PlanOf, Region, Some, [], and_from, and_parts, ap, arith, both_ways, card_of, cases_Bool, cases_lt, cells_of, condemned_at, false, false_from_ne_true, fields_at, fields_in, fields_placed, forwarded, generation_at, has_object, has_region, id_in, inl, inr, is_carded, is_in_use, is_kept_fate, is_moving, is_older_region, is_set, is_some, kept_in, length, length-map, lt-ltb, ltb-false, ltb-true, map, mapped_from, may_card, member_same, move_at, moved_object, nat_lt, object_at, object_in, option_map, place_in, placed_at, raised, raised_older, refl, region_at, region_generation, region_of, room_at, same_Some, same_address, share, stays_in, subst, sym, true, unwrap_or, used_of, ℕ, ◌&&◌, ◌+◌, ◌<◌, ◌↔◌, ◌∙◌, ◌≡◌, ◌≤◌}
-use Rattle.hd_plan.proofs.{CommitCards.has_from, CommitCards.names_back, CommitTotals.sum-coming, KeptMoves.all_put, KeptMoves.moving_kept, KeptMoves.fate_stays, KeptMoves.fate_rests, PackedRegions.IsTaken, PackedRegions.packed, PackedRegions.compact, CommitCopies.get_placed, CommitCopies.has_got, CommitCopies.has_alike, CommitShape.AreSettled, CommitShape.IsCommitting, CommitShape.moves_now, CommitShape.regions_now, CommitShape.closed_now, CommitImage.kept_by, CommitImage.kept_older, CommitImage.place_older, CommitImage.kept_move, CommitImage.place_move, CommitImage.kept_object, CommitImage.from_condemned, CommitImage.stays_there, CommitImage.image_at, CommitImage.image_only, CommitGenerations.AreMoved, CommitGenerations.places_same, CommitGenerations.raised_above, CommitGenerations.raised_within, CommitGenerations.raised_some, CommitGenerations.place_generation, CommitGenerations.regions_room, CommitGenerations.region_kept, CommitGenerations.region_older, CommitGenerations.region_raised, CommitGenerations.region_given_up}
+use Rattle.hd_plan.proofs.Basics.{Addr, AreAlike, AreCarded, ChangesRegions, Commits, Contains, HEADER, HasClosedFields, HasNoEmptyRegion, HasSoundCards, HasStay, Heap, IsCondemned, IsCondemnedRegion, IsField, IsKeptAt, IsPacked, List, NamesYounger, NeedsCard, None, Option, Placed, PlanOf, Region, Some, and_from, and_parts, ap, arith, both_ways, card_of, cases_Bool, cases_lt, cells_of, condemned_at, false, false_from_ne_true, fields_at, fields_in, fields_placed, forwarded, generation_at, has_object, has_region, id_in, inl, inr, is_carded, is_in_use, is_kept_fate, is_moving, is_older_region, is_set, is_some, kept_in, length, length-map, lt-ltb, ltb-false, ltb-true, map, mapped_from, may_card, member_same, move_at, moved_object, nat_lt, object_at, object_in, option_map, place_in, placed_at, raised, raised_older, refl, region_generation, region_of, room_at, same_Some, same_address, share, stays_in, subst, sym, true, unwrap_or, used_of, ℕ, ◌&&◌, ◌+◌, ◌<◌, ◌↔◌, ◌∙◌, ◌≡◌, ◌≤◌}
+use Rattle.hd_plan.proofs.{CommitCards.has_from, CommitCards.names_alike, MoveWeights.sum-coming, KeptMoves.moving_kept, KeptMoves.staying_is, PackedRegions.IsTaken, PackedRegions.packed, PackedRegions.compact, CommitCopies.get_placed, CommitCopies.has_got, CommitCopies.no_placed, CommitCopies.no_region, CommitShape.AreMoved, CommitShape.IsCommitting, CommitShape.listed_at, CommitShape.moves_now, CommitShape.regions_now, CommitShape.closed_now, CommitImage.kept_by, CommitImage.kept_older, CommitImage.place_older, CommitImage.kept_move, CommitImage.place_move, CommitImage.put_all, CommitImage.kept_object, CommitImage.from_condemned, CommitImage.stays_there, CommitImage.image_at, CommitImage.image_only, CommitGenerations.places_same, CommitGenerations.raised_above, CommitGenerations.raised_within, CommitGenerations.raised_some, CommitGenerations.place_generation, CommitGenerations.region_still, CommitGenerations.region_new, CommitGenerations.region_raised, CommitGenerations.region_given_up}
+use Rattle.hd_plan.specs.Plan.{StartsInRegion}
 use Rattle.std.specs.FinMap as fin
 
 -- a field that was rewritten
@@ -40,71 +41,56 @@ id_of_rewritten : (place : Addr → Addr) (o : Option Placed) → id_in (option_
 id_of_rewritten place None = refl
 id_of_rewritten place (Some q) = refl
 
-module _ (p : PlanOf) (old h1 h2 h3 h4 : Heap) (m : AreMoved p old h1 h2 h3 h4) (h5 : Heap)
-    (r5 : AreSettled h4 h5 p.regions (length p.regions)) where
+module _ {p : PlanOf} {old h1 h2 h3 h5 : Heap} (m : AreMoved p old h1 h2 h3 h5) where
   c : IsCommitting p old
   c = m.committing
-
-  object_same : (b : Addr) → fin.get h5.objects b.0 ≡ fin.get h4.objects b.0
-  object_same b = ap (λ (x : Heap). fin.get x.objects b.0) r5.same
-
-  pub settled_at : (a : Addr) → kept_in p a ≡ true
-      → fin.get h5.objects (place_in p a).0 ≡ option_map (forwarded (place_in p)) (fin.get old.objects a.0)
-  settled_at a kept = object_same (place_in p a)
-      ∙ image_at p old c h1 m.places.copied h2 m.places.carded h3 m.places.stayed h4 m.removed a kept
 
   settled_object : (a : Addr) → kept_in p a ≡ true → has_object h5 (place_in p a) ≡ true
   settled_object a kept =
       has_got h5 (place_in p a) (forwarded (place_in p) (placed_at old a))
-      (settled_at a kept ∙ ap (option_map (forwarded (place_in p)))
-      (get_placed old a (kept_object p old c a kept)))
+      (image_at c m.places.copied m.places.carded m.places.stayed m.cleared a kept
+      ∙ ap (option_map (forwarded (place_in p))) (get_placed old a (kept_object c a kept)))
 
   pub settled_there : (a : Addr) → IsKeptAt p.moves (length p.moves) a → has_object h5 a ≡ true
   settled_there a e =
-      ap (has_object h5) (sym e.is ∙ sym (place_move p old c e.at e.before))
-      ∙ settled_object (move_at p.moves e.at).from (kept_move p old c e.at e.before e.goes)
-
-  settled_only : (b : Addr) → has_object h5 b ≡ true
-      → (a : Addr) × ((kept_in p a ≡ true) × (place_in p a ≡ b))
-  settled_only b there =
-      image_only p old c h1 m.places.copied h2 m.places.carded h3 m.places.stayed h4 m.removed b
-      (sym (has_alike h4 h5 b (object_same b)) ∙ there)
+      ap (has_object h5) (sym e.is ∙ sym (place_move c e.at e.before))
+      ∙ settled_object (move_at p.moves e.at).from (kept_move c e.at e.before e.goes)
 
   -- heaps with other cards
   module _ (h6 : Heap) (same6 : h6 ≡ record h5 { cards = h6.cards }) where
-    pub ending_at : (a : Addr) → kept_in p a ≡ true
+    ending_at : (a : Addr) → kept_in p a ≡ true
         → fin.get h6.objects (place_in p a).0 ≡ option_map (forwarded (place_in p)) (fin.get old.objects a.0)
-    ending_at a kept = ap (λ (x : Heap). fin.get x.objects (place_in p a).0) same6 ∙ settled_at a kept
+    ending_at a kept = ap (λ (x : Heap). fin.get x.objects (place_in p a).0) same6
+        ∙ image_at c m.places.copied m.places.carded m.places.stayed m.cleared a kept
 
-    pub ending_object : (a : Addr) → kept_in p a ≡ true → has_object h6 (place_in p a) ≡ true
+    ending_object : (a : Addr) → kept_in p a ≡ true → has_object h6 (place_in p a) ≡ true
     ending_object a kept = ap (λ (x : Heap). has_object x (place_in p a)) same6 ∙ settled_object a kept
 
-    pub ending_only : (b : Addr) → has_object h6 b ≡ true
+    ending_only : (b : Addr) → has_object h6 b ≡ true
         → (a : Addr) × ((kept_in p a ≡ true) × (place_in p a ≡ b))
-    ending_only b there = settled_only b (sym (ap (λ (x : Heap). has_object x b) same6) ∙ there)
+    ending_only b there = image_only c m.places.copied m.places.carded m.places.stayed m.cleared b
+        (sym (ap (λ (x : Heap). has_object x b) same6) ∙ there)
 
-    pub ending_region : (a : Addr) → kept_in p a ≡ true
-        → region_generation h6 (region_of (place_in p a)) ≡ raised p.basis.condemned
-        (generation_at (object_at old) a)
+    ending_region : (a : Addr) → kept_in p a ≡ true → region_generation h6 (region_of (place_in p a))
+        ≡ raised p.basis.condemned (generation_at (object_at old) a)
     ending_region a kept = ap (λ (x : Heap). region_generation x (region_of (place_in p a))) same6
-        ∙ place_generation p old h1 h2 h3 h4 m h5 r5 a kept
+        ∙ place_generation m a kept
 
-    pub ending_generation : (a : Addr) → kept_in p a ≡ true
-        → generation_at (object_at h6) (place_in p a) ≡ raised p.basis.condemned
-        (generation_at (object_at old) a)
+    ending_generation : (a : Addr) → kept_in p a ≡ true → generation_at (object_at h6) (place_in p a)
+        ≡ raised p.basis.condemned (generation_at (object_at old) a)
     ending_generation a kept = generation_is h6 (place_in p a) (ending_object a kept) ∙ ending_region a kept
 
     pub ending_grown : (b : Addr) → has_object h6 b ≡ true → 0 < generation_at (object_at h6) b
     ending_grown b there =
         let (a, is) = ending_only b there in
-        let e = ending_generation a is.0 in
         let some = raised_some p.basis.condemned (generation_at (object_at old) a) in
-        subst (λ (x : Addr). 0 < generation_at (object_at h6) x) is.1 (omega (arith, e, some))
+        subst (λ (x : Addr). 0 < generation_at (object_at h6) x) is.1
+        (omega (arith, ending_generation a is.0, some))
 
-    -- a field of an object holds the new address of what it referenced
-    ending_field : (a y : Addr) → kept_in p a ≡ true → IsField (object_at h6) (place_in p a) y
+    -- a field of an object holds the new address of what it referenced, which is kept
+    ending_field : (a x y : Addr) → kept_in p a ≡ true → place_in p a ≡ x → IsField (object_at h6) x y
         → IsRenamed (place_in p) (fields_at (object_at old) a) y
-    ending_field a y kept field =
+    ending_field a x y kept is field =
         let fields : fields_at (object_at h6) (place_in p a) ≡ map (option_map (place_in p))
         (fields_at (object_at old) a) =
         ap (λ o. fields_in (option_map (object_in (region_generation h6 (region_of (place_in p a)))) o))
@@ -112,38 +98,39 @@ module _ (p : PlanOf) (old h1 h2 h3 h4 : Heap) (m : AreMoved p old h1 h2 h3 h4) 
         ∙ fields_of_rewritten (place_in p) (region_generation h6 (region_of (place_in p a)))
         (region_generation old (region_of a)) (fin.get old.objects a.0) in
         renamed (place_in p) (fields_at (object_at old) a) y
-        (member_same (fields_at (object_at h6) (place_in p a))
-        (map (option_map (place_in p)) (fields_at (object_at old) a)) fields (Some y) field)
+        (member_same _ _ fields (Some y) (subst (λ (z : Addr). IsField (object_at h6) z y) (sym is) field))
 
     pub ending_closed : HasClosedFields (object_at h6)
     ending_closed x y field =
         let (a, is) = ending_only x (has_from h6 x y field) in
-        let f = ending_field a y is.0 (subst (λ (z : Addr). IsField (object_at h6) z y) (sym is.1) field) in
-        subst (λ (z : Addr). has_object h6 z ≡ true) f.is
-        (ending_object f.was (closed_now p old c a f.was is.0 f.field))
+        let f = ending_field a x y is.0 is.1 field in
+        ap (has_object h6) (sym f.is) ∙ ending_object f.was (closed_now c a f.was is.0 f.field)
+
+    -- the generation of what a move keeps
+    moved_generation : (k : ℕ) → k < length p.moves → is_kept_fate (move_at p.moves k).fate ≡ true
+        → generation_at (object_at h6) (move_at p.moves k).to
+        ≡ raised p.basis.condemned (generation_at (object_at old) (move_at p.moves k).from)
+    moved_generation k within kept = ap (generation_at (object_at h6)) (sym (place_move c k within))
+        ∙ ending_generation (move_at p.moves k).from (kept_move c k within kept)
 
     -- what may need no card references no younger object: its generation is the youngest, or it has no field
     pub ending_spared : (k : ℕ) → k < length p.moves → may_card (move_at p.moves k) ≡ false
         → is_kept_fate (move_at p.moves k).fate ≡ true → NamesYounger h6 (move_at p.moves k).to → ⊥
     ending_spared k within spared kept names =
         let m = move_at p.moves k in
-        let from_kept = kept_move p old c k within kept in
+        let from_kept = kept_move c k within kept in
         let generation : generation_at (object_at h6) m.to ≡ m.generation =
-        ap (generation_at (object_at h6)) (sym (place_move p old c k within))
-        ∙ ending_generation m.from from_kept ∙ sym ((moves_now p old c).generations k within) in
-        let field = ending_field m.from names.target from_kept
-        (subst (λ (x : Addr). IsField (object_at h6) x names.target) (sym (place_move p old c k within))
-        names.field) in
+        moved_generation k within kept ∙ sym ((moves_now c).generations k within) in
+        let field = ending_field m.from m.to names.target from_kept (place_move c k within) names.field in
         elim (cases_lt 1 m.generation) [
           | inl old_one ↦ elim (cases_lt 0 m.fields) [
             | inl some ↦ both_ways _ spared (and_from _ _ (and_from _ _ kept (lt-ltb 1 m.generation old_one))
                 (lt-ltb 0 m.fields some))
             | inr none ↦
                 let few = field.field.1 in
-                let fields = ap {B = ℕ} (λ fs. length fs)
-                (fields_placed old m.from (kept_object p old c m.from
-                from_kept)) in
-                let count = (moves_now p old c).fields k within in
+                let there = kept_object c m.from from_kept in
+                let fields = ap {B = ℕ} (λ fs. length fs) (fields_placed old m.from there) in
+                let count = (moves_now c).fields k within in
                 absurd (omega arith)
           ]
           | inr young ↦
@@ -158,32 +145,20 @@ module _ (p : PlanOf) (old h1 h2 h3 h4 : Heap) (m : AreMoved p old h1 h2 h3 h4) 
         × ((k < length p.regions)
         × ((condemned_at p.regions k).generation ≡ raised p.basis.condemned (generation_at (object_at old) a)))
     listed_generation a is =
-        let same = generation_is old a is.object in
-        let (k, at) = (regions_now p old c).all (region_of a) (record {
-          held = c.sound.held a is.object;
-          young = subst (λ g. g ≤ p.basis.condemned) same is.young;
-        }) in (
-          k,
-          (
-            at.0,
-            (regions_now p old c).generations k at.0
-                ∙ ap (λ r. raised p.basis.condemned (region_generation old r)) at.1
-                ∙ ap (raised p.basis.condemned) (sym same),
-          ),
-        )
+        let (k, at) = listed_at c a is in
+        let raised_at = ap (λ r. raised p.basis.condemned (region_generation old r)) at.1 in
+        let same = ap (raised p.basis.condemned) (sym (generation_is old a is.object)) in
+        (k, (at.0, (regions_now c).generations k at.0 ∙ raised_at ∙ same))
 
     pub ending_alike : AreAlike p.regions → (k : ℕ) → k < length p.moves
         → is_kept_fate (move_at p.moves k).fate ≡ true → NamesYounger h6 (move_at p.moves k).to → ⊥
     ending_alike alike k within kept names =
         let n = p.basis.condemned in
         let from = (move_at p.moves k).from in
-        let to = (move_at p.moves k).to in
-        let is_young = from_condemned p old c k within in
+        let is_young = from_condemned c k within in
         let (j, listed) = listed_generation from is_young in
-        let here : generation_at (object_at h6) to ≡ raised n (generation_at (object_at old) from) =
-        ap (generation_at (object_at h6)) (sym (place_move p old c k within))
-        ∙ ending_generation from (kept_move p old c k within kept) in
-        let (a, is) = ending_only names.target (ending_closed to names.target names.field) in
+        let here = moved_generation k within kept in
+        let (a, is) = ending_only names.target (ending_closed _ names.target names.field) in
         let there : generation_at (object_at h6) names.target ≡ raised n (generation_at (object_at old) a) =
         ap (generation_at (object_at h6)) (sym is.1) ∙ ending_generation a is.0 in
         let younger = names.younger in
@@ -193,14 +168,8 @@ module _ (p : PlanOf) (old h1 h2 h3 h4 : Heap) (m : AreMoved p old h1 h2 h3 h4) 
               is_young.young older in
               absurd (omega arith)
           | inr young ↦
-              let (i, also) = listed_generation a (record {
-                object = kept_object p old c a is.0;
-                young = young;
-              }) in
-              let same = alike i j also.0 listed.0 in
-              let one = also.1 in
-              let two = listed.1 in
-              absurd (omega arith)
+              let (i, also) = listed_generation a (record { object = kept_object c a is.0; young = young }) in
+              omega (arith, here, there, younger, alike i j also.0 listed.0, also.1, listed.1)
         ]
 
   -- the cards of kept objects are set
@@ -209,94 +178,65 @@ module _ (p : PlanOf) (old h1 h2 h3 h4 : Heap) (m : AreMoved p old h1 h2 h3 h4) 
     ending_cards x y field younger =
         let there = has_from h6 x y field in
         let (a, is) = ending_only h6 r6.same x there in
-        elim (kept_by p old c a is.0) [
+        elim (kept_by c a is.0) [
           | inl older ↦
-              let here : x ≡ a = sym is.1 ∙ place_older p old c a older in
-              let f = ending_field h6 r6.same a y is.0
-              (subst (λ (z : Addr). IsField (object_at h6) z y) (sym is.1) field) in
-              let kept = closed_now p old c a f.was is.0 f.field in
-              let from = ending_generation h6 r6.same a is.0 in
-              let to = ending_generation h6 r6.same f.was kept in
-              let less : generation_at (object_at h6) (place_in p f.was) < generation_at (object_at h6)
-              (place_in p a) =
-              subst (λ (z : Addr). generation_at (object_at h6) (place_in p f.was) < generation_at
-              (object_at h6) z) (sym is.1)
-              (subst (λ (z : Addr). generation_at (object_at h6) z < generation_at (object_at h6) x)
-              (sym f.is) younger) in
+              let here : x ≡ a = sym is.1 ∙ place_older c a older in
+              let f = ending_field h6 r6.same a x y is.0 is.1 field in
+              let kept = closed_now c a f.was is.0 f.field in
+              let from = ap (generation_at (object_at h6)) (sym is.1) ∙ ending_generation h6 r6.same a is.0 in
+              let to = ap (generation_at (object_at h6)) (sym f.is)
+              ∙ ending_generation h6 r6.same f.was kept in
               let same = raised_older p.basis.condemned (generation_at (object_at old) a) older in
               let fits : generation_at (object_at old) f.was ≤ 2 =
-              (let g = generation_is old f.was (kept_object p old c f.was kept) in
+              (let g = generation_is old f.was (kept_object c f.was kept) in
               let most = c.sound.generations (region_of f.was)
-              (c.sound.held f.was (kept_object p old c f.was kept)) in omega arith) in
+              (c.sound.held f.was (kept_object c f.was kept)) in omega arith) in
               let above = raised_above p.basis.condemned (generation_at (object_at old) f.was) fits in
               ap (is_carded h6) here ∙ carded_still a (sym (ap (has_object h6) here) ∙ there)
-              (c.cards a f.was f.field (omega arith))
+              (c.cards a f.was f.field (omega (arith, younger, from, to, same, above)))
           | inr (k, by) ↦
-              let to : (move_at p.moves k).to ≡ x =
-              sym (ap (place_in p) (sym by.from) ∙ place_move p old c k by.within) ∙ is.1 in
-              r6.done x (record { at = k; before = by.within; goes = by.kept; is = to })
-              (names_back h5 h6 x r6.same (record { target = y; field = field; younger = younger }))
+              r6.done x (record { at = k; before = by.within; goes = by.kept; is = sym by.to ∙ is.1 })
+              (names_alike {h = h6} (ap object_at r6.same)
+              (record { target = y; field = field; younger = younger }))
         ]
       where
         carded_still : (a : Addr) → has_object h6 a ≡ true → is_carded old a ≡ true → is_carded h6 a ≡ true
         carded_still a there set =
-            let fourth : has_object h4 a ≡ true = sym (has_alike h4 h5 a (object_same a))
-            ∙ sym (ap (λ (x : Heap). has_object x a) r6.same) ∙ there in
-            let third : is_carded h3 a ≡ true =
-            ap (λ (x : Heap). is_set x (card_of a)) (places_same m.places) ∙ set in
-            r6.more (card_of a) (ap (λ (x : Heap). is_set x (card_of a)) r5.same ∙ m.removed.cards a fourth
-            ∙ third)
+            r6.more (card_of a) (m.cleared.cards a (sym (ap (λ (x : Heap). has_object x a) r6.same) ∙ there)
+            ∙ ap (λ (x : Heap). is_set x (card_of a)) (places_same m.places) ∙ set)
 
   -- and so the whole
   module _ (h7 : Heap) (same7 : h7 ≡ record h5 { cards = h7.cards }) where
     region_now : (r : ℕ) → fin.get h7.regions r ≡ fin.get h5.regions r
     region_now r = ap (λ (x : Heap). fin.get x.regions r) same7
 
-    region_held : (r : ℕ) (g : Region) → fin.get h5.regions r ≡ Some g
-        → (is_in_use h7 r ≡ true) × (region_at h7 r ≡ g)
-    region_held r g got = (
-      ap is_some (region_now r ∙ got),
-      ap (λ (o : Option Region). unwrap_or o (record { generation = 0; fill = 0 })) (region_now r ∙ got),
-    )
-
     changes : ChangesRegions p old h7
     changes = record {
       older = λ r held older.
-          let same = region_now r ∙ region_older p old h1 h2 h3 h4 m h5 r5 r (λ is. let low = is.young in
-          omega arith) ∙ region_kept p old h1 h2 h3 h4 m r held in (
-            ap is_some same ∙ held,
-            ap (λ (o : Option Region). unwrap_or o (record { generation = 0; fill = 0 })) same,
-          );
-      stays = λ r young stay. region_held r _ (region_raised p old h1 h2 h3 h4 m h5 r5 r young stay);
-      given_up = λ r young none.
-          ap is_some (region_now r ∙ region_given_up p old h1 h2 h3 h4 m h5 r5 r young none);
+          let same = region_now r ∙ region_still m r held (λ is. omega (arith, is.young, older)) in
+          (ap is_some same ∙ held, ap (λ (o : Option Region). unwrap_or o no_region) same);
+      stays = λ r young stay.
+          let got = region_now r ∙ region_raised m r young stay in
+          (ap is_some got, ap (λ (o : Option Region). unwrap_or o no_region) got);
+      given_up = λ r young none. ap is_some (region_now r ∙ region_given_up m r young none);
     }
 
     -- a region in use has an object that stays, or was opened, or is older
     held_stays : (r : ℕ) → is_in_use h7 r ≡ true → IsCondemnedRegion old p.basis.condemned r
         → HasStay p.moves r
     held_stays r held young =
-        let (k, listed) = (regions_now p old c).all r young in
+        let (k, listed) = (regions_now c).all r young in
+        let pinned = (regions_now c).pinned k listed.0 in
         elim (cases_Bool (condemned_at p.regions k).pinned) [
-          | inl pinned ↦ subst (HasStay p.moves) listed.1 (((regions_now p old c).pinned k listed.0).0 pinned)
-          | inr unpinned ↦
-              let gone = changes.given_up r young
-              (λ stay. both_ways _ unpinned
-              (((regions_now p old c).pinned k listed.0).1
-              (subst (HasStay p.moves) (sym listed.1) stay))) in
-              absurd (both_ways _ gone held)
+          | inl is ↦ subst (HasStay p.moves) listed.1 (pinned.0 is)
+          | inr is ↦ absurd (both_ways _ (changes.given_up r young
+              (λ stay. both_ways _ is (pinned.1 (subst (HasStay p.moves) (sym listed.1) stay)))) held)
         ]
-
-    put : ArePut old p.moves (length p.moves)
-    put = all_put old p.basis.condemned c.sound p.moves (moves_now p old c)
 
     -- one that was not in use is one of the room
     held_room : (r : ℕ) → is_in_use h7 r ≡ true → is_in_use old r ≡ false
         → has_region (room_at old p.moves (length p.moves)).regions r ≡ true
-    held_room r held new =
-        sym (ap is_some
-        (region_now r ∙ region_older p old h1 h2 h3 h4 m h5 r5 r (λ is. both_ways _ new is.held)
-        ∙ ap (λ rs. fin.get rs r) (regions_room p old h1 h2 h3 h4 m))) ∙ held
+    held_room r held new = sym (ap is_some (region_now r ∙ region_new m r new)) ∙ held
 
     held_taken : (r : ℕ) → is_in_use h7 r ≡ true → is_older_region old p.basis.condemned r ≡ false
         → IsTaken old p.moves r
@@ -306,11 +246,18 @@ module _ (p : PlanOf) (old h1 h2 h3 h4 : Heap) (m : AreMoved p old h1 h2 h3 h4) 
         young = ltb-false _ _ (sym (ap (λ b. b && nat_lt p.basis.condemned (region_generation old r)) was)
             ∙ young);
       }))
-      | inr new ↦ elim (put.room.held r (held_room r held new)) [
+      | inr new ↦ elim ((put_all c).room.held r (held_room r held new)) [
         | inl was ↦ absurd (both_ways _ new was)
         | inr opened ↦ inr opened
       ]
     ]
+
+    -- the new address of a kept object is in a region that has an object
+    starts_at : (a b : Addr) (r : ℕ) → kept_in p a ≡ true → place_in p a ≡ b → region_of b ≡ r
+        → StartsInRegion h7 r
+    starts_at a b r kept place region =
+        let object = ap (has_object h7) (sym place) ∙ ending_object h7 same7 a kept in
+        record { at = b; object = object; region = region }
 
     full : HasNoEmptyRegion old → HasNoEmptyRegion h7
     full some r held = elim (cases_Bool (is_in_use old r)) [
@@ -318,38 +265,28 @@ module _ (p : PlanOf) (old h1 h2 h3 h4 : Heap) (m : AreMoved p old h1 h2 h3 h4) 
         | inl older ↦
             let s = some r was in
             let above : p.basis.condemned < generation_at (object_at old) s.at =
-            subst (λ g. p.basis.condemned < g) (ap (region_generation old) (sym s.region)
-            ∙ sym (generation_is old s.at s.object)) older in
-            let kept = kept_older p old c s.at above in
-            let place = place_older p old c s.at above in
-            record {
-              at = s.at;
-              object = ap (has_object h7) (sym place) ∙ ending_object h7 same7 s.at kept;
-              region = s.region;
-            }
+            omega (arith, generation_is old s.at s.object, ap (region_generation old) s.region, older) in
+            starts_at s.at s.at r (kept_older c s.at above) (place_older c s.at above) s.region
         | inr young ↦
             let s = held_stays r held (record { held = was; young = young }) in
-            let from = (move_at p.moves s.at).from in
-            let kept = kept_move p old c s.at s.within (fate_stays (move_at p.moves s.at).fate s.stays) in
-            let place = place_move p old c s.at s.within
-            ∙ stays_there p old c s.at s.within (fate_rests (move_at p.moves s.at).fate s.stays) in
-            record {
-              at = from;
-              object = ap (has_object h7) (sym place) ∙ ending_object h7 same7 from kept;
-              region = s.region;
-            }
+            let pinned = staying_is _ s.stays in
+            starts_at _ _ r (kept_move c s.at s.within (ap is_kept_fate pinned))
+            (place_move c s.at s.within ∙ stays_there c s.at s.within pinned) s.region
       ]
-      | inr new ↦ elim (put.held r (held_room r held new)) [
+      | inr new ↦ elim ((put_all c).held r (held_room r held new)) [
         | inl was ↦ absurd (both_ways _ new was)
-        | inr (k, o) ↦ record {
-          at = (move_at p.moves k).to;
-          object = ap (has_object h7) (sym (place_move p old c k o.0))
-              ∙ ending_object h7 same7 (move_at p.moves k).from
-              (kept_move p old c k o.0 (moving_kept (move_at p.moves k).fate o.1.0));
-          region = o.1.1;
-        }
+        | inr (k, o) ↦ starts_at _ _ r (kept_move c k o.0 (moving_kept _ o.1.0)) (place_move c k o.0) o.1.1
       ]
     ]
+
+    -- what is at the new address of a kept object
+    placed_now : (a b : Addr) → kept_in p a ≡ true → place_in p a ≡ b
+        → fin.get h7.objects b.0 ≡ Some (forwarded (place_in p) (placed_at old a))
+    placed_now a b kept is = ap (λ (x : Addr). fin.get h7.objects x.0) (sym is) ∙ ending_at h7 same7 a kept
+        ∙ ap (option_map (forwarded (place_in p))) (get_placed old a (kept_object c a kept))
+
+    same_cells : (a : Addr) → cells_of (forwarded (place_in p) (placed_at old a)) ≡ cells_of (placed_at old a)
+    same_cells a = ap (λ n. n + HEADER) (length-map (placed_at old a).fields (option_map (place_in p)))
 
     -- a new object comes from the one that it was
     record ComesFrom (q r : ℕ) : Type 0 where
@@ -365,18 +302,13 @@ module _ (p : PlanOf) (old h1 h2 h3 h4 : Heap) (m : AreMoved p old h1 h2 h3 h4) 
         (λ q v got.
         let b : Addr = record { 0 = q } in
         let (a, is) = ending_only h7 same7 b (has_got h7 b v got) in
-        let there = get_placed old a (kept_object p old c a is.0) in
-        let now : Some (forwarded (place_in p) (placed_at old a)) ≡ Some v =
-        sym (ending_at h7 same7 a is.0 ∙ ap (option_map (forwarded (place_in p))) there)
-        ∙ ap (λ (x : Addr). fin.get h7.objects x.0) is.1 ∙ got in
         let cells : cells_of (forwarded (place_in p) (placed_at old a)) ≡ cells_of v =
-        ap cells_of (same_Some _ _ now) in
-        let long = length-map (placed_at old a).fields (option_map (place_in p)) in
+        ap cells_of (same_Some _ _ (sym (placed_now a b is.0 is.1) ∙ got)) in
         let comes : ComesFrom q a.0 =
         record { was = a; number = refl; place = ap (λ (x : Addr). x.0) is.1 } in
         let size : share cells_of (fin.get old.objects a.0) ≡ cells_of (placed_at old a) =
-        ap (share cells_of) there in
-        (a.0, (comes, omega arith)))
+        ap (share cells_of) (get_placed old a (kept_object c a is.0)) in
+        (a.0, (comes, omega (arith, cells, size, same_cells a))))
 
     -- what moves is at its new address with as many words
     moved_there : (j : ℕ) → j < length p.moves → is_moving (move_at p.moves j).fate ≡ true
@@ -384,24 +316,14 @@ module _ (p : PlanOf) (old h1 h2 h3 h4 : Heap) (m : AreMoved p old h1 h2 h3 h4) 
         × (cells_of (placed_at h7 (move_at p.moves j).to) ≡ cells_of (placed_at old (move_at p.moves j).from))
     moved_there j within moving =
         let o = move_at p.moves j in
-        let kept = kept_move p old c j within (moving_kept o.fate moving) in
-        let there = get_placed old o.from (from_condemned p old c j within).object in
-        let now : fin.get h7.objects o.to.0 ≡ Some (forwarded (place_in p) (placed_at old o.from)) =
-        ap (λ (x : Addr). fin.get h7.objects x.0) (sym (place_move p old c j within))
-        ∙ ending_at h7 same7 o.from kept ∙ ap (option_map (forwarded (place_in p))) there in (
-          has_got h7 o.to _ now,
-          placed_now o.to _ now
-              ∙ ap (λ n. n + HEADER) (length-map (placed_at old o.from).fields (option_map (place_in p))),
-        )
-      where
-        placed_now : (a : Addr) (x : Placed) → fin.get h7.objects a.0 ≡ Some x
-            → cells_of (placed_at h7 a) ≡ cells_of x
-        placed_now a x got = ap (λ (o : Option Placed). cells_of (unwrap_or o
-            (record { id = record { 0 = 0 }; fields = []; value = 0; registered = false }))) got
+        let kept = kept_move c j within (moving_kept o.fate moving) in
+        let now = placed_now o.from o.to kept (place_move c j within) in
+        let cells = ap (λ (x : Option Placed). cells_of (unwrap_or x no_placed)) now in
+        (has_got h7 o.to _ now, cells ∙ same_cells o.from)
 
     packed_now : IsPacked old h7 p.basis.condemned (stays_in p)
     packed_now =
-        packed old c.sound p.basis.condemned p.moves (moves_now p old c) h7
+        packed old c.sound p.basis.condemned p.moves (moves_now c) h7
         (λ r is.
         let both = and_parts _ _ is in changes.older r both.0 (ltb-true _ _ both.1))
         moved_there held_taken
@@ -411,26 +333,19 @@ module _ (p : PlanOf) (old h1 h2 h3 h4 : Heap) (m : AreMoved p old h1 h2 h3 h4) 
       objects = λ a kept. ap (option_map (object_in (region_generation h7 (region_of (place_in p a)))))
           (ending_at h7 same7 a kept) ∙ object_of_rewritten (place_in p) p.basis.condemned
           (region_generation h7 (region_of (place_in p a))) (region_generation old (region_of a))
-          (fin.get old.objects a.0)
-          (ending_region h7 same7 a kept
-          ∙ ap (raised p.basis.condemned) (generation_is old a (kept_object p old c a kept)));
+          (fin.get old.objects a.0) (ending_region h7 same7 a kept
+          ∙ ap (raised p.basis.condemned) (generation_is old a (kept_object c a kept)));
       ids = λ a kept. ap id_in (ending_at h7 same7 a kept)
           ∙ id_of_rewritten (place_in p) (fin.get old.objects a.0);
       only = ending_only h7 same7;
       regions = changes;
       cards = exact;
-      limit =
-          ap (λ (x : Heap). x.limit) same7 ∙ ap (λ (x : Heap). x.limit) r5.same
-          ∙ ap (λ (x : Heap). x.limit) m.removed.same ∙ ap (λ (x : Heap). x.limit) (places_same m.places);
+      limit = ap (λ (x : Heap). x.limit) same7 ∙ m.cleared.limit
+          ∙ ap (λ (x : Heap). x.limit) (places_same m.places);
       used = used;
       full = full;
       packed = packed_now;
-      compact = λ all. compact old h7 p.basis.condemned (stays_in p)
-          (λ r. no_older r (λ both. let most = c.sound.generations r both.0 in
-          let above = ltb-true _ _ both.1 in absurd (omega arith))) packed_now;
+      compact = λ all. compact old h7 p.basis.condemned (stays_in p) (λ r. false_from_ne_true _ (λ is.
+          let both = and_parts (is_in_use old r) (nat_lt p.basis.condemned (region_generation old r)) is in
+          omega (arith, c.sound.generations r both.0, ltb-true _ _ both.1, all))) packed_now;
     }
-      where
-        no_older : (r : ℕ)
-            → ((is_in_use old r ≡ true) × (nat_lt p.basis.condemned (region_generation old r) ≡ true)
-            → ⊥) → is_older_region old p.basis.condemned r ≡ false
-        no_older r none = false_from_ne_true _ (λ is. none (and_parts _ _ is))

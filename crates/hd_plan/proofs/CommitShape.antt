@@ -1,20 +1,26 @@
 -- A plan is valid for each heap of the same shape as the one for which it was laid.
-use Rattle.hd_heap.proofs.NextObjects.{generation_is}
-use Rattle.hd_plan.proofs.Basics.{Addr, AllocCursors, AreMoves, AreRegions, AreRemovedIn, AreSettledRegions, Basis, CanCopy, Condemned, Fits, HEADER, HasSoundCards, Heap, IsField, IsLaid, IsSameShape, IsSound, List, Move, PlanOf, Room, Some, ap, cells_of, condemned_at, fields_at, fields_placed, find_move, generation_at, is_carded, is_condemned, is_in_use, is_kept_by, is_staying, kept_in, length, member_same, move_at, nat_le, nat_lt, object_at, placed_at, put_fate, raised, region_generation, region_of, room_of, subst, suc, sym, true, zero, ℕ, ◌&&◌, ◌+◌, ◌<◌, ◌||◌, ◌∙◌, ◌≡◌, ◌≤◌}
+use Rattle.hd_plan.proofs.Basics.{Addr, AllocCursors, AreMoves, AreCopied, AreRegions, AreRewritten, AreSettledRegions, CanCopy, Condemned, Fits, HEADER, HasSoundCards, HasStay, Heap, IsCondemned, IsField, IsLaid, IsLeft, IsSameShape, IsStayedAt, IsSound, List, Move, None, PlanOf, Room, Some, ap, arith, cells_of, condemned_at, fields_at, fields_placed, find_move, generation_at, is_carded, is_condemned, is_in_use, is_old_carded, is_kept_by, is_staying, has_object, kept_in, length, member_same, move_at, nat_le, nat_lt, object_at, place_in, placed_at, put_fate, raised, region_generation, region_of, room_of, subst, suc, sym, true, zero, ℕ, ◌&&◌, ◌+◌, ◌<◌, ◌||◌, ◌∙◌, ◌≡◌}
 use Rattle.hd_plan.specs.Layout.{room_at}
-use Rattle.hd_plan.proofs.{CommitCopies.generation_alike, CommitCards.has_from, KeptMoves.generation_some, KeptMoves.are_put, CondemnedAddresses.condemned_of}
+use Rattle.hd_plan.proofs.{CommitCopies.generation_alike, CommitCards.has_from, KeptMoves.generation_some, KeptMoves.are_put, KeptMoves.is_condemned_at, KeptMoves.kept, CondemnedAddresses.region_young}
 use Rattle.std.specs.FinMap as fin
 
--- the first i objects that do not stay are gone from their old addresses
-abbrev pub AreRemoved : Heap → Heap → List Move → ℕ → Type 0
-AreRemoved = AreRemovedIn (λ r. true)
+-- the steps up to the removal
+pub record AreAtPlaces (p : PlanOf) (old h1 h2 h3 : Heap) : Type 0 where
+  pub copied : AreCopied (place_in p) old h1 p.moves (length p.moves)
+  pub carded : AreRewritten (λ a. is_old_carded h1 p.basis.condemned a ≡ true) (place_in p) h1 h2
+  pub stayed : AreRewritten (IsStayedAt p.moves (length p.moves)) (place_in p) h2 h3
 
--- the first i condemned regions are settled, and nothing else is changed
-pub record AreSettled (old h : Heap) (cs : List Condemned) (i : ℕ) : Type 0 where
-  pub regions : AreSettledRegions old h cs i
-  pub same : h ≡ record old { regions = h.regions; spare = h.spare }
+-- the objects that do not stay are gone from their old addresses, and the condemned regions are settled;
+-- cards of objects are as before
+pub record AreCleared (p : PlanOf) (old h : Heap) : Type 0 where
+  pub gone : (a : Addr) → IsLeft p.moves (length p.moves) a → fin.get h.objects a.0 ≡ None
+  pub others : (a : Addr) → (IsLeft p.moves (length p.moves) a → ⊥)
+      → fin.get h.objects a.0 ≡ fin.get old.objects a.0
+  pub cards : (a : Addr) → has_object h a ≡ true → is_carded h a ≡ is_carded old a
+  pub regions : AreSettledRegions old.regions h.regions p.regions (length p.regions)
+  pub limit : h.limit ≡ old.limit
 
-module _ (h k : Heap) (s : IsSameShape h k) where
+module _ {h k : Heap} (s : IsSameShape h k) where
   pub shape_generation : (a : Addr) → generation_at (object_at k) a ≡ generation_at (object_at h) a
   shape_generation a =
       generation_alike h k a (s.objects a)
@@ -63,16 +69,13 @@ module _ (h k : Heap) (s : IsSameShape h k) where
 
   shape_regions : (n : ℕ) (ms : List Move) (cs : List Condemned) → AreRegions h n ms cs → AreRegions k n ms cs
   shape_regions n ms cs regions = record {
-    condemned = λ j within.
-        let r = (condemned_at cs j).region in
-        let is = regions.condemned j within in
-        record { held = held_alike r ∙ is.held; young = subst (λ g. g ≤ n) (sym (region_alike r)) is.young };
+    condemned = λ j within. let is = regions.condemned j within in record {
+      held = held_alike _ ∙ is.held;
+      young = omega (arith, region_alike (condemned_at cs j).region, is.young);
+    };
     rising = regions.rising;
     all = λ r is. regions.all r
-        (record {
-          held = sym (held_alike r) ∙ is.held;
-          young = subst (λ g. g ≤ n) (region_alike r) is.young;
-        });
+        (record { held = sym (held_alike r) ∙ is.held; young = omega (arith, region_alike r, is.young) });
     generations = λ j within. regions.generations j within
         ∙ ap (raised n) (sym (region_alike (condemned_at cs j).region));
     pinned = regions.pinned;
@@ -92,71 +95,49 @@ pub record IsCommitting (p : PlanOf) (old : Heap) : Type 0 where
   pub cards : HasSoundCards (object_at old) (is_carded old)
   pub sound : IsSound old
 
-module _ (p : PlanOf) (old : Heap) (c : IsCommitting p old) where
+-- a plan is carried out on a heap, one step after another
+pub record AreMoved (p : PlanOf) (old h1 h2 h3 h5 : Heap) : Type 0 where
+  pub committing : IsCommitting p old
+  pub places : AreAtPlaces p old h1 h2 h3
+  pub cleared : AreCleared p h3 h5
+
+module _ {p : PlanOf} {old : Heap} (c : IsCommitting p old) where
   pub moves_now : AreMoves old p.basis.condemned p.moves
-  moves_now = shape_moves p.basis.heap old c.same p.basis.condemned p.moves c.laid.moves
+  moves_now = shape_moves c.same p.basis.condemned p.moves c.laid.moves
 
   pub regions_now : AreRegions old p.basis.condemned p.moves p.regions
-  regions_now = shape_regions p.basis.heap old c.same p.basis.condemned p.moves p.regions c.laid.regions
+  regions_now = shape_regions c.same p.basis.condemned p.moves p.regions c.laid.regions
 
   -- what is kept, read in this heap
-  pub kept_now : (a : Addr)
-      → kept_in p a ≡ (nat_lt p.basis.condemned (generation_at (object_at old) a) || is_kept_by
-      (find_move p.moves a))
+  pub kept_now : (a : Addr) → kept_in p a ≡ kept old p.basis.condemned p.moves a
   kept_now a = ap (λ g. nat_lt p.basis.condemned g || is_kept_by (find_move p.moves a))
-      (sym (shape_generation p.basis.heap old c.same a))
+      (sym (shape_generation c.same a))
 
   pub closed_now : (a y : Addr) → kept_in p a ≡ true → IsField (object_at old) a y → kept_in p y ≡ true
-  closed_now a y kept field = c.laid.closed a y kept (shape_field p.basis.heap old c.same a y field)
+  closed_now a y kept field = c.laid.closed a y kept (shape_field c.same a y field)
 
-  -- the region of each move is listed, and as one that stays where its object does
+  -- the region of what is condemned is listed, and as one that stays where its object does
+  pub listed_at : (a : Addr) → IsCondemned (object_at old) p.basis.condemned a → (k : ℕ)
+      × ((k < length p.regions) × ((condemned_at p.regions k).region ≡ region_of a))
+  listed_at a is = regions_now.all (region_of a) (region_young c.sound a is)
+
   pub move_listed : (j : ℕ) → j < length p.moves → (k : ℕ)
       × ((k < length p.regions) × ((condemned_at p.regions k).region ≡ region_of (move_at p.moves j).from))
-  move_listed j low =
-      let from = (move_at p.moves j).from in
-      let is = condemned_of old p.basis.condemned from (moves_now.condemned j low) in
-      let same = generation_is old from is.object in
-      regions_now.all (region_of from) (record {
-        held = c.sound.held from is.object;
-        young = subst (λ g. g ≤ p.basis.condemned) same is.young;
-      })
+  move_listed j low = listed_at (move_at p.moves j).from (is_condemned_at c.sound moves_now j low)
 
   pub stays_listed : (j : ℕ) → j < length p.moves → is_staying (move_at p.moves j).fate ≡ true → (k : ℕ)
       × ((k < length p.regions) × ((condemned_at p.regions k).pinned ≡ true))
   stays_listed j low stays =
-      let (k, at) = move_listed j low in (
-        k,
-        (
-          at.0,
-          (regions_now.pinned k at.0).1
-              (record { at = j; within = low; stays = stays; region = sym at.1 }),
-        ),
-      )
+      let (k, at) = move_listed j low in
+      let stay : HasStay p.moves (condemned_at p.regions k).region =
+      record { at = j; within = low; stays = stays; region = sym at.1 } in
+      (k, (at.0, (regions_now.pinned k at.0).1 stay))
 
   pub can_copy : CanCopy old p.moves
   can_copy = record {
     sound = c.sound;
-    objects = λ k within.
-        (condemned_of old p.basis.condemned (move_at p.moves k).from (moves_now.condemned k within)).object;
-    generations = generation_some old p.basis.condemned c.sound p.moves moves_now;
+    objects = λ k within. (is_condemned_at c.sound moves_now k within).object;
+    generations = generation_some c.sound moves_now;
     fits = moves_now.fits;
-    put = are_put old p.basis.condemned c.sound p.moves moves_now;
+    put = are_put c.sound moves_now;
   }
-
--- the parts of a plan were read one by one
-pub committing : (p : PlanOf) (b : Basis) (ms ns : List Move) (cs ds : List Condemned) (old : Heap) → ms ≡ ns
-    → cs ≡ ds → record { basis = b; moves = ns; regions = ds } ≡ p
-    → IsLaid p → IsSameShape p.basis.heap old → HasSoundCards (object_at old) (is_carded old) → IsSound old
-    → (record { basis = b; moves = ms; regions = cs } ≡ p) × IsCommitting
-    (record { basis = b; moves = ms; regions = cs }) old
-committing p b ms ns cs ds old moves regions is laid same cards sound =
-    let e : record { basis = b; moves = ms; regions = cs } ≡ p =
-    (λ i. record { basis = b; moves = moves i; regions = regions i }) ∙ is in (
-      e,
-      record {
-        laid = subst IsLaid (sym e) laid;
-        same = subst (λ (x : PlanOf). IsSameShape x.basis.heap old) (sym e) same;
-        cards = cards;
-        sound = sound;
-      },
-    )

@@ -1,5 +1,6 @@
 -- Tests of addresses and of what is condemned.
-use Rattle.hd_plan.proofs.Basics.{Addr, Bool, Heap, IsCondemned, and_from, and_parts, cases_lt, false, generation_at, has_object, inl, inr, is_condemned, le-leb, leb-true, nat_le, object_at, refl, sym, true, ℕ, ◌<◌, ◌≡◌, ◌⊎◌}
+use Rattle.hd_heap.proofs.NextObjects.{generation_is}
+use Rattle.hd_plan.proofs.Basics.{Addr, Bool, Heap, IsCondemned, IsCondemnedRegion, IsSound, and_from, and_parts, arith, cases_lt, false, generation_at, has_object, inl, inr, is_condemned, le-leb, leb-true, nat_le, object_at, refl, region_of, sym, true, ℕ, ◌<◌, ◌≡◌, ◌⊎◌}
 
 -- two tests that pass alike are one
 pub same_tests : (a b : Bool) → (a ≡ true → b ≡ true) → (b ≡ true → a ≡ true) → a ≡ b
@@ -15,6 +16,12 @@ condemned_of h n a e =
 
 pub condemned_is : (h : Heap) (n : ℕ) (a : Addr) → IsCondemned (object_at h) n a → is_condemned h n a ≡ true
 condemned_is h n a c = and_from _ _ c.object (le-leb (generation_at (object_at h) a) n c.young)
+
+-- its region is a condemned one
+pub region_young : {h : Heap} {n : ℕ} → IsSound h → (a : Addr) → IsCondemned (object_at h) n a
+    → IsCondemnedRegion h n (region_of a)
+region_young {h} sound a c =
+    record { held = sound.held a c.object; young = omega (arith, generation_is h a c.object, c.young) }
 
 -- an object is condemned or older, and not both
 pub older_or_young : (h : Heap) (n : ℕ) (a : Addr) → has_object h a ≡ true

@@ -1,7 +1,8 @@
--- How much is condemned.
-use Rattle.hd_plan.proofs.Basics.{Extent, Heap, IsExtent, IsToLay, List, REGION, ℕ, ◌*◌, ◌<◌, ◌^◌, ◌≤◌, arith}
+-- How much is condemned, and how many free regions a plan takes.
+use Rattle.hd_plan.proofs.Basics.{Extent, Heap, IsExtent, IsToLay, List, REGION, ℕ, ◌*◌, ◌<◌, ◌^◌, ◌≤◌, arith, SparesAtMost, length, max, refl, ◌+◌, ◌/◌}
 use Rattle.hd_plan.specs.LaySteps.{HasLayRoom}
 use Rattle.hd_plan.proofs.CondemnedAddresses.{condemned_of, condemned_is}
+use Rattle.hd_model.specs.declared.limits.TheConstants.{LEFT, OPEN}
 
 pub to_lay : (h : Heap) (n : ℕ) (e : Extent) → IsExtent h n e → IsToLay h n e
 to_lay h n e is =
@@ -58,3 +59,11 @@ extent_room {h} {n} {e} room_ms room_cs firsts cells is small objects regions en
       };
       span = λ a has. omega (arith, is.above a has, end);
     }
+
+pub spares_at_most : (old new : Heap) (n : ℕ) (e : Extent) → IsToLay old n e
+    → length new.spare ≤ max (e.cells / LEFT + OPEN) (length old.spare) → SparesAtMost old new n
+spares_at_most old new n e is spare = record {
+  needed = e.cells / LEFT + OPEN;
+  needs = record { cells = e.cells; cells_are = is.cells; needed_is = refl };
+  spare = spare;
+}

@@ -4,7 +4,6 @@ pub mod CommitCards
 pub mod CommitCopies
 pub mod CommitRewrites
 pub mod CommitReleases
-pub mod MoveSearch
 pub mod CondemnedAddresses
 pub mod RoomSteps
 pub mod KeptMoves
@@ -13,14 +12,11 @@ pub mod LayStep
 pub mod CommitShape
 pub mod CommitImage
 pub mod CommitGenerations
-pub mod CommitTotals
 pub mod CommitResult
 pub mod RegionList
 pub mod PackedRegions
 pub mod CondemnedAmounts
-pub mod FreeRegionCount
 pub mod LaidPlan
 pub mod RegionsInUse
-pub mod CommitWalks
 pub mod CommitClears
 pub mod RegionLay

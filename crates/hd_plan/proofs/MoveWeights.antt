@@ -1,7 +1,9 @@
--- How many moves there are, and the words of their objects, against all that is condemned.
-use Rattle.hd_plan.proofs.Basics.{Addr, AllPairs, Bool, Contains, Counts, Heap, IsCondemned, IsRising, List, Move, Takes, [], ap, arith, cases_order, cells_laid, cells_of, cond, count_by, counts_named, fewer, filter, get_or, get_or-map, get_or_default, inl, inr, is_condemned, is_staying, length, length-filter, length-map, lighter, map, mapped_from, move_at, object_at, pairs_passing, passing_from, passing_in, placed_at, refl, subst, sum_by, sum_by-cons, sym, true, ℕ, ◌+◌, ◌<◌, ◌∙◌, ◌∷◌, ◌≡◌, ◌≢◌, ◌≤◌}
-use Rattle.hd_plan.specs.Layout.{stays_among}
+-- How many moves there are and the words of their objects, against all that is condemned; and sums over maps.
+use Rattle.hd_plan.proofs.Basics.{Addr, AllPairs, Bool, Contains, Counts, Heap, IsCondemned, IsRising, List, Move, Takes, [], ap, arith, cases_order, cells_laid, cells_of, count_by, counts_named, fewer, filter, get_or, get_or_default, inl, inr, is_condemned, length, length-filter, length-map, lighter, map, mapped_from, move_at, object_at, pairs_passing, passing_from, passing_in, placed_at, refl, subst, sum_by, sum_by-cons, sym, true, ℕ, ◌+◌, ◌<◌, ◌∙◌, ◌∷◌, ◌≡◌, ◌≢◌, ◌≤◌, FinMap, Some, T, both, entries, entries_sorted, find, first_alone, found_first, found_later, get, get-entries, get_left, is_sorted, nat_cmp, remove, share, sum-remove, values}
+use Rattle.hd_model.proofs.Members.{pairs_mapped}
 use Rattle.hd_plan.proofs.CondemnedAddresses.{condemned_is}
+use Rattle.std.specs.FinMap.Entries.{below_all}
+use Rattle.std.proofs.{lemmas.Option.none-some}
 
 pub sum_map : {A B : Type 0} (f : A → B) (w : B → ℕ) (xs : List A)
     → sum_by w (map f xs) ≡ sum_by (λ x. w (f x)) xs
@@ -9,15 +11,9 @@ sum_map f w [] = refl
 sum_map f w (x ∷ xs) = sum_by-cons w (f x) (map f xs) ∙ ap (λ s. w (f x) + s) (sum_map f w xs)
     ∙ sym (sum_by-cons (λ y. w (f y)) x xs)
 
-pub stays_counted : (ms : List Move) → stays_among ms ≡ count_by (λ m. is_staying m.fate) ms
-unfolding stays_among
-stays_counted [] = refl
-stays_counted (m ∷ ms) = ap (λ s. cond (is_staying m.fate) 1 0 + s) (stays_counted ms)
-    ∙ sym (sum_by-cons (λ y. cond (is_staying y.fate) 1 0) m ms)
-
 module _ (ms : List Move) (rising : IsRising ms) where
   -- no two moves are of one object
-  froms_apart : (i j : ℕ) → i < length ms → j < length ms → (move_at ms i).from ≡ (move_at ms j).from → i ≡ j
+  pub froms_apart : (i j : ℕ) → i < length ms → j < length ms → (move_at ms i).from ≡ (move_at ms j).from → i ≡ j
   froms_apart i j low high same = elim (cases_order i j) [
     | inl e ↦ e
     | inr (inl less) ↦ absurd (let r = rising i j less high in let s = ap {B = ℕ} (λ a. a.0) same in
@@ -29,10 +25,10 @@ module _ (ms : List Move) (rising : IsRising ms) where
   read_at : (i : ℕ) (d : Move) → i < length ms → get_or ms i d ≡ move_at ms i
   read_at i d low = get_or_default ms i d _ low
 
-  moves_apart : AllPairs (λ x y. x ≢ y) ms
-  moves_apart = λ i j d less high same.
-      let e : i ≡ j = froms_apart i j (omega arith) high
-      (ap (λ m. m.from) (sym (read_at i d (omega arith)) ∙ same ∙ read_at j d high)) in omega arith
+  froms_differ : AllPairs (λ x y. x.from ≢ y.from) ms
+  froms_differ = λ i j d less high same.
+      let e : i ≡ j = froms_apart i j (omega arith) high (ap (λ m. m.from) (sym (read_at i d (omega arith)))
+      ∙ same ∙ ap (λ m. m.from) (read_at j d high)) in omega arith
 
   from_apart : (x y : Move) → Contains ms x → Contains ms y → x.from ≡ y.from → x ≡ y
   from_apart x y a b same =
@@ -50,7 +46,8 @@ module _ (ms : List Move) (rising : IsRising ms) where
   counts_moves test P each all =
       let some : Counts (λ m. Contains ms m × (test m ≡ true)) (length (filter test ms)) = record {
         members = filter test ms;
-        apart = pairs_passing test (λ x y. x ≢ y) ms moves_apart;
+        apart = pairs_passing test (λ x y. x ≢ y) ms
+            (λ i j d less high same. froms_differ i j d less high (ap (λ m. m.from) same));
         each = λ x h. passing_from test ms x h;
         all = λ x h. passing_in test ms x h.0 h.1;
         number = refl;
@@ -77,11 +74,9 @@ module _ (ms : List Move) (rising : IsRising ms) where
         (condemned rest.0.0 rest.0.1)
 
     froms_once : AllPairs (λ x y. x ≢ y) froms
-    froms_once = λ i j d less high same.
-        let short : length froms ≡ length ms = length-map ms (λ (m : Move). m.from) in
-        let e : i ≡ j = froms_apart i j (omega arith) (omega arith)
-        (sym (get_or-map (λ (m : Move). m.from) ms i _ d (omega arith)) ∙ same
-        ∙ get_or-map (λ (m : Move). m.from) ms j _ d (omega arith)) in omega arith
+    froms_once =
+        pairs_mapped (λ x y. x.from ≢ y.from) (λ x y. x ≢ y) (λ m. m.from) ms (λ x y apart. apart)
+        froms_differ
 
     -- moves of what is condemned take at most as many words as that
     pub cells_fit : (cells : ℕ) → Takes h (IsCondemned (object_at h) n) cells → cells_laid h ms ≤ cells
@@ -98,3 +93,36 @@ module _ (ms : List Move) (rising : IsRising ms) where
         fewer froms counts.members froms_once
         (λ a c. counts.all a (condemned_is h n a (froms_in a c))) in
         omega (arith, within, counts.number, length-map ms (λ (m : Move). m.from))
+
+module _ {A : Type 0} (f : A → ℕ) (ComesFrom : ℕ → ℕ → Type 0)
+    (once : (q s r : ℕ) → ComesFrom q r → ComesFrom s r
+    → q ≡ s) where
+  total-coming : (es : List (ℕ × A)) (m : FinMap nat_cmp A) → T (is_sorted nat_cmp es)
+      → ((q : ℕ) (v : A) → find nat_cmp q es ≡ Some v → (r : ℕ) × (ComesFrom q r × (f v ≤ share f (get m r))))
+      → sum_by f (map (λ e. e.1) es) ≤ sum_by f (values m)
+  total-coming [] m sorted found = omega arith
+  total-coming (e ∷ es) m sorted found =
+      let parts : T (below_all nat_cmp e.0 es) × T (is_sorted nat_cmp es) = both _ _ sorted in
+      let here = found e.0 e.1 (found_first e.0 e.0 e.1 (find nat_cmp e.0 es) refl) in
+      let rest = total-coming es (remove m here.0) parts.1 (later e es m here.0 here.1.0 parts.0 found) in
+      let first = here.1.1 in
+      omega (arith, sum_by-cons f e.1 (map (λ w. w.1) es), rest, first, sum-remove f m here.0)
+    where
+      later : (e : ℕ × A) (es : List (ℕ × A)) (m : FinMap nat_cmp A) (r : ℕ) → ComesFrom e.0 r
+          → T (below_all nat_cmp e.0 es)
+          → ((q : ℕ) (v : A) → find nat_cmp q (e ∷ es) ≡ Some v
+          → (s : ℕ) × (ComesFrom q s × (f v ≤ share f (get m s))))
+          → (q : ℕ) (v : A) → find nat_cmp q es ≡ Some v
+          → (s : ℕ) × (ComesFrom q s × (f v ≤ share f (get (remove m r) s)))
+      later e es m r comes below found q v is =
+          let other : q ≢ e.0 =
+          λ same. none-some v (sym (ap (λ k. find nat_cmp k es) same ∙ first_alone e.0 es below) ∙ is) in
+          let there = found q v (found_later q e.0 (Some e.1) (find nat_cmp q es) other ∙ is) in
+          let apart : there.0 ≢ r = λ same. other (once q e.0 r (subst (ComesFrom q) same there.1.0) comes) in
+          (there.0, (there.1.0, subst (λ o. f v ≤ share f o) (sym (get_left m r there.0 apart)) there.1.1))
+
+  pub sum-coming : (m k : FinMap nat_cmp A)
+      → ((q : ℕ) (v : A) → get m q ≡ Some v → (r : ℕ) × (ComesFrom q r × (f v ≤ share f (get k r))))
+      → sum_by f (values m) ≤ sum_by f (values k)
+  sum-coming m k found =
+      total-coming (entries m) k (entries_sorted m) (λ q v is. found q v (get-entries m q ∙ is))

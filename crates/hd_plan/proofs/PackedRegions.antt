@@ -1,35 +1,32 @@
 -- The regions that are not older after the moving: each has an object that stays, or was opened.
 use Rattle.hd_plan.proofs.Basics.{Addr, AllPairs, AreMoves, Bool, Contains, FinMap, HasStay, Heap, IsPacked, IsSound, IsYoungRegion, LEFT, List, Move, OPEN, WasFree, [], ap, arith, cases_Bool, cells_of, cond, counts_keys, counts_le, counts_where, false, fewer, filter, first_in, get, get_left, get_or-take, has-get, has_object, inl, inr, is_in_use, is_moving, is_older_region, is_staying, later_in, len, length, length-append, length-filter, length-map, length-take, lighter, map, mapped_in, member_at, member_cases, move_at, nat_cmp, nat_lt, not, not-true, not_in_none, pairs_cons, pairs_first, pairs_none, pairs_passing, pairs_rest, passing_from, passing_in, placed_at, refl, region_at, region_generation, region_of, remove, same_address, share, stays_among, subst, suc, sum-remove, sum_by, sum_by-cons, sym, take, true, used_of, values, zero, ℕ, ⊎_elim, ◌&&◌, ◌++◌, ◌+◌, ◌/◌, ◌<◌, ◌∙◌, ◌∷◌, ◌≡◌, ◌≢◌, ◌≤◌, ◌⊎◌}
 use Rattle.std.proofs.lemmas.List.Elements.{Contains-append_left, Contains-append_right}
-use Rattle.hd_plan.specs.Layout.{room_at}
-use Rattle.hd_plan.proofs.{CommitCopies.get_placed, KeptMoves.all_put, MoveWeights.stays_counted, RoomSteps.begun_most}
+use Rattle.hd_plan.specs.{CommitSteps.IsCopiedTo, Layout.room_at}
+use Rattle.hd_plan.proofs.{CommitCopies.get_placed, KeptMoves.all_put, MoveEnds.ends_more, RoomSteps.begun_most}
 
 -- the addresses to which the first k moves copy
 unfoldable tos : List Move → ℕ → List Addr
 tos ms zero = []
 tos ms (suc k) = cond (is_moving (move_at ms k).fate) ((move_at ms k).to ∷ tos ms k) (tos ms k)
 
-record IsTo (ms : List Move) (k : ℕ) (a : Addr) : Type 0 where
-  at : ℕ
-  before : at < k
-  moves : is_moving (move_at ms at).fate ≡ true
-  is : (move_at ms at).to ≡ a
+tos_step : (ms : List Move) (k : ℕ) (b : Bool) → is_moving (move_at ms k).fate ≡ b
+    → tos ms (suc k) ≡ cond b ((move_at ms k).to ∷ tos ms k) (tos ms k)
+unfolding tos
+tos_step ms k b e = ap (λ x. cond x ((move_at ms k).to ∷ tos ms k) (tos ms k)) e
 
-from_tos : (ms : List Move) (k : ℕ) (a : Addr) → Contains (tos ms k) a → IsTo ms k a
+from_tos : (ms : List Move) (k : ℕ) (a : Addr) → Contains (tos ms k) a → IsCopiedTo ms k a
 unfolding tos
 from_tos ms zero a h = absurd (not_in_none a h)
-from_tos ms (suc k) a h = elim (cases_Bool (is_moving (move_at ms k).fate)) [
-  | inl moves ↦
-      let here : Contains ((move_at ms k).to ∷ tos ms k) a =
-      subst (λ xs. Contains xs a) (ap (λ b. cond b ((move_at ms k).to ∷ tos ms k) (tos ms k)) moves) h in
-      ⊎_elim (λ same. record { at = k; before = omega arith; moves = moves; is = same })
-      (λ later. more (from_tos ms k a later)) (member_cases (move_at ms k).to (tos ms k) a here)
-  | inr stays ↦ more (from_tos ms k a
-      (subst (λ xs. Contains xs a) (ap (λ b. cond b ((move_at ms k).to ∷ tos ms k) (tos ms k)) stays) h))
-]
-  where
-    more : IsTo ms k a → IsTo ms (suc k) a
-    more t = record { at = t.at; before = let low = t.before in omega arith; moves = t.moves; is = t.is }
+from_tos ms (suc k) a h =
+    let more : Contains (tos ms k) a → IsCopiedTo ms (suc k) a =
+    λ later. ends_more k (suc k) (omega arith) (from_tos ms k a later) in
+    elim (cases_Bool (is_moving (move_at ms k).fate)) [
+      | inl moves ↦
+          ⊎_elim (λ same. record { at = k; before = omega arith; goes = moves; is = same }) more
+          (member_cases (move_at ms k).to (tos ms k) a
+          (subst (λ xs. Contains xs a) (tos_step ms k true moves) h))
+      | inr stays ↦ more (subst (λ xs. Contains xs a) (tos_step ms k false stays) h)
+    ]
 
 apart_tos : (ms : List Move) (k : ℕ)
     → ((i j : ℕ) → i < j → j < k → is_moving (move_at ms i).fate ≡ true → is_moving (move_at ms j).fate ≡ true
@@ -40,14 +37,11 @@ apart_tos ms zero apart = pairs_none (λ x y. x ≢ y)
 apart_tos ms (suc k) apart =
     let rest = apart_tos ms k (λ i j low high. apart i j low (omega (arith, high))) in
     elim (cases_Bool (is_moving (move_at ms k).fate)) [
-      | inl moves ↦ subst (AllPairs (λ x y. x ≢ y))
-          (sym (ap (λ b. cond b ((move_at ms k).to ∷ tos ms k) (tos ms k)) moves))
-          (pairs_cons (λ x y. x ≢ y) (move_at ms k).to (tos ms k)
-          (λ y h same.
+      | inl moves ↦ subst (AllPairs (λ x y. x ≢ y)) (sym (tos_step ms k true moves))
+          (pairs_cons (λ x y. x ≢ y) (move_at ms k).to (tos ms k) (λ y h same.
           let t = from_tos ms k y h in
-          apart t.at k t.before (omega arith) t.moves moves (t.is ∙ sym same)) rest)
-      | inr stays ↦ subst (AllPairs (λ x y. x ≢ y))
-          (sym (ap (λ b. cond b ((move_at ms k).to ∷ tos ms k) (tos ms k)) stays)) rest
+          apart t.at k t.before (omega arith) t.goes moves (t.is ∙ sym same)) rest)
+      | inr stays ↦ subst (AllPairs (λ x y. x ≢ y)) (sym (tos_step ms k false stays)) rest
     ]
 
 -- the words that the first k moves moved, by where they went
@@ -62,13 +56,13 @@ cells_tos h ms w (suc k) same =
     elim (cases_Bool (is_moving (move_at ms k).fate)) [
       | inl moves ↦
           let more = ap (λ b. cond b (cells_of (placed_at h (move_at ms k).from)) 0) moves in
-          let list = ap (sum_by w) (ap (λ b. cond b ((move_at ms k).to ∷ tos ms k) (tos ms k)) moves) in
+          let list = ap (sum_by w) (tos_step ms k true moves) in
           let cons = sum_by-cons w (move_at ms k).to (tos ms k) in
           let here = same k (omega arith) moves in
           omega (arith, rest, more, list, cons, here)
       | inr stays ↦
           let none = ap (λ b. cond b (cells_of (placed_at h (move_at ms k).from)) 0) stays in
-          let list = ap (sum_by w) (ap (λ b. cond b ((move_at ms k).to ∷ tos ms k) (tos ms k)) stays) in
+          let list = ap (sum_by w) (tos_step ms k false stays) in
           omega (arith, rest, none, list)
     ]
 
@@ -106,7 +100,7 @@ taken_many h ms =
     let known = length-append (map (λ (m : Move). region_of m.from) stays) (take opened h.spare) in
     let also = length-map stays (λ (m : Move). region_of m.from) in
     let more = length-filter (λ (m : Move). is_staying m.fate) ms in
-    omega (arith, known, also, more, stays_counted ms, length-take opened h.spare)
+    omega (arith, known, also, more, length-take opened h.spare)
 
 -- a heap whose older regions are as they were, and whose others each have an object that stays or were
 -- opened, with what moves in them: packed
@@ -118,7 +112,7 @@ pub packed : (h : Heap) → IsSound h → (n : ℕ) (ms : List Move) → AreMove
     → ((r : ℕ) → is_in_use new r ≡ true → is_older_region h n r ≡ false → IsTaken h ms r)
     → IsPacked h new n (stays_among ms)
 packed h sound n ms moves new older moved_there held =
-    let put = all_put h n sound ms moves in
+    let put = all_put sound moves in
     let young : ℕ → Bool = λ r. not (is_older_region h n r) in
     let keys = counts_keys new.regions (λ r. r) (λ r. r) (λ r. refl) (λ r. refl) in
     let (count, some) = counts_where (λ r. is_in_use new r ≡ true) young _ keys in
@@ -134,11 +128,11 @@ packed h sound n ms moves new older moved_there held =
     lighter cells (tos ms (length ms)) inside (apart_tos ms (length ms) put.apart)
     (λ a is.
     let t = from_tos ms (length ms) a is in
-    let s = moved_there t.at t.before t.moves in
+    let s = moved_there t.at t.before t.goes in
     let there : Contains addresses.members (move_at ms t.at).to =
     addresses.all (move_at ms t.at).to (sym (has-get new (move_at ms t.at).to) ∙ s.0) in
     let new_one : is_older_region h n (region_of (move_at ms t.at).to) ≡ false =
-    no_older (region_of (move_at ms t.at).to) ((put.put t.at t.before t.moves).fresh.new) in
+    no_older (region_of (move_at ms t.at).to) ((put.put t.at t.before t.goes).fresh.new) in
     subst (Contains inside) t.is (passing_in here addresses.members (move_at ms t.at).to there
     (ap not new_one))) in
     let sums = cells_tos h ms cells (length ms) (λ j low moving. (moved_there j low moving).1) in

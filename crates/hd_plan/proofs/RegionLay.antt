@@ -1,49 +1,37 @@
 -- The objects of a condemned region are laid one after another.
-use Rattle.hd_plan.proofs.Basics.{Addr, AllocCursors, HasFreeRegions, IsFirstObject, IsMoveOf, ObjectHeader, Bool, HasMoveRoom, HasStay, Heap, IsCondemnedRegion, IsLaying, IsSound, List, Move, REGION, [], ap, arith, cases_lt, cell_at, cond, cursor_of, false, get_or-set_other, get_or-set_same, inl, inr, is_staying, length, length-set, move_at, nat_eq, or_cases, or_left, or_right, raised, refl, region_generation, set, spot_in, sym, true, true≢false, young_raised, ℕ, ⊎_elim, ◌*◌, ◌++◌, ◌+◌, ◌<◌, ◌||◌, ◌∙◌, ◌∷◌, ◌≡◌, ◌≢◌, ◌≤◌, ◌⊎◌, ◌↔◌}
+use Rattle.hd_plan.proofs.Basics.{Addr, AllocCursors, IsFirstObject, IsMoveOf, ObjectHeader, Bool, HasMoveRoom, HasStay, Heap, IsCondemnedRegion, IsLaying, IsSound, List, Move, REGION, [], ap, arith, cases_lt, cell_at, cond, cursor_of, false, get_or-set_other, get_or-set_same, inl, inr, is_staying, length, length-set, move_at, nat_eq, or_cases, or_left, or_right, refl, set, spot_in, subst, sym, true, true≢false, ℕ, ⊎_elim, ◌*◌, ◌++◌, ◌+◌, ◌<◌, ◌||◌, ◌∙◌, ◌∷◌, ◌≡◌, ◌≢◌, ◌⊎◌, ◌↔◌}
 use Rattle.hd_model.specs.Heap.{region_of}
 use Rattle.hd_heap.specs.Walks.{end_in}
-use Rattle.hd_heap.proofs.NextObjects.{end_later, next_from, none_inside}
-use Rattle.hd_plan.specs.declared.cursors.AllocCursor.{AllocCursor}
-use Rattle.hd_plan.specs.LaySteps.{AreLaidIn, with_cursor_at}
-use Rattle.hd_plan.proofs.{CondemnedAddresses.condemned_of, LayStep.laying_next, LayStep.laying_past, LayStep.no_move, LayStep.push_before, LayStep.push_each, LayStep.push_last, LayStep.push_length, MoveWeights.moves_fit}
+use Rattle.hd_heap.proofs.NextObjects.{IsNextFrom, end_later, next_from, none_inside}
+use Rattle.hd_plan.specs.{declared.cursors.AllocCursor.AllocCursor, LaySteps.AreLaidIn, LaySteps.with_cursor_at}
+use Rattle.hd_plan.proofs.{CondemnedAddresses.condemned_of, LayStep.laying_next, LayStep.laying_past, LayStep.no_move, LayStep.push_before, LayStep.push_each, LayStep.push_found, LayStep.push_last, LayStep.push_length, MoveWeights.moves_fit}
 
 -- the cursors with one of a generation: it is read, replaced by another one, and may be its own
+abbrev set_in : Bool → AllocCursors → AllocCursor → ℕ → AllocCursors
+set_in b s c o = record { first = cond b c s.first; second = cond b s.second c; opened = o }
+
 module _ (s : AllocCursors) (g : ℕ) where
   pub cursor_again : (c : AllocCursor) (o : ℕ) → cursor_of (with_cursor_at s g c o) g ≡ c
   cursor_again c o = by (nat_eq g 1)
     where
-      by : (b : Bool) → cond b (cond b c s.first) (cond b s.second c) ≡ c
+      by : (b : Bool) → cond b (set_in b s c o).first (set_in b s c o).second ≡ c
       by true = refl
       by false = refl
 
   pub with_again : (c d : AllocCursor) (o p : ℕ)
       → with_cursor_at (with_cursor_at s g c o) g d p ≡ with_cursor_at s g d p
-  with_again c d o p = λ i. record { first = first (nat_eq g 1) i; second = second (nat_eq g 1) i; opened = p }
+  with_again c d o p = by (nat_eq g 1)
     where
-      first : (b : Bool) → cond b d (cond b c s.first) ≡ cond b d s.first
-      first true = refl
-      first false = refl
-
-      second : (b : Bool) → cond b (cond b s.second c) d ≡ cond b s.second d
-      second true = refl
-      second false = refl
+      by : (b : Bool) → set_in b (set_in b s c o) d p ≡ set_in b s d p
+      by true = refl
+      by false = refl
 
   pub same_cursor : with_cursor_at s g (cursor_of s g) s.opened ≡ s
-  same_cursor = λ i. record { first = first (nat_eq g 1) i; second = second (nat_eq g 1) i; opened = s.opened }
+  same_cursor = by (nat_eq g 1)
     where
-      first : (b : Bool) → cond b (cond b s.first s.second) s.first ≡ s.first
-      first true = refl
-      first false = refl
-
-      second : (b : Bool) → cond b s.second (cond b s.first s.second) ≡ s.second
-      second true = refl
-      second false = refl
-
--- the generation of what is kept of a condemned region
-pub raised_young : {h : Heap} {n r : ℕ} → IsCondemnedRegion h n r
-    → (0 < raised n (region_generation h r)) × (raised n (region_generation h r) ≤ 2)
-raised_young {h} {n} {r} is =
-    let e = young_raised n (region_generation h r) is.young in (omega (arith, e), omega (arith, e))
+      by : (b : Bool) → set_in b s (cond b s.first s.second) s.opened ≡ s
+      by true = refl
+      by false = refl
 
 -- an object of a region stays, where there is one move more
 pub stay_pushed : (ms : List Move) (m : Move) (r : ℕ)
@@ -65,24 +53,10 @@ stay_pushed ms m r = (
           ap (λ (x : Move). region_of x.from) (sym e) ∙ is.region,
         )
   ],
-  λ is. elim is [
-    | inl was ↦
-        let e = push_before no_move ms m was.at was.within in
-        record {
-          at = was.at;
-          within = omega (arith, push_length no_move ms m, was.within);
-          stays = ap (λ (x : Move). is_staying x.fate) e ∙ was.stays;
-          region = ap (λ (x : Move). region_of x.from) e ∙ was.region;
-        }
-    | inr now ↦
-        let e = push_last no_move ms m (length ms) refl in
-        record {
-          at = length ms;
-          within = omega (arith, push_length no_move ms m);
-          stays = ap (λ (x : Move). is_staying x.fate) e ∙ now.0;
-          region = ap (λ (x : Move). region_of x.from) e ∙ now.1;
-        }
-  ],
+  λ is.
+      let (k, at) = push_found no_move ms m (λ x. (is_staying x.fate ≡ true) × (region_of x.from ≡ r))
+      (⊎_elim (λ was. inr (was.at, (was.within, (was.stays, was.region)))) (λ now. inl now) is) in
+      record { at = k; within = at.0; stays = at.1.0; region = at.1.1 },
 )
 
 -- no object of a region is laid yet
@@ -139,28 +113,32 @@ pub move_fits : {h : Heap} {n bound room : ℕ} {promoted pinned : Addr → Bool
 move_fits {h} {n} ms m laying room =
     let fit =
     moves_fit (ms ++ m ∷ []) laying.to.rising h n
-    (λ k low. condemned_of h n (move_at (ms ++ m ∷ []) k).from (laying.to.condemned k low)) room.count
+    (λ k low. condemned_of h n (move_at (ms ++ m ∷ []) k).from (laying.to.condemned k low).0) room.count
     room.count_is in
     omega (arith, fit, push_length no_move ms m, room.enough)
 
 -- one object more of a region is laid
 module _ {h : Heap} {n : ℕ} (sound : IsSound h) {promoted pinned : Addr → Bool} {r end : ℕ}
     (region : IsCondemnedRegion h n r) {ms : List Move} {s new : AllocCursors}
-    (laying : IsLaying h n promoted pinned ms s (r * REGION + end)) (spare : HasFreeRegions h n)
-    {o : ObjectHeader} (first : IsFirstObject h r end o) {m : Move} (from : m.from ≡ o.at)
-    (is : IsMoveOf h n (promoted o.at) (pinned o.at) s new m) where
-  pub laying_upto : IsLaying h n promoted pinned (ms ++ m ∷ []) new (o.at.0 + 1)
-  laying_upto = laying_next h n sound promoted pinned ms s new (r * REGION + end) o.at m laying spare
-      (next_from h n sound region.young first) from is
+    (laying : IsLaying h n promoted pinned ms s (r * REGION + end)) {o : ObjectHeader}
+    (first : IsFirstObject h r end o) {m : Move} (from : m.from ≡ o.at)
+    (is : IsMoveOf h n (promoted m.from) (pinned m.from) s new m) where
+  number : m.from.0 ≡ o.at.0
+  number = ap (λ (a : Addr). a.0) from
+
+  pub laying_upto : IsLaying h n promoted pinned (ms ++ m ∷ []) new (m.from.0 + 1)
+  laying_upto = laying_next sound laying new m (subst (IsNextFrom h n (r * REGION + end)) (sym from)
+      (next_from h n sound region.young first)) is
 
   pub laying_on : (end2 : ℕ) → end2 ≡ end_in r o
       → IsLaying h n promoted pinned (ms ++ m ∷ []) new (r * REGION + end2)
-  laying_on end2 e = laying_past h n sound promoted pinned _ _ (o.at.0 + 1) _ laying_upto
-      (omega (arith, (end_later h n sound region.young first).1, e))
-      (λ a of later. omega (arith, none_inside h n sound region.young first a of later, e))
+  laying_on end2 e = laying_past sound laying_upto _
+      (omega (arith, (end_later h n sound region.young first).1, e, number))
+      (λ a of later. let up = none_inside h n sound region.young first a of (omega (arith, later, number)) in
+      omega (arith, up, e))
 
   pub these_on : {old : List Move} {k : ℕ} {p : Bool} {before cells : List Addr}
       → AreLaidIn old ms r k p before cells → spot_in k m.from < length cells
       → AreLaidIn old (ms ++ m ∷ []) r k (p || is_staying m.fate) before (set cells (spot_in k m.from) m.to)
   these_on these low = laid_more m these (ap region_of from ∙ first.region)
-      (λ j l. omega (arith, laying.to.below j l, first.beyond, ap {B = ℕ} (λ (a : Addr). a.0) from)) low
+      (λ j l. omega (arith, (laying.to.condemned j l).1, first.beyond, number)) low

@@ -1,6 +1,7 @@
--- Each region in use has an object: what keeps it so.
-use Rattle.hd_plan.proofs.Basics.{Addr, Contains, HasNoEmptyRegion, Heap, IsField, IsMade, None, Object, Objects, Option, Placed, REGION, Region, Some, ap, cases_eq, empty_heap, false, fields_in, get_other, get_same, has-get, has_object, inl, inr, is_in_use, is_object, is_some, nat_cmp, not_in_none, refl, region_at, region_of, subst, sym, true, true≢false, with_generation, with_put, ℕ, ◌*◌, ◌+◌, ◌∙◌, ◌≡◌}
+-- Each region in use has an object: what keeps it so; and walks over a heap, for tests.
+use Rattle.hd_plan.proofs.Basics.{Addr, Contains, HasNoEmptyRegion, Heap, IsField, IsMade, None, Option, Placed, REGION, Region, Some, ap, cases_eq, empty_heap, false, get_other, get_same, has-get, has_object, inl, inr, is_in_use, is_some, nat_cmp, region_at, region_of, subst, sym, true, true≢false, with_generation, with_put, ℕ, ◌*◌, ◌+◌, ◌∙◌, ◌≡◌, Basis, Bool, IsClosed, IsNext, List, arith, get_or, get_or_default, has_with_object, is_after, length, object_at, objects_of, placed_at, stored, with_field, ◌<◌, ◌≤◌}
 use Rattle.std.specs.FinMap as map
+use Rattle.hd_plan.proofs.LayStep.{reached_cases}
 
 -- free regions do not count
 none_held : (r : ℕ) → map.contains_key (map.empty {X = Region} {R = nat_cmp}) r ≡ false
@@ -62,10 +63,36 @@ filled_made old new at o is full =
 pub filled_empty : (limit : ℕ) → HasNoEmptyRegion (empty_heap limit)
 filled_empty limit r held = absurd (true≢false (sym held ∙ none_held r))
 
-object_in_fields : (p : Option (Object Addr)) (y : Addr) → Contains (fields_in p) (Some y) → is_some p ≡ true
-object_in_fields None y f = absurd (not_in_none (Some y) f)
-object_in_fields (Some p) y f = refl
+-- a property of all objects that a walk has come to, and one more
+pub walked_more : (P : Addr → Type 0) (h : Heap) (after : Option Addr) (at : Addr) → IsNext (has_object h)
+    after at → ((x : Addr) → has_object h x ≡ true → is_after after x ≡ false → P x) → P at
+    → (x : Addr) → has_object h x ≡ true → is_after (Some at) x ≡ false → P x
+walked_more P h after at next before here x is up =
+    elim (reached_cases (has_object h) after at x next is up) [
+      | inl was ↦ before x is was
+      | inr same ↦ subst P (sym same) here
+    ]
 
--- what has a field is an object
-pub field_object : (o : Objects Addr) (x y : Addr) → IsField o x y → is_object o x ≡ true
-field_object o x y field = object_in_fields (o x) y field
+-- a property of each field that is read one after another
+pub each_field : (P : Addr → Type 0) (xs : List (Option Addr)) (i : ℕ) → length xs ≤ i
+    → ((k : ℕ) → k < i → (y : Addr) → get_or xs k None ≡ Some y → P y) → (y : Addr) → Contains xs (Some y) →
+    P y
+each_field P xs i all read y field =
+    let within = field.1 in
+    read field.0 (omega arith) y (get_or_default xs field.0 None (Some y) field.1 ∙ field.2)
+
+-- what is read in a heap is read in a basis that has it
+pub closed_basis : (b : Basis) (h : Heap) (p : Addr → Bool) → b.heap ≡ h → IsClosed (IsField (object_at h))
+    p → IsClosed (IsField (objects_of b)) p
+closed_basis b h p same closed = subst (λ (k : Heap). IsClosed (IsField (object_at k)) p) (sym same) closed
+
+-- each region in use has an object after a store, and after a card is set
+pub filled_stored : (h : Heap) (at : Addr) (i : ℕ) (v : Option Addr) → HasNoEmptyRegion h → HasNoEmptyRegion
+    (stored h at i v)
+filled_stored h at i v full r held =
+    let s = full r held in
+    record {
+      at = s.at;
+      object = has_with_object h at s.at (with_field (placed_at h at) i v) s.object;
+      region = s.region;
+    }

@@ -1,5 +1,5 @@
 -- The room while objects are laid: each fate of an object keeps what is true of it.
-use Rattle.hd_plan.proofs.Basics.{Addr, Bool, CanPutAt, Dead, FIELDS, Fate, FinMap, Fits, Followed, HEADER, HasSlack, Heap, IsCursor, IsFresh, IsPut, IsRoom, IsSound, LEFT, Moves, MovesToNewRegion, OPEN, Opened, Option, Pinned, REGION, Region, Room, Some, WasFree, ap, arith, begun, cases_eq, cond, cursor_of, eq-eqb, false, filled, followed_cursor, get, get_other, get_same, has_region, inl, inr, insert, is_in_use, is_moving, is_some, length, nat_cmp, ne_eqb, opened_cursor, put_fate, refl, region_in, room_of, slice_index, subst, sym, true, true≢false, unwrap_or, with_cursor, ℕ, ⊎_elim, ◌*◌, ◌+◌, ◌/◌, ◌<◌, ◌^◌, ◌∙◌, ◌≡◌, ◌≢◌, ◌≤◌, ◌⊎◌}
+use Rattle.hd_plan.proofs.Basics.{Addr, Bool, CanPutAt, Dead, FIELDS, Fate, FinMap, Fits, Followed, HEADER, HasSlack, Heap, IsCursor, IsFresh, IsPut, IsRoom, IsSound, LEFT, List, Moves, MovesToNewRegion, OPEN, Opened, Option, Pinned, REGION, Region, Room, Some, WasFree, ap, arith, begun, cases_eq, cond, cursor_of, eq-eqb, false, filled, followed_cursor, get, get_other, get_same, has_region, inl, inr, insert, is_in_use, is_moving, is_some, length, nat_cmp, ne_eqb, opened_cursor, put_fate, refl, region_in, room_of, slice_index, subst, sym, true, true≢false, unwrap_or, with_cursor, ℕ, ⊎_elim, ◌*◌, ◌+◌, ◌/◌, ◌<◌, ◌^◌, ◌∙◌, ◌≡◌, ◌≢◌, ◌≤◌, ◌⊎◌}
 use Rattle.hd_model.specs.Heap.{region_of}
 use Rattle.hd_plan.specs.declared.cursors.AllocCursor.{AllocCursor}
 
@@ -63,6 +63,16 @@ alters_opened ps r g cells =
       other = λ s apart. more.other s apart ∙ get_other ps r s _ apart;
     }
 
+-- where nothing moves the room stays
+pub room_rests : (w : Fate) → is_moving w ≡ false → (spare : List ℕ) (q : Room) (g cells : ℕ)
+    → put_fate w spare q g cells ≡ q
+room_rests Dead e spare q g cells = let none : q.cells + 0 ≡ q.cells = omega arith in
+    λ j. record q { cells = none j }
+room_rests Pinned e spare q g cells = let none : q.cells + 0 ≡ q.cells = omega arith in
+    λ j. record q { cells = none j }
+room_rests MovesToNewRegion e spare q g cells = absurd (cc e)
+room_rests Moves e spare q g cells = absurd (cc e)
+
 module _ (h : Heap) where
   pub no_cursor : (rs : FinMap nat_cmp Region) (g : ℕ) → IsCursor h rs g (record { region = 0; fill = 0 })
   no_cursor rs g = record { fresh = λ some. absurd (some refl); empty = λ e. refl; fits = omega arith }
@@ -110,7 +120,7 @@ module _ (h : Heap) where
         → (has_region q.regions r ≡ true) ⊎ ((moving ≡ true) × (region_of to ≡ r))
 
   module _ (sound : IsSound h) where
-    module _ (q p : Room) (room : IsRoom h q) (g : ℕ) (c : AllocCursor) (puts : Puts q p g c) where
+    module _ {q p : Room} {g : ℕ} {c : AllocCursor} (room : IsRoom h q) (puts : Puts q p g c) where
       number : c.region ≢ 0
       number none =
           let was = puts.was in
@@ -264,13 +274,10 @@ module _ (h : Heap) where
       }
 
     -- an object that does not move
-    rests : (q p : Room) → IsRoom h q → p.regions ≡ q.regions → p.cursors ≡ q.cursors → p.cells ≡ q.cells
-        → (to : Addr) (g cells : ℕ) → Goes false q p to g cells
-    rests q p room regions cursors cells to g size =
-        subst (λ (x : Room). Goes false q x to g size)
-        {x = q} {y = p}
-        (λ i. record { regions = sym regions i; cursors = sym cursors i; cells = sym cells i })
-        (record {
+    rests : (w : Fate) → is_moving w ≡ false → (q : Room) → IsRoom h q → (to : Addr) (g cells : ℕ)
+        → Goes false q (put_fate w h.spare q g cells) to g cells
+    rests w e q room to g size =
+        subst (λ (x : Room). Goes false q x to g size) (sym (room_rests w e h.spare q g size)) (record {
           room = room;
           stays = λ x k c is. is;
           puts = λ e. absurd (true≢false (sym e));
@@ -328,13 +335,12 @@ module _ (h : Heap) where
       -- an object that moves is put
       pub goes : (w : Fate) → Fits w h.spare q.cursors from to g cells
           → Goes (is_moving w) q (put_fate w h.spare q g cells) to g cells
-      goes Dead fits = rests q (put_fate Dead h.spare q g cells) room refl refl (omega arith) to g cells
-      goes Pinned fits = rests q (put_fate Pinned h.spare q g cells) room refl refl (omega arith) to g cells
+      goes Dead fits = rests Dead refl q room to g cells
+      goes Pinned fits = rests Pinned refl q room to g cells
       goes MovesToNewRegion fits =
           let r : region_of to ≡ slice_index h.spare q.cursors.opened =
           region_is to _ 0 (let p = fits.place in omega arith) (omega arith) in
-          moves q (put_fate MovesToNewRegion h.spare q g cells) room g (opened_cursor h.spare q.cursors cells)
-          (opens_puts fits) to cells r (let p = fits.place in omega arith)
+          moves room (opens_puts fits) to cells r (let p = fits.place in omega arith)
           (λ x k c is some same. opened_new fits.free
           (ap (has_region q.regions) (sym r ∙ ap region_of (sym same)) ∙ is.fresh.held))
       goes Moves fits =
@@ -342,8 +348,7 @@ module _ (h : Heap) where
           let r : region_of to ≡ s.region =
           region_is to s.region s.fill fits.place (let m = fits.room in omega (arith, small.0)) in
           let at = (room_cursor q room g young).fresh fits.begun in
-          moves q (put_fate Moves h.spare q g cells) room g (followed_cursor q.cursors g cells)
-          (follows_puts fits) to cells r (let p = fits.place in omega arith)
+          moves room (follows_puts fits) to cells r (let p = fits.place in omega arith)
           (λ x k c is some same.
           let region : region_of x ≡ s.region = ap region_of same ∙ r in
           absurd (let known = ap (λ y. (region_in q.regions y).fill) region in

@@ -1,8 +1,7 @@
 -- What the moving of all kept objects leaves.
 use Rattle.std.specs.Prelude.{◌≡◌, ℕ, ◌+◌, ◌/◌, ◌≤◌, ◌<◌, ◌↔◌, true, false, map, option_map}
 use Rattle.std.specs.FinMap.{len}
-use Rattle.hd_model.specs.{declared.data.Addr.Addr, Ages.raised, State.Object, Scene.generation_at, Scene.IsField}
-use Rattle.hd_model.specs.declared.limits.TheConstants.{OLDEST, LEFT, OPEN}
+use Rattle.hd_model.specs.{declared.data.Addr.Addr, Ages.raised, State.Object, Scene.generation_at, Scene.IsField, declared.limits.TheConstants.OLDEST, declared.limits.TheConstants.LEFT, declared.limits.TheConstants.OPEN}
 use Rattle.hd_model.specs.Heap.{Heap, card_of, region_at, is_in_use, has_object, object_at, placed_at, id_at, is_set, used_of}
 use Rattle.hd_plan.specs.{Layout.HasStay, Layout.IsCondemnedRegion, PackedRegions.IsPacked}
 use Rattle.hd_plan.specs.Plan.{PlanOf, kept_in, place_in, stays_in, HasNoEmptyRegion}

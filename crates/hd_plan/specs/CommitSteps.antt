@@ -3,14 +3,13 @@
 use Rattle.std.specs.Prelude.{◌≡◌, ◌≢◌, ℕ, ◌+◌, ◌<◌, ◌≤◌, ◌⊎◌, ◌&&◌, Bool, true, false, not, if◌then◌else◌, ◌-◌, List, length, Some, None, MatchBool, option_map, drop, slice_index, nat_eq}
 use Rattle.std.specs.FinMap as map
 use Rattle.hd_model.specs.{declared.data.Addr.Addr, declared.limits.TheConstants.OLDEST, Scene.generation_at, Scene.IsField}
-use Rattle.hd_model.specs.Heap.{Heap, region_of, card_of, region_at, has_object, object_at, is_set, is_carded}
+use Rattle.hd_model.specs.Heap.{Heap, Region, region_of, card_of, has_object, object_at, is_set, is_carded}
 use Rattle.hd_heap.specs.Calls.{NamesBelow, forwarded, with_fresh, with_card}
-use Rattle.hd_heap.specs.Sound.{IsSound}
-use Rattle.hd_heap.specs.{declared.moves.Fate.Fate, declared.moves.Move.Move}
+use Rattle.hd_heap.specs.{Sound.IsSound, declared.moves.Fate.Fate, declared.moves.Move.Move, Runs.IsRun, Runs.MayRun, Runs.run_copied}
 use Rattle.hd_heap.specs.Moves.{is_kept_fate, is_moving, is_opening, is_staying, move_at}
-use Rattle.hd_heap.specs.Runs.{IsRun, MayRun, run_copied}
 use Rattle.hd_plan.specs.{declared.moves.Condemned.Condemned, LaySteps.ArePut, LaySteps.first_at}
-use Rattle.hd_plan.specs.Layout.{condemned_at, room_at, FitsMove}
+use Rattle.hd_plan.specs.Layout.{condemned_at, region_in, room_at, FitsMove}
+use Rattle.std.specs.Ordering.{nat_cmp}
 
 -- one of the first i moves has such a fate, and has this end
 pub record HasEnd (fate : Fate → Bool) (end : Move → Addr) (ms : List Move) (i : ℕ) (a : Addr) : Type 0 where
@@ -91,6 +90,7 @@ pub record AreRewritten (Those : Addr → Type 0) (place : Addr → Addr) (old h
   pub done : (a : Addr) → Those a
       → map.get h.objects a.0 ≡ option_map (forwarded place) (map.get old.objects a.0)
   pub others : (a : Addr) → (Those a → ⊥) → map.get h.objects a.0 ≡ map.get old.objects a.0
+  pub there : (a : Addr) → has_object h a ≡ has_object old a
   pub same : h ≡ record old { objects = h.objects }
 
 -- whether a listed region stays, by the number that is stored for it
@@ -107,28 +107,29 @@ pub record AreRemovedIn (here : ℕ → Bool) (old h : Heap) (ms : List Move) (i
   pub cards : (a : Addr) → has_object h a ≡ true → is_carded h a ≡ is_carded old a
 
 -- the first i condemned regions have their new generation, or are in use no more
-pub record AreSettledRegions (old h : Heap) (cs : List Condemned) (i : ℕ) : Type 0 where
+pub record AreSettledRegions (old rs : map.FinMap nat_cmp Region) (cs : List Condemned)
+    (i : ℕ) : Type 0 where
   pub raised : (k : ℕ) → k < i → (condemned_at cs k).pinned ≡ true
-      → map.get h.regions (condemned_at cs k).region
+      → map.get rs (condemned_at cs k).region
       ≡ Some (record {
         generation = (condemned_at cs k).generation;
-        fill = (region_at old (condemned_at cs k).region).fill;
+        fill = (region_in old (condemned_at cs k).region).fill;
       })
   pub given_up : (k : ℕ) → k < i → (condemned_at cs k).pinned ≡ false
-      → map.get h.regions (condemned_at cs k).region ≡ None
+      → map.get rs (condemned_at cs k).region ≡ None
   pub others : (r : ℕ) → ((k : ℕ) → k < i → (condemned_at cs k).region ≢ r)
-      → map.get h.regions r ≡ map.get old.regions r
+      → map.get rs r ≡ map.get old r
 
 -- and those that are not have no objects
 pub record AreGivenUp (old h : Heap) (cs : List Condemned) (i : ℕ) : Type 0 where
-  pub regions : AreSettledRegions old h cs i
+  pub regions : AreSettledRegions old.regions h.regions cs i
   pub gone : (k : ℕ) → k < i → (condemned_at cs k).pinned ≡ false → (a : Addr)
       → region_of a ≡ (condemned_at cs k).region → map.get h.objects a.0 ≡ None
   pub left : (a : Addr) → ((k : ℕ) → k < i → (condemned_at cs k).pinned ≡ false
       → (condemned_at cs k).region ≢ region_of a) → map.get h.objects a.0 ≡ map.get old.objects a.0
   pub cards : (a : Addr) → has_object h a ≡ true
       → (has_object old a ≡ true) × (is_carded h a ≡ is_carded old a)
-  pub same : h ≡ record old { objects = h.objects; regions = h.regions; spare = h.spare; cards = h.cards }
+  pub limit : h.limit ≡ old.limit
 
 -- an object has a field to a younger one
 abbrev pub NamesYounger : Heap → Addr → Type 0

@@ -2,15 +2,12 @@
 -- laying of a plan.
 use Rattle.std.specs.Prelude.{◌≡◌, ◌≢◌, ℕ, ◌+◌, ◌*◌, ◌<◌, ◌≤◌, ◌⊎◌, ◌↔◌, cond, nat_eq, true, false, List, length, slice_index, ◌^◌, ◌%◌, ◌&&◌, Bool, slice_index_or, suc, sum_by, zero}
 use Rattle.std.specs.{FinMap.FinMap, FinMap.get, Ordering.nat_cmp}
-use Rattle.hd_model.specs.{declared.data.Addr.Addr, Ages.raised, Counting.Counts, Scene.generation_at, Scene.IsCondemned}
-use Rattle.hd_model.specs.declared.limits.TheConstants.{REGION, LEFT, REGIONS}
-use Rattle.hd_model.specs.Heap.{Heap, Region, has_object, region_of, region_generation, is_in_use, placed_at, cells_of, object_at}
-use Rattle.hd_heap.specs.declared.moves.Move.{Move}
+use Rattle.hd_model.specs.{declared.data.Addr.Addr, Ages.raised, Counting.Counts, Scene.generation_at, Scene.IsCondemned, declared.limits.TheConstants.REGION, declared.limits.TheConstants.LEFT, declared.limits.TheConstants.REGIONS}
+use Rattle.hd_model.specs.Heap.{Heap, Region, has_object, region_of, is_in_use, placed_at, cells_of, object_at}
+use Rattle.hd_heap.specs.{declared.moves.Move.Move, declared.condemned.Extent.Extent, Calls.HasCondemned, Calls.IsExtent, Calls.is_condemned}
 use Rattle.hd_heap.specs.Moves.{is_kept_fate, is_moving, is_staying, move_at}
 use Rattle.hd_plan.specs.{declared.cursors.AllocCursor.AllocCursor, declared.cursors.AllocCursors.AllocCursors, declared.moves.Condemned.Condemned, Plan.PlanOf, Plan.Takes}
-use Rattle.hd_plan.specs.Layout.{Room, has_region, region_in, room_at, put_cursors, with_cursor, condemned_at, Fits, FitsMove, HasStay, IsRising}
-use Rattle.hd_heap.specs.declared.condemned.Extent.{Extent}
-use Rattle.hd_heap.specs.Calls.{HasCondemned, IsExtent, is_condemned}
+use Rattle.hd_plan.specs.Layout.{Room, has_region, region_in, room_at, put_cursors, with_cursor, condemned_at, AreMovesOf, AreRegionsOf, Fits, HasStay}
 
 -- ---- where objects are put
 
@@ -161,17 +158,8 @@ abbrev pub cells_laid : Heap → List Move → ℕ
 cells_laid h ms = sum_by (λ m. cells_of (placed_at h m.from)) ms
 
 -- the condemned objects below an address have moves, and those of them that are kept have new addresses
-pub record AreMovesTo (h : Heap) (n : ℕ) (ms : List Move) (bound : ℕ) : Type 0 where
-  pub condemned : (k : ℕ) → k < length ms → is_condemned h n (move_at ms k).from ≡ true
-  pub below : (k : ℕ) → k < length ms → (move_at ms k).from.0 < bound
-  pub rising : IsRising ms
-  pub all : (a : Addr) → is_condemned h n a ≡ true → a.0 < bound
-      → (k : ℕ) × ((k < length ms) × ((move_at ms k).from ≡ a))
-  pub generations : (k : ℕ) → k < length ms
-      → (move_at ms k).generation ≡ raised n (generation_at (object_at h) (move_at ms k).from)
-  pub fields : (k : ℕ) → k < length ms
-      → (move_at ms k).fields ≡ length (placed_at h (move_at ms k).from).fields
-  pub fits : (k : ℕ) → k < length ms → FitsMove h (room_at h ms k) (move_at ms k)
+abbrev pub AreMovesTo : Heap → ℕ → List Move → ℕ → Type 0
+AreMovesTo h n ms bound = AreMovesOf (λ a. (is_condemned h n a ≡ true) × (a.0 < bound)) h n ms
 
 -- what holds between two objects while a heap is laid
 pub record IsLaying (h : Heap) (n : ℕ) (promoted pinned : Addr → Bool) (ms : List Move)
@@ -182,19 +170,9 @@ pub record IsLaying (h : Heap) (n : ℕ) (promoted pinned : Addr → Bool) (ms :
   pub cursors_are : (room_at h ms (length ms)).cursors ≡ cursors
   pub laid : (room_at h ms (length ms)).cells ≤ cells_laid h ms
 
--- the regions below a number that have condemned objects are listed, with the generation that each gets if it
--- stays: exactly those stay in which an object does
-pub record AreRegionsTo (h : Heap) (n : ℕ) (ms : List Move) (cs : List Condemned) (bound : ℕ) : Type 0
-  where
-    pub condemned : (k : ℕ) → k < length cs → HasCondemned h n (condemned_at cs k).region
-    pub below : (k : ℕ) → k < length cs → (condemned_at cs k).region < bound
-    pub rising : (j k : ℕ) → j < k → k < length cs → (condemned_at cs j).region < (condemned_at cs k).region
-    pub all : (r : ℕ) → HasCondemned h n r → r < bound
-        → (k : ℕ) × ((k < length cs) × ((condemned_at cs k).region ≡ r))
-    pub generations : (k : ℕ) → k < length cs
-        → (condemned_at cs k).generation ≡ raised n (region_generation h (condemned_at cs k).region)
-    pub pinned : (k : ℕ) → k < length cs
-        → ((condemned_at cs k).pinned ≡ true) ↔ HasStay ms (condemned_at cs k).region
+-- the regions below a number that have condemned objects are listed
+abbrev pub AreRegionsTo : Heap → ℕ → List Move → List Condemned → ℕ → Type 0
+AreRegionsTo h n ms cs bound = AreRegionsOf (λ r. HasCondemned h n r × (r < bound)) h n ms cs
 
 -- what holds between two regions while a heap is laid: those below `bound` are done
 pub record IsLaidTo (h : Heap) (n : ℕ) (promoted pinned : Addr → Bool) (ms : List Move)

@@ -3,13 +3,12 @@
 -- Kept objects are copied into fresh regions, one row of regions for each generation, but for those that
 -- stay because they are pinned.
 -- Regions are this project's own, after the plan and the compact phase of CoreCLR's collector in outline.
-use Rattle.std.specs.Prelude.{◌≡◌, ◌≢◌, ℕ, zero, suc, ◌+◌, ◌*◌, ◌<◌, ◌≤◌, ◌⊎◌, ◌↔◌, Bool, true, false, cond, List, [], ◌∷◌, length, Option, Some, None, unwrap_or, slice_index, slice_index_or, nat_eq}
+use Rattle.std.specs.Prelude.{◌≡◌, ◌≢◌, ℕ, zero, suc, ◌+◌, ◌*◌, ◌<◌, ◌≤◌, ◌⊎◌, ◌↔◌, Bool, true, false, cond, List, [], ◌∷◌, length, Option, Some, None, unwrap_or, slice_index, slice_index_or, nat_eq, count_by}
 use Rattle.std.specs.Ordering.{nat_cmp}
 use Rattle.std.specs.FinMap as map
 use Rattle.hd_model.specs.{declared.data.Addr.Addr, declared.limits.TheConstants.REGION, Ages.raised, Scene.generation_at}
 use Rattle.hd_model.specs.Heap.{Heap, Region, region_of, region_generation, is_in_use, object_at, placed_at, cells_of}
-use Rattle.hd_heap.specs.Calls.{is_condemned}
-use Rattle.hd_heap.specs.{declared.moves.Fate.Fate, declared.moves.Move.Move}
+use Rattle.hd_heap.specs.{Calls.is_condemned, declared.moves.Fate.Fate, declared.moves.Move.Move}
 use Rattle.hd_heap.specs.Moves.{is_kept_fate, is_moving, is_staying, move_at}
 use Rattle.hd_plan.specs.{declared.moves.Condemned.Condemned, declared.cursors.AllocCursor.AllocCursor, declared.cursors.AllocCursors.AllocCursors}
 use Rattle.hd_heap.specs.declared.moves.Fate.TheVariants.{Dead, Pinned, MovesToNewRegion, Moves}
@@ -142,17 +141,21 @@ is_kept_by (Some m) = is_kept_fate m.fate
 abbrev pub IsRising : List Move → Type 0
 IsRising ms = (j k : ℕ) → j < k → k < length ms → (move_at ms j).from.0 < (move_at ms k).from.0
 
--- one move for each condemned object, in rising address, with the generation to which it is promoted and the
+-- one move for each of these objects, in rising address, with the generation to which it is promoted and the
 -- number of its fields; each goes where the room allows it
-pub record AreMoves (h : Heap) (n : ℕ) (ms : List Move) : Type 0 where
-  pub condemned : (k : ℕ) → k < length ms → is_condemned h n (move_at ms k).from ≡ true
+pub record AreMovesOf (These : Addr → Type 0) (h : Heap) (n : ℕ) (ms : List Move) : Type 0 where
+  pub condemned : (k : ℕ) → k < length ms → These (move_at ms k).from
   pub rising : IsRising ms
-  pub all : (a : Addr) → is_condemned h n a ≡ true → (k : ℕ) × ((k < length ms) × ((move_at ms k).from ≡ a))
+  pub all : (a : Addr) → These a → (k : ℕ) × ((k < length ms) × ((move_at ms k).from ≡ a))
   pub generations : (k : ℕ) → k < length ms
       → (move_at ms k).generation ≡ raised n (generation_at (object_at h) (move_at ms k).from)
   pub fields : (k : ℕ) → k < length ms
       → (move_at ms k).fields ≡ length (placed_at h (move_at ms k).from).fields
   pub fits : (k : ℕ) → k < length ms → FitsMove h (room_at h ms k) (move_at ms k)
+
+-- one for each condemned object
+abbrev pub AreMoves : Heap → ℕ → List Move → Type 0
+AreMoves h n ms = AreMovesOf (λ a. is_condemned h n a ≡ true) h n ms
 
 -- an object of a region stays where it is
 pub record HasStay (ms : List Move) (r : ℕ) : Type 0 where
@@ -166,18 +169,22 @@ pub record IsCondemnedRegion (h : Heap) (n r : ℕ) : Type 0 where
   pub held : is_in_use h r ≡ true
   pub young : region_generation h r ≤ n
 
--- the condemned regions in rising number, with the generation that each gets if it stays: exactly those stay
--- in which an object does
-pub record AreRegions (h : Heap) (n : ℕ) (ms : List Move) (cs : List Condemned) : Type 0 where
-  pub condemned : (k : ℕ) → k < length cs → IsCondemnedRegion h n (condemned_at cs k).region
+-- these regions in rising number, with the generation that each gets if it stays: exactly those stay in which
+-- an object does
+pub record AreRegionsOf (These : ℕ → Type 0) (h : Heap) (n : ℕ) (ms : List Move)
+    (cs : List Condemned) : Type 0 where
+  pub condemned : (k : ℕ) → k < length cs → These (condemned_at cs k).region
   pub rising : (j k : ℕ) → j < k → k < length cs → (condemned_at cs j).region < (condemned_at cs k).region
-  pub all : (r : ℕ) → IsCondemnedRegion h n r → (k : ℕ) × ((k < length cs) × ((condemned_at cs k).region ≡ r))
+  pub all : (r : ℕ) → These r → (k : ℕ) × ((k < length cs) × ((condemned_at cs k).region ≡ r))
   pub generations : (k : ℕ) → k < length cs
       → (condemned_at cs k).generation ≡ raised n (region_generation h (condemned_at cs k).region)
   pub pinned : (k : ℕ) → k < length cs
       → ((condemned_at cs k).pinned ≡ true) ↔ HasStay ms (condemned_at cs k).region
 
+-- the condemned regions
+abbrev pub AreRegions : Heap → ℕ → List Move → List Condemned → Type 0
+AreRegions h n ms cs = AreRegionsOf (IsCondemnedRegion h n) h n ms cs
+
 -- how many of these moves leave a kept object in place
-unfoldable pub stays_among : List Move → ℕ
-stays_among [] = 0
-stays_among (m ∷ ms) = cond (is_staying m.fate) 1 0 + stays_among ms
+abbrev pub stays_among : List Move → ℕ
+stays_among ms = count_by (λ m. is_staying m.fate) ms

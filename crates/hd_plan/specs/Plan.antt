@@ -1,12 +1,9 @@
 -- The value of a plan, what it keeps and where, and what a laid one states.
 use Rattle.std.specs.Prelude.{◌≡◌, ℕ, ◌+◌, ◌/◌, ◌^◌, ◌<◌, ◌≤◌, ◌||◌, Bool, true, List, [], length, max, nat_lt, sum_by, AllPairs, Contains, ◌≢◌, refl}
 use Rattle.std.specs.Coded.{Coded, code_by, coded×, coded_list}
-use Rattle.hd_model.specs.{declared.data.Addr.Addr, Code.basis_code, Leads.IsClosed, Marking.IsKeeping}
-use Rattle.hd_model.specs.declared.limits.TheConstants.{OLDEST, LEFT, OPEN}
-use Rattle.hd_model.specs.Scene.{generation_at, IsField, IsCondemned}
+use Rattle.hd_model.specs.{declared.data.Addr.Addr, Code.basis_code, Leads.IsClosed, Marking.IsKeeping, declared.limits.TheConstants.OLDEST, declared.limits.TheConstants.LEFT, declared.limits.TheConstants.OPEN, Scene.generation_at, Scene.IsField, Scene.IsCondemned}
 use Rattle.hd_model.specs.Heap.{Heap, Basis, objects_of, object_at, placed_at, cells_of, is_in_use, region_of, has_object}
-use Rattle.hd_heap.specs.Sound.{IsSound}
-use Rattle.hd_heap.specs.declared.moves.Move.{Move}
+use Rattle.hd_heap.specs.{Sound.IsSound, declared.moves.Move.Move}
 use Rattle.hd_plan.specs.declared.moves.Condemned.{Condemned}
 use Rattle.hd_heap.specs.contracts.moves.Move as move_contract
 use Rattle.hd_plan.specs.contracts.moves.Condemned as condemned_contract

@@ -2,11 +2,9 @@
 ghost use Rattle.std.specs.Prelude.{◌≡◌, ◌≢◌, ◌+◌, ◌*◌, ◌/◌, ◌<◌, ◌≤◌, ◌↔◌, ℕ, Bool, true, false, length};
 ghost use Rattle.hd_model.specs.{Names.HasClosedFields, Ages.HasSoundCards, Scene.generation_at};
 ghost use Rattle.hd_model.specs.Heap.{has_object, object_at, card_of, is_set, is_carded};
-ghost use Rattle.hd_heap.specs.{Calls.IsWalk, Calls.with_card, Sound.IsSound};
-ghost use Rattle.hd_heap.specs.Moves.{is_kept_fate, may_card, move_at};
+ghost use Rattle.hd_heap.specs.{Calls.IsWalk, Calls.with_card, Sound.IsSound, Moves.is_kept_fate, Moves.may_card, Moves.move_at};
 ghost use Rattle.hd_plan.specs.Commit.{NeedsCard};
-ghost use Rattle.hd_plan.specs.CommitSteps.{AreAlike, AreCarded, IsKeptAt, MayCard};
-ghost use Rattle.hd_plan.specs.CommitSteps.{NamesYounger, starts_in};
+ghost use Rattle.hd_plan.specs.CommitSteps.{AreAlike, AreCarded, IsKeptAt, MayCard, NamesYounger, starts_in};
 
 use crate::moves::{Condemned, Move};
 use hd_heap::Heap;
@@ -99,6 +97,7 @@ fn make_exact(heap: &mut Heap, first: Addr) -> bool
 }
 
 // The last word of the card in which an address is.
+#[tactic(auto, unfolding(hd_model::specs::Heap::card_of))]
 fn last_cell(at: Addr) -> Addr
     ensures { result.0 + 1 ≡ (card_of at + 1) * CARD }
 {

@@ -1,9 +1,5 @@
 ghost use Rattle.std.specs.Prelude.{◌≡◌, ◌≤◌, true, IfOk};
-ghost use Rattle.hd_model.specs.Ages.{HasSoundCards};
-ghost use Rattle.hd_model.specs.Heap.{has_object, object_at, is_carded};
-ghost use Rattle.hd_model.specs.Leads.{IsClosed};
-ghost use Rattle.hd_model.specs.Names.{HasClosedFields};
-ghost use Rattle.hd_model.specs.Scene.{IsField, generation_at};
+ghost use Rattle.hd_model.specs.{Ages.HasSoundCards, Heap.has_object, Heap.object_at, Heap.is_carded, Leads.IsClosed, Names.HasClosedFields, Scene.IsField, Scene.generation_at};
 ghost use Rattle.hd_mark.specs.Marks.{IsSettledMarks, promoted_in};
 ghost use Rattle.hd_plan.specs.Plan.{IsTakenPlan, IsLaid, HasNoEmptyRegion};
 

@@ -1,10 +1,8 @@
 ghost use Rattle.std.specs.Prelude.{◌≡◌, ℕ, ◌+◌, ◌<◌, ◌≤◌, true};
-ghost use Rattle.hd_heap.specs.Sound.{IsSound};
-ghost use Rattle.hd_plan.specs.LaySteps.{CanPutAt, with_cursor_at};
+ghost use Rattle.hd_heap.specs.{Sound.IsSound, Moves.is_moving};
+ghost use Rattle.hd_plan.specs.{LaySteps.CanPutAt, LaySteps.with_cursor_at, declared.cursors.AllocCursors.AllocCursors as CursorsValue};
 ghost use Rattle.hd_plan.specs.Layout.{cursor_of, with_cursor, put_cursors, Fits};
 ghost use Rattle.hd_model.specs.declared.data.Addr.{Addr as AddrValue};
-ghost use Rattle.hd_plan.specs.declared.cursors.AllocCursors.{AllocCursors as CursorsValue};
-ghost use Rattle.hd_heap.specs.Moves.{is_moving};
 
 use crate::moves::Fate;
 use hd_heap::Heap;

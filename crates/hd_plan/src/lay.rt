@@ -1,14 +1,10 @@
 ghost use Rattle.std.specs.Prelude.{◌≡◌, ◌+◌, ◌*◌, ◌<◌, ◌≤◌, [], true, length, vec_capacity};
-ghost use Rattle.hd_model.specs.{Ages.raised, Counting.Counts, Leads.IsClosed, Scene.IsField, Scene.IsCondemned, Scene.generation_at};
+ghost use Rattle.hd_model.specs.{Ages.raised, Counting.Counts, Leads.IsClosed, Scene.IsField, Scene.IsCondemned, Scene.generation_at, declared.limits.TheConstants.REGION, declared.limits.TheConstants.REGIONS};
 ghost use Rattle.hd_model.specs.Heap.{object_at, objects_of, placed_at, region_generation, region_of};
 ghost use Rattle.hd_heap.specs.{Calls.HasCondemned, Calls.is_condemned, Sound.IsSound};
-ghost use Rattle.hd_model.specs.declared.limits.TheConstants.{REGION, REGIONS};
-ghost use Rattle.hd_plan.specs.declared.cursors.AllocCursors.{AllocCursors as CursorsValue};
-ghost use Rattle.hd_plan.specs.Layout.{IsCondemnedRegion, cursor_of, room_at};
-ghost use Rattle.hd_plan.specs.LaySteps.{AreLaidIn, CanPutAt, HasLayRoom, HasMoveRoom, HasPlaces};
-ghost use Rattle.hd_plan.specs.LaySteps.{IsLaidTo, IsLaying, IsMoveOf, with_cursor_at};
-ghost use Rattle.hd_plan.specs.Plan.{IsTakenPlan, IsLaid, HasFreeRegions, HasNoEmptyCondemned};
-ghost use Rattle.hd_plan.specs.Plan.{kept_in, place_in, stays_in};
+ghost use Rattle.hd_plan.specs.{declared.cursors.AllocCursors.AllocCursors as CursorsValue, Layout.IsCondemnedRegion, Layout.cursor_of, Layout.room_at};
+ghost use Rattle.hd_plan.specs.LaySteps.{AreLaidIn, CanPutAt, HasLayRoom, HasMoveRoom, HasPlaces, IsLaidTo, IsLaying, IsMoveOf, with_cursor_at};
+ghost use Rattle.hd_plan.specs.Plan.{IsTakenPlan, IsLaid, HasFreeRegions, HasNoEmptyCondemned, kept_in, place_in, stays_in};
 
 use crate::cursors::{AllocCursor, AllocCursors};
 use crate::moves::{Condemned, Fate, Move};
@@ -196,8 +192,8 @@ fn lay_object<M: Marker>(
     ensures from { result.from ≡ object.at }
     ensures generation { result.generation ≡ generation }
     ensures laid { (s : CursorsValue) → cursor_of s generation ≡ cursor.old → s.opened ≡ opened.old
-        → IsMoveOf heap.now (M.basis marker.now).condemned (M.promoted marker.now object.at)
-        (M.pinned marker.now object.at) s (with_cursor_at s generation cursor.new opened.new)
+        → IsMoveOf heap.now (M.basis marker.now).condemned (M.promoted marker.now result.from)
+        (M.pinned marker.now result.from) s (with_cursor_at s generation cursor.new opened.new)
         result }
 {
     let from = object.at;

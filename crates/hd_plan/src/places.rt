@@ -1,8 +1,6 @@
-ghost use Rattle.std.specs.Prelude.{◌≡◌, ◌+◌, ◌*◌, ◌^◌, ◌<◌, ◌≤◌};
-ghost use Rattle.std.specs.Prelude.{length, replicate, slice_set, IfOk};
+ghost use Rattle.std.specs.Prelude.{◌≡◌, ◌+◌, ◌*◌, ◌^◌, ◌<◌, ◌≤◌, length, replicate, slice_set, IfOk};
 ghost use Rattle.hd_model.specs.Heap.{region_of};
-ghost use Rattle.hd_plan.specs.LaySteps.{first_at};
-ghost use Rattle.hd_plan.specs.LaySteps.{place_among, spot_in};
+ghost use Rattle.hd_plan.specs.LaySteps.{first_at, place_among, spot_in};
 
 use hd_model::limits::REGION;
 use hd_model::{Addr, Memory};
@@ -19,6 +17,7 @@ pub(crate) struct Places {
 }
 
 /// The region index of an address.
+#[tactic(auto, unfolding(hd_model::specs::Heap::region_of))]
 pub(crate) fn region_number(at: Addr) -> u32
     ensures { result ≡ region_of at }
 {

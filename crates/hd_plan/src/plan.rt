@@ -1,9 +1,7 @@
 ghost use Rattle.std.specs.Prelude.{◌≡◌, ◌^◌, ◌<◌, ◌≤◌, true, false, length, take, count_by, IfOk, MatchResult};
 ghost use Rattle.hd_model.specs.{Counting.Counts, Scene.is_object, Scene.IsCondemned, Heap.objects_of};
-ghost use Rattle.hd_heap.specs.Moves.{is_kept_fate};
-ghost use Rattle.hd_plan.specs.Plan.{SparesNeeded, SparesAtMost};
-ghost use Rattle.hd_heap.specs.Calls.{IsExtent};
-ghost use Rattle.hd_plan.specs.Plan.{IsTakenPlan, IsLaid, kept_in, place_in, HasFreeRegions};
+ghost use Rattle.hd_heap.specs.{Moves.is_kept_fate, Calls.IsExtent};
+ghost use Rattle.hd_plan.specs.Plan.{SparesNeeded, SparesAtMost, IsTakenPlan, IsLaid, kept_in, place_in, HasFreeRegions};
 
 use crate::extent::extent;
 use crate::moves::{Condemned, Move};

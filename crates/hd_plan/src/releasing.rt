@@ -1,11 +1,8 @@
 // What is not kept is removed, and regions without objects are freed.
 ghost use Rattle.std.specs.Prelude.{◌≡◌, ◌<◌, ◌≤◌, ℕ, true, false, length};
 ghost use Rattle.hd_model.specs.Heap.{has_object, is_in_use, region_of};
-ghost use Rattle.hd_heap.specs.Moves.{move_at, is_staying};
-ghost use Rattle.hd_plan.specs.Layout.{condemned_at, IsRising};
-ghost use Rattle.hd_plan.specs.LaySteps.{first_at};
-ghost use Rattle.hd_plan.specs.CommitSteps.{AreRemovedIn, AreGivenUp, is_pinned};
-ghost use Rattle.hd_heap.specs.Calls.{IsRemoved, with_generation, without_region};
+ghost use Rattle.hd_heap.specs.{Moves.move_at, Moves.is_staying, Calls.IsRemoved, Calls.with_generation, Calls.without_region};
+ghost use Rattle.hd_plan.specs.{Layout.condemned_at, Layout.IsRising, LaySteps.first_at, CommitSteps.AreRemovedIn, CommitSteps.AreGivenUp, CommitSteps.is_pinned};
 
 use crate::moves::{Condemned, Move};
 use crate::places::{Places, region_number};

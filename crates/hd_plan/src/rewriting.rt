@@ -1,10 +1,8 @@
 // The fields of what stays in place come to hold the new addresses.
 ghost use Rattle.std.specs.Prelude.{◌≡◌, ◌≢◌, ◌<◌, ℕ, true, length};
 ghost use Rattle.hd_model.specs.Heap.{has_object};
-ghost use Rattle.hd_heap.specs.Calls.{is_old_carded};
-ghost use Rattle.hd_heap.specs.Moves.{move_at, is_staying};
-ghost use Rattle.hd_plan.specs.Layout.{condemned_at, IsRising};
-ghost use Rattle.hd_plan.specs.CommitSteps.{AreRewritten, HasKeptFields, IsStayedAt};
+ghost use Rattle.hd_heap.specs.{Calls.is_old_carded, Moves.move_at, Moves.is_staying};
+ghost use Rattle.hd_plan.specs.{Layout.condemned_at, Layout.IsRising, CommitSteps.AreRewritten, CommitSteps.HasKeptFields, CommitSteps.IsStayedAt};
 
 use crate::moves::{Condemned, Move};
 use crate::releasing::has_pinned;

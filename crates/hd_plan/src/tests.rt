@@ -1,7 +1,5 @@
 ghost use Rattle.std.specs.Prelude.{◌≡◌, ◌≤◌, true, IfOk};
-ghost use Rattle.hd_model.specs.Heap.{has_object, object_at};
-ghost use Rattle.hd_model.specs.Names.{HasClosedFields};
-ghost use Rattle.hd_model.specs.Scene.{IsField};
+ghost use Rattle.hd_model.specs.{Heap.has_object, Heap.object_at, Names.HasClosedFields, Scene.IsField};
 ghost use Rattle.hd_mark.specs.Marks.{IsSettledMarks};
 ghost use Rattle.hd_plan.specs.Plan.{IsTakenPlan, IsLaid, HasNoEmptyRegion};
 

@@ -96,13 +96,9 @@ fn next(heap: &Heap, after: Addr) -> Option<Addr> {
     heap.next(Some(after))
 }
 
-// The next object in a set card that is older than `n`, and the next one that is not older.
+// The next object in a set card that is older than `n`.
 fn carded(heap: &Heap, after: Option<Addr>, n: u8) -> Option<Addr> {
     heap.next_carded(after, n)
-}
-
-fn condemned(heap: &Heap, after: Option<Addr>, n: u8) -> Option<Addr> {
-    heap.next_condemned(after, n)
 }
 
 // Writes the value of an object.
@@ -219,12 +215,21 @@ fn a_walk_of_condemned_objects_passes_an_older_region(rt: HostRuntime) -> Result
     age(&rt, &mut heap, old);
     make(&rt, &mut heap, &[(6, 0, false, 768)])?;
 
-    same(&rt, condemned(&heap, None, 0), Some(Addr(256)));
-    same(&rt, condemned(&heap, Some(Addr(256)), 0), Some(Addr(320)));
+    same(&rt, next_region(&heap, 0, 0), Some(1));
+    let first = header(256, 61, false);
+    let second = header(320, 61, true);
+    let third = header(384, 61, false);
+    same(
+        &rt,
+        headers_at(&rt, &heap, Addr(256)),
+        [first, second, third],
+    );
     for (n, next) in [(0, last), (1, old), (2, old)] {
-        same(&rt, condemned(&heap, Some(Addr(448)), n), Some(next));
+        same(&rt, next_region(&heap, 1, n), Some(next.0 / REGION));
+        let alone = [header(next.0, 0, false), None, None];
+        same(&rt, headers_at(&rt, &heap, next), alone);
     }
-    same(&rt, condemned(&heap, Some(last), 2), None);
+    same(&rt, next_region(&heap, 3, 2), None);
     Ok(())
 }
 

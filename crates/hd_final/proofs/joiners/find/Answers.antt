@@ -3,7 +3,9 @@ use Rattle.hd_final.proofs.JoinerFind.{end_of, finding_past, finding_start, foun
 use Rattle.hd_final.proofs.joiners.find.Goals as goal
 
 pub find_in_region-requires-clause-held : goal.find_in_region-requires-clause-held
-find_in_region-requires-clause-held g c = (next_held c.args.heap.now c.args.n c.in-Some.ensures.sound c.loop-region.after c.in-Some.region c.in-Some.ensures.walk).0
+find_in_region-requires-clause-held g c =
+    (next_held c.args.heap.now c.args.n c.in-Some.ensures.sound c.loop-region.after c.in-Some.region
+    c.in-Some.ensures.walk).0
 
 pub find_in_region-requires-clause-young : goal.find_in_region-requires-clause-young
 find_in_region-requires-clause-young g c =
@@ -26,7 +28,8 @@ find_in_region-requires-clause-so_far g c =
 pub loop-region-init : goal.loop-region-init
 loop-region-init g c = record {
   finding = subst (IsFinding c.args.heap.now c.args.n (g.M.Marker.promoted c.args.marker.now) 0)
-      (sym c.clear.ensures.items) (finding_start c.args.heap.now c.args.n (g.M.Marker.promoted c.args.marker.now));
+      (sym c.clear.ensures.items)
+      (finding_start c.args.heap.now c.args.n (g.M.Marker.promoted c.args.marker.now));
   capacity = c.clear.ensures.capacity;
 }
 
@@ -35,7 +38,8 @@ loop-region-preserved g c =
     let h = c.args.heap.now in
     let p = g.M.Marker.promoted c.args.marker.now in
     let known : IsFinding h c.args.n p ((c.in-Some.region + 1) * REGION) c.find_in_region.new.joiners.items =
-    subst (λ (b : Basis). IsFinding h b.condemned p ((c.in-Some.region + 1) * REGION) c.find_in_region.new.joiners.items)
+    subst (λ (b : Basis). IsFinding h b.condemned p ((c.in-Some.region + 1) * REGION)
+    c.find_in_region.new.joiners.items)
     c.requires.basis c.find_in_region.ensures.finding in
     let beyond = c.in-Some.ensures.walk.beyond in
     record {
@@ -46,7 +50,8 @@ loop-region-preserved g c =
 
 pub loop-region-smaller : goal.loop-region-smaller
 loop-region-smaller g c =
-    let held = (next_held c.args.heap.now c.args.n c.in-Some.ensures.sound c.loop-region.after c.in-Some.region
+    let held =
+    (next_held c.args.heap.now c.args.n c.in-Some.ensures.sound c.loop-region.after c.in-Some.region
     c.in-Some.ensures.walk).0 in
     let high = (c.in-Some.ensures.sound.numbers c.in-Some.region held).1 in
     let beyond = c.in-Some.ensures.walk.beyond in
@@ -55,4 +60,5 @@ loop-region-smaller g c =
 pub returns-clause-found : goal.returns-clause-found
 returns-clause-found g c =
     found_all c.args.heap.now c.args.n (g.M.Marker.promoted c.args.marker.now) c.loop-region.invariant.finding
-    (none_later c.args.heap.now c.args.n c.in_default.ensures.sound c.loop-region.after c.in_default.ensures.walk)
+    (none_later c.args.heap.now c.args.n c.in_default.ensures.sound c.loop-region.after
+    c.in_default.ensures.walk)

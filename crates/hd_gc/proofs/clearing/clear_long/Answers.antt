@@ -1,5 +1,4 @@
-use Rattle.std.proofs.Common.{subst}
-use Rattle.hd_gc.specs.Clearing.{Clears}
+use Rattle.hd_gc.proofs.Basics.{Clears, subst}
 use Rattle.hd_gc.proofs.ClearTasks.{roles_covered}
 use Rattle.hd_gc.proofs.clearing.clear_long.Goals as goal
 

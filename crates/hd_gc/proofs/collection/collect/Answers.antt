@@ -1,6 +1,6 @@
 use Rattle.hd_gc.proofs.Basics.{Basis, Counts, IsCondemned, arith, kept_in, objects_of, subst, sym, true, ◌≡◌}
 use Rattle.hd_gc.proofs.{FreeRegions.ready_spared, FreeRegions.collected_spared, CollectedScene.collected}
-use Rattle.hd_gc.proofs.KeptScene.{rows_kept, queued_kept, queued_objects, roots_kept}
+use Rattle.hd_gc.proofs.KeptScene.{may_relocate}
 use Rattle.hd_gc.proofs.collection.collect.Goals as goal
 
 pub mark_and_clear-requires-clause-ready : goal.mark_and_clear-requires-clause-ready
@@ -18,28 +18,9 @@ report-report-requires-clause-kept g c =
     subst (λ (b : Basis). Counts (λ x. IsCondemned (objects_of b) b.condemned x
     × (kept_in c.mark_and_clear.new.plan x ≡ true)) c.in_ok-found.found.kept) (sym found.basis) found.kept
 
-pub relocate_all-requires-clause-cards : goal.relocate_all-requires-clause-cards
-relocate_all-requires-clause-cards g c =
-    (ready_spared c.take.ensures.same c.requires.ready).cards_sound
-
-pub relocate_all-requires-clause-rows : goal.relocate_all-requires-clause-rows
-relocate_all-requires-clause-rows g c =
-    rows_kept (ready_spared c.take.ensures.same c.requires.ready) c.in_ok-found.ensures.found
-    c.report-report.ensures
-
-pub relocate_all-requires-clause-queued : goal.relocate_all-requires-clause-queued
-relocate_all-requires-clause-queued g c =
-    queued_kept (ready_spared c.take.ensures.same c.requires.ready) c.in_ok-found.ensures.found
-    c.report-report.ensures
-
-pub relocate_all-requires-clause-objects : goal.relocate_all-requires-clause-objects
-relocate_all-requires-clause-objects g c =
-    queued_objects (ready_spared c.take.ensures.same c.requires.ready) c.in_ok-found.ensures.found
-    c.report-report.ensures
-
-pub relocate_all-requires-clause-roots : goal.relocate_all-requires-clause-roots
-relocate_all-requires-clause-roots g c =
-    roots_kept (ready_spared c.take.ensures.same c.requires.ready) c.in_ok-found.ensures.found
+pub relocate_all-requires : goal.relocate_all-requires
+relocate_all-requires g c =
+    may_relocate (ready_spared c.take.ensures.same c.requires.ready) c.in_ok-found.ensures.found
     c.report-report.ensures
 
 pub returns : goal.returns

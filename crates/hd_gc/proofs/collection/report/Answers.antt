@@ -1,5 +1,4 @@
-use Rattle.std.proofs.lemmas.Bool.{lt-ltb}
-use Rattle.hd_gc.proofs.Basics.{generation_at, kept_in, objects_of, or_left, refl}
+use Rattle.hd_gc.proofs.Basics.{generation_at, kept_in, lt-ltb, objects_of, or_left, refl}
 use Rattle.hd_gc.proofs.ReportCounts.{kept_few, removed_rest}
 use Rattle.hd_gc.proofs.collection.report.Goals as goal
 

@@ -1,6 +1,6 @@
-use Rattle.hd_gc.proofs.Basics.{Basis, arith, IsClosed, IsExtent, IsField, due_again, objects_of, promoted_in, refl, subst, sym, ◌∙◌}
+use Rattle.hd_gc.proofs.Basics.{Basis, IsClosed, IsExtent, IsField, arith, due_again, objects_of, promoted_in, refl, subst, sym, ◌∙◌}
 use Rattle.hd_gc.proofs.ClearedRows.{ready_due}
-use Rattle.hd_gc.proofs.MarkAndClearPhases.{due2, edges2, room2, fields2, log_counts, queued2, due4, closed4, marked_and_cleared}
+use Rattle.hd_gc.proofs.MarkAndClearPhases.{due2, may_revive, log_counts, due4, closed4, marked_and_cleared}
 use Rattle.hd_gc.proofs.ReportCounts.{counted_few}
 use Rattle.hd_gc.proofs.mark_and_clear.mark_and_clear.Goals as goal
 
@@ -12,26 +12,10 @@ pub clear_short-short-requires-clause-due : goal.clear_short-short-requires-clau
 clear_short-short-requires-clause-due g c =
     due_again c.trace.ensures.traced.basis refl (ready_due c.requires.ready c.args.n)
 
-pub revive-revived-requires-clause-due : goal.revive-revived-requires-clause-due
-revive-revived-requires-clause-due g c =
-    due2 c.requires.ready c.trace.ensures.traced c.clear_short-short.ensures.clears
-
-pub revive-revived-requires-clause-handles : goal.revive-revived-requires-clause-handles
-revive-revived-requires-clause-handles g c =
-    room2 c.requires.ready c.trace.ensures.traced c.clear_short-short.ensures.clears
+pub revive-revived-requires : goal.revive-revived-requires
+revive-revived-requires g c =
+    may_revive c.requires.ready c.trace.ensures.traced c.clear_short-short.ensures.clears
     c.in_ok-index.ensures c.trace.ensures.handles
-
-pub revive-revived-requires-clause-fields : goal.revive-revived-requires-clause-fields
-revive-revived-requires-clause-fields g c =
-    fields2 c.requires.ready c.trace.ensures.traced c.clear_short-short.ensures.clears
-
-pub revive-revived-requires-clause-edges : goal.revive-revived-requires-clause-edges
-revive-revived-requires-clause-edges g c =
-    edges2 c.requires.ready c.trace.ensures.traced c.clear_short-short.ensures.clears
-
-pub revive-revived-requires-clause-queued : goal.revive-revived-requires-clause-queued
-revive-revived-requires-clause-queued g c =
-    queued2 c.requires.ready c.trace.ensures.traced c.clear_short-short.ensures.clears
 
 pub clear_long-long-requires-clause-due : goal.clear_long-long-requires-clause-due
 clear_long-long-requires-clause-due g c =

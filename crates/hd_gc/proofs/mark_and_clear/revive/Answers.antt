@@ -4,10 +4,8 @@ use Rattle.hd_gc.proofs.mark_and_clear.revive.Goals as goal
 
 pub follow-requires-clause-fields : goal.follow-requires-clause-fields
 follow-requires-clause-fields g c =
-    still_closed c.args.heap.now c.args.n c.args.marks.now c.revive-revived.new.marker c.requires.basis
-    (c.revive-revived.ensures.basis ∙ c.requires.basis) c.requires.settled
-    c.revive-revived.ensures.settled
-    c.requires.cards c.requires.fields c.revive-revived.ensures.resurrects.grows.keeps
+    still_closed c.requires c.revive-revived.ensures.basis c.revive-revived.ensures.settled
+    c.revive-revived.ensures.resurrects.grows.keeps
 
 pub returns-clause-resurrected : goal.returns-clause-resurrected
 returns-clause-resurrected g c =
@@ -27,12 +25,12 @@ returns-clause-resurrected g c =
     }
 
 -- nothing is resurrected
-pub returns-then-revived-eq0-clause-resurrected : goal.returns-then-revived-eq0-clause-resurrected
-returns-then-revived-eq0-clause-resurrected g c =
+pub returns-then-nobody-clause-resurrected : goal.returns-then-nobody-clause-resurrected
+returns-then-nobody-clause-resurrected g c =
     let s : Scene Addr = scene_of (parts c.args.heap.now c.args.seg.now c.args.ages.now c.args.fin.now []) in
-    let zero : c.revive-revived.result ≡ 0 = omega (arith, c.if-revived-eq0.true) in
-    let none : Counts (IsOut s.object c.args.n (promoted_in c.args.marks.now)) 0 =
-    subst (Counts (IsOut s.object c.args.n (promoted_in c.args.marks.now))) zero c.revive-revived.ensures.count in
+    let zero : c.revive-revived.result ≡ 0 = omega (arith, c.if-nobody.true) in
+    let none = subst (Counts (IsOut s.object c.args.n (promoted_in c.args.marks.now))) zero
+    c.revive-revived.ensures.count in
     record {
       settled = c.revive-revived.ensures.settled;
       basis = c.revive-revived.ensures.basis;

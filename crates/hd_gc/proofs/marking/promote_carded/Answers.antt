@@ -7,11 +7,10 @@ promote_fields-requires-clause-objects c = λ y f. c.requires.objects c.in-Some.
 
 pub loop-at-preserved : goal.loop-at-preserved
 loop-at-preserved c =
-    carded_next c.args.heap.now c.args.n c.args.marks.now c.loop-at.after c.loop-at.marks c.loop-at.invariant
-    c.in-Some.at c.promote_fields.new.marks c.in-Some.ensures.walk c.promote_fields.ensures
+    carded_next c.loop-at.invariant c.in-Some.ensures.walk c.promote_fields.ensures
 
 pub returns : goal.returns
 returns c =
-    carded_all c.args.heap.now c.args.n c.args.marks.now c.loop-at.after c.loop-at.marks c.loop-at.invariant
+    carded_all c.loop-at.invariant
     (subst (IsWalk (is_old_carded c.args.heap.now c.args.n) c.loop-at.after) c.in_default.is
     c.next_carded.ensures.walk)

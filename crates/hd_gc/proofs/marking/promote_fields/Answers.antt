@@ -1,9 +1,4 @@
-use Rattle.std.proofs.Common.{◌≡◌, true, Some, None, ◌∙◌, sym, subst, ap, arith}
-use Rattle.std.specs.Prelude.{Contains}
-use Rattle.std.proofs.lemmas.List.Elements.{Contains-get_or}
-use Rattle.hd_model.specs.Heap.{Heap, Basis, object_at, has_object}
-use Rattle.hd_model.specs.Scene.{fields_at}
-use Rattle.hd_gc.specs.Growing.{Promotes}
+use Rattle.hd_gc.proofs.Basics.{Basis, Contains, Contains-get_or, Heap, None, Promotes, Some, ap, arith, fields_at, has_object, object_at, subst, sym, true, ◌∙◌, ◌≡◌}
 use Rattle.hd_gc.proofs.PromoteSteps.{promoted_next, promoted_all}
 use Rattle.hd_gc.proofs.marking.promote_fields.Goals as goal
 

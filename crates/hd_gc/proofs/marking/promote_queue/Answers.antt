@@ -1,11 +1,11 @@
-use Rattle.hd_gc.proofs.Basics.{Addr, Basis, Contains, Contains-get_or, arith, get_or, is_object, objects_of, subst, sym, take, true, ◌∙◌, ◌≡◌}
-use Rattle.hd_gc.proofs.PromoteSteps.{promotes_none, promotes_like, promoted_next, promoted_all, none_taken}
+use Rattle.hd_gc.proofs.Basics.{Addr, Basis, Contains, Contains-get_or, arith, get_or, is_object, not_in_none, objects_of, subst, sym, take, true, ◌∙◌, ◌≡◌}
+use Rattle.hd_gc.proofs.PromoteSteps.{promotes_none, promotes_like, promoted_next, promoted_all}
 use Rattle.hd_gc.proofs.marking.promote_queue.Goals as goal
 
 pub loop-i-init : goal.loop-i-init
 loop-i-init c =
     promotes_none (λ x. Contains (take 0 c.args.fin.now.queued) x) c.args.marks.now c.requires.settled
-    (λ x. none_taken c.args.fin.now.queued x)
+    (λ x. not_in_none x)
 
 pub at-requires : goal.at-requires
 at-requires c = omega (arith, c.len-i-end.ensures.value)

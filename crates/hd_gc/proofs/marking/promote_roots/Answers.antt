@@ -1,8 +1,4 @@
-use Rattle.std.proofs.Common.{◌≡◌, true, Some, None, sym, subst, arith}
-use Rattle.std.specs.Prelude.{Contains}
-use Rattle.std.proofs.lemmas.List.Elements.{Contains-get_or}
-use Rattle.hd_model.specs.Heap.{Basis, objects_of}
-use Rattle.hd_model.specs.Scene.{is_object}
+use Rattle.hd_gc.proofs.Basics.{Basis, Contains, Contains-get_or, None, Some, arith, is_object, objects_of, subst, sym, true, ◌≡◌}
 use Rattle.hd_gc.proofs.PromoteSteps.{promoted_next, promoted_all}
 use Rattle.hd_gc.proofs.marking.promote_roots.Goals as goal
 

@@ -1,17 +1,14 @@
-use Rattle.hd_gc.proofs.Basics.{Heap, IsSameShape, drop, subst, sym}
+use Rattle.hd_gc.proofs.Basics.{Heap, IsSameShape, subst, sym}
 use Rattle.hd_gc.proofs.LostRegistrations.{same_shape, same_cards}
 use Rattle.hd_gc.proofs.moving.relocate_all.Goals as goal
 
 pub commit-requires-clause-same : goal.commit-requires-clause-same
 commit-requires-clause-same g c =
     subst (λ (k : Heap). IsSameShape k c.settle.new.heap) (sym c.requires.heap)
-    (same_shape (drop c.args.joined c.args.fin.now.queued) c.args.heap.now c.settle.new.heap
-    c.settle.ensures)
+    (same_shape c.settle.ensures)
 
 pub commit-requires-clause-cards : goal.commit-requires-clause-cards
-commit-requires-clause-cards g c =
-    same_cards (drop c.args.joined c.args.fin.now.queued) c.args.heap.now c.settle.new.heap c.settle.ensures
-    c.requires.cards
+commit-requires-clause-cards g c = same_cards c.settle.ensures c.requires.cards
 
 pub returns-clause-relocated_all : goal.returns-clause-relocated_all
 returns-clause-relocated_all g c = record {

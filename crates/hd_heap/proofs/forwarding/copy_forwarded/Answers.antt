@@ -1,30 +1,28 @@
-use Rattle.hd_heap.proofs.Basics.{HEADER, MayForward, Object, ap, length, length-map, object_at, region_forwarded, stored_place, subst, sym, with_object, ◌+◌, ◌∙◌}
-use Rattle.hd_model.specs.Heap.{offset_of}
-use Rattle.hd_heap.proofs.FieldForward.{puts_object, placed_there, placed_is}
+use Rattle.hd_heap.proofs.Basics.{HEADER, MayForward, Object, ap, length, length-map, object_at, offset_of, region_forwarded, region_with_object, stored_place, subst, sym, ◌+◌, ◌∙◌}
+use Rattle.hd_heap.proofs.FieldForward.{put_again, put_placed}
 use Rattle.hd_heap.proofs.forwarding.copy_forwarded.Goals as goal
 
 pub forward_fields-requires : goal.forward_fields-requires
 forward_fields-requires g c =
-    let placing = puts_object c.args.region.now c.put_copy-at.result c.put_copy-at.ensures.offset in
     let o = object_at c.args.source.now (offset_of c.args.from) in
+    let (there, same) = put_placed c.args.region.now c.put_copy-at.new.self c.put_copy-at.result o
+    c.put_copy-at.ensures.offset c.put_copy-at.ensures.put in
     record {
       laid_out = c.put_copy-at.ensures.laid_out;
-      object = placed_there placing c.put_copy-at.new.self o c.put_copy-at.ensures.put;
-      number = c.fields-fields.ensures.count ∙ ap (λ (x : Object). length x.fields)
-          (sym (placed_is placing c.put_copy-at.new.self o c.put_copy-at.ensures.put));
+      object = there;
+      number = c.fields-fields.ensures.count ∙ ap (λ (x : Object). length x.fields) (sym same);
       laid = c.requires.laid;
-      kept = subst (λ (x : Object). MayForward (g.F.Forward.kept c.args.forward.now) x.fields)
-          (sym (placed_is placing c.put_copy-at.new.self o c.put_copy-at.ensures.put)) c.requires.kept;
+      kept = subst (λ (x : Object). MayForward (g.F.Forward.kept c.args.forward.now) x.fields) (sym same)
+          c.requires.kept;
     }
 
 pub returns-clause-put : goal.returns-clause-put
 returns-clause-put g c =
-    let placing = puts_object c.args.region.now c.put_copy-at.result c.put_copy-at.ensures.offset in
     let o = object_at c.args.source.now (offset_of c.args.from) in
-    let put = c.put_copy-at.ensures.put in
+    let (_, same) = put_placed c.args.region.now c.put_copy-at.new.self c.put_copy-at.result o
+    c.put_copy-at.ensures.offset c.put_copy-at.ensures.put in
     let place = g.F.Forward.place c.args.forward.now in
-    c.forward_fields.ensures.written
-    ∙ (λ i. with_object (put i) c.put_copy-at.result
-    (region_forwarded place (placed_is placing c.put_copy-at.new.self o put i)))
-    ∙ placing.again o (region_forwarded place o)
+    c.forward_fields.ensures.written ∙ (λ i. region_with_object (c.put_copy-at.ensures.put i) c.put_copy-at.result
+    (region_forwarded place (same i))) ∙ put_again c.args.region.now c.put_copy-at.result
+    c.put_copy-at.ensures.offset o (region_forwarded place o)
     (ap (λ n. n + HEADER) (length-map o.fields (stored_place place)))

@@ -1,5 +1,4 @@
-use Rattle.hd_heap.proofs.Basics.{length, ◌-◌}
-use Rattle.hd_heap.specs.Runs.{ArePut}
+use Rattle.hd_heap.proofs.Basics.{ArePut, length, ◌-◌}
 use Rattle.hd_heap.proofs.forwarding.copy_run.Given as goal
 
 abbrev pub invariant-loop-region : goal.invariant-loop-region

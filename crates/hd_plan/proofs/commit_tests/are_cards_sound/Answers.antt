@@ -1,5 +1,5 @@
 use Rattle.hd_plan.proofs.Basics.{NamesYounger, both_ways, is_carded, true, ◌≡◌}
-use Rattle.hd_plan.proofs.CommitWalks.{walked_more}
+use Rattle.hd_plan.proofs.RegionsInUse.{walked_more}
 use Rattle.hd_plan.proofs.commit_tests.are_cards_sound.Goals.{else-names_younger-via-then-names_younger+else-not-has_card, else-names_younger-via-else-names_younger}
 use Rattle.hd_plan.proofs.commit_tests.are_cards_sound.Goals as goal
 

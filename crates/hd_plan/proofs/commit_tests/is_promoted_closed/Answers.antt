@@ -1,5 +1,5 @@
 use Rattle.hd_plan.proofs.Basics.{Addr, IsField, both_ways, object_at, promoted_in, true, ◌∙◌, ◌≡◌}
-use Rattle.hd_plan.proofs.CommitWalks.{walked_more}
+use Rattle.hd_plan.proofs.RegionsInUse.{walked_more}
 use Rattle.hd_plan.proofs.commit_tests.is_promoted_closed.Goals.{else-promoted-via-then-promoted+else-not-names_promoted, else-promoted-via-else-promoted}
 use Rattle.hd_plan.proofs.commit_tests.is_promoted_closed.Goals as goal
 

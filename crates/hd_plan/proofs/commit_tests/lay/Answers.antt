@@ -1,5 +1,5 @@
 use Rattle.hd_plan.proofs.Basics.{Basis, ap, promoted_in, rules, true, ◌≡◌}
-use Rattle.hd_plan.proofs.CommitWalks.{closed_basis}
+use Rattle.hd_plan.proofs.RegionsInUse.{closed_basis}
 use Rattle.hd_plan.proofs.commit_tests.lay.Goals as goal
 
 pub lay-requires-clause-closed : goal.lay-requires-clause-closed

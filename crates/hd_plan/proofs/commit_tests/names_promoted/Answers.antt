@@ -1,5 +1,5 @@
 use Rattle.hd_plan.proofs.Basics.{Heap, None, Some, arith, fields_at, has_object, member_at, object_at, promoted_in, subst, sym, true, ◌≡◌}
-use Rattle.hd_plan.proofs.CommitWalks.{each_field}
+use Rattle.hd_plan.proofs.RegionsInUse.{each_field}
 use Rattle.hd_plan.proofs.commit_tests.names_promoted.Goals as goal
 
 pub promoted-requires-clause-object : goal.promoted-requires-clause-object

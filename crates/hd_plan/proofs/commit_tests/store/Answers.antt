@@ -1,5 +1,5 @@
 use Rattle.hd_plan.proofs.Basics.{HasNoEmptyRegion, subst, sym}
-use Rattle.hd_plan.proofs.CommitWalks.{filled_stored}
+use Rattle.hd_plan.proofs.RegionsInUse.{filled_stored}
 use Rattle.hd_plan.proofs.commit_tests.store.Goals as goal
 
 pub returns : goal.returns

@@ -16,8 +16,7 @@ copy_from-k-requires-clause-may_go g c = λ moves. (
 
 pub loop-k-preserved : goal.loop-k-preserved
 loop-k-preserved g c = record {
-  copied = have_gone (g.F.Forward.place c.args.forward.now) c.args.heap.now c.loop-k.heap
-      c.copy_from-k.new.heap c.args.moves.now c.loop-k.k c.copy_from-k.result c.requires.can_copy
-      c.loop-k-test.true c.loop-k.invariant.copied c.copy_from-k.ensures.on c.copy_from-k.ensures.gone;
+  copied = have_gone c.requires.can_copy c.loop-k-test.true c.loop-k.invariant.copied c.copy_from-k.ensures.on
+      c.copy_from-k.ensures.gone;
   within = c.copy_from-k.ensures.within;
 }

@@ -1,10 +1,9 @@
 use Rattle.hd_plan.proofs.Basics.{AllocCursors, IsFirstIn, IsFirstObject, IsLaying, None, IsMoveOf, REGION, ap, arith, length, refl, spot_in, subst, sym, ℕ, ◌*◌, ◌+◌, ◌∙◌, ◌≡◌, ◌<◌}
 use Rattle.hd_heap.specs.Walks.{WalkOf, end_in}
 use Rattle.hd_heap.proofs.NextObjects.{end_within, none_left}
-use Rattle.hd_plan.specs.LaySteps.{CanPutAt, with_cursor_at}
-use Rattle.hd_plan.specs.declared.cursors.AllocCursor.{AllocCursor}
-use Rattle.hd_plan.proofs.LayStep.{laying_past, may_put}
-use Rattle.hd_plan.proofs.RegionLay.{cursor_again, laid_none, laying_on, laying_upto, move_fits, raised_young, same_cursor, these_on, with_again}
+use Rattle.hd_plan.specs.{LaySteps.CanPutAt, LaySteps.with_cursor_at, declared.cursors.AllocCursor.AllocCursor}
+use Rattle.hd_plan.proofs.{KeptMoves.raised_most, LayStep.laying_past, LayStep.may_put}
+use Rattle.hd_plan.proofs.RegionLay.{cursor_again, laid_none, laying_on, laying_upto, move_fits, same_cursor, these_on, with_again}
 use Rattle.hd_plan.proofs.lay.lay_objects.Given.{Over}
 use Rattle.hd_plan.proofs.lay.lay_objects.Goals.{After-lay_object-laid, After-put, In-Some}
 use Rattle.hd_plan.proofs.lay.lay_objects.Goals as goal
@@ -25,7 +24,7 @@ loop-object-init g c =
           (g.M.Marker.promoted c.args.marker.now) (g.M.Marker.pinned c.args.marker.now)
           c.args.moves.now.items c.args.cursors.now bound) (omega (arith, start)) c.requires.so_far);
       these = laid_none c.args.moves.now.items c.args.region c.args.k c.args.places.now.cells.items
-          c.requires.so_far.to.below;
+          (λ j low. (c.requires.so_far.to.condemned j low).1);
       firsts = refl;
       capacity = refl;
     }
@@ -34,11 +33,8 @@ pub lay_object-laid-requires-clause-can_put : goal.lay_object-laid-requires-clau
 lay_object-laid-requires-clause-can_put g c =
     subst (λ (x : AllocCursor). CanPutAt c.args.heap.now x c.loop-object.opened)
     (cursor_again c.args.cursors.now c.args.generation c.loop-object.cursor c.loop-object.opened)
-    (may_put c.args.heap.now (g.M.Marker.basis c.args.marker.now).condemned c.requires.sound
-    (g.M.Marker.promoted c.args.marker.now) (g.M.Marker.pinned c.args.marker.now) c.loop-object.moves.items
-    (with_cursor_at c.args.cursors.now c.args.generation c.loop-object.cursor c.loop-object.opened)
-    _ c.args.generation c.loop-object.invariant.laying c.requires.spare
-    (rw c.requires.generation (raised_young c.requires.condemned)))
+    (may_put c.requires.sound c.loop-object.invariant.laying c.args.generation c.requires.spare
+    (rw c.requires.generation (raised_most _ _ c.requires.condemned.young)))
 
 -- the object, where it ends, and its move
 first : (g : Over) (c : In-Some g)
@@ -57,15 +53,15 @@ ended g c = c.in-Some.ensures.after
 move : (g : Over) (c : After-lay_object-laid g) → let s = with_cursor_at c.args.cursors.now c.args.generation
     c.loop-object.cursor c.loop-object.opened in
     IsMoveOf c.args.heap.now (g.M.Marker.basis c.args.marker.now).condemned
-    (g.M.Marker.promoted c.args.marker.now c.in-Some.object.at)
-    (g.M.Marker.pinned c.args.marker.now c.in-Some.object.at) s
+    (g.M.Marker.promoted c.args.marker.now c.lay_object-laid.result.from)
+    (g.M.Marker.pinned c.args.marker.now c.lay_object-laid.result.from) s
     (with_cursor_at c.args.cursors.now c.args.generation c.lay_object-laid.new.cursor c.lay_object-laid.new.opened)
     c.lay_object-laid.result
 move g c =
     let s = with_cursor_at c.args.cursors.now c.args.generation c.loop-object.cursor c.loop-object.opened in
     subst (λ (t : AllocCursors). IsMoveOf c.args.heap.now (g.M.Marker.basis c.args.marker.now).condemned
-    (g.M.Marker.promoted c.args.marker.now c.in-Some.object.at)
-    (g.M.Marker.pinned c.args.marker.now c.in-Some.object.at) s t c.lay_object-laid.result)
+    (g.M.Marker.promoted c.args.marker.now c.lay_object-laid.result.from)
+    (g.M.Marker.pinned c.args.marker.now c.lay_object-laid.result.from) s t c.lay_object-laid.result)
     (with_again c.args.cursors.now c.args.generation c.loop-object.cursor c.lay_object-laid.new.cursor
     c.loop-object.opened c.lay_object-laid.new.opened)
     (c.lay_object-laid.ensures.laid s
@@ -75,14 +71,10 @@ pub push_reserved-requires : goal.push_reserved-requires
 push_reserved-requires g c =
     let b = (goal.at.push_reserved-requires g c).After-lay_object-laid in
     let a = (goal.at.push_reserved-requires g c).In-Some in
-    let laid = laying_upto c.requires.sound c.requires.condemned c.loop-object.invariant.laying c.requires.spare
-    (first g a) c.lay_object-laid.ensures.from (move g b) in
-    omega (
-      arith,
-      move_fits c.loop-object.moves.items c.lay_object-laid.result laid c.requires.room,
-      c.loop-object.moves.ok.0,
-      c.loop-object.invariant.capacity,
-    )
+    let laid = laying_upto c.requires.sound c.requires.condemned c.loop-object.invariant.laying (first g a)
+    c.lay_object-laid.ensures.from (move g b) in
+    let fit = move_fits c.loop-object.moves.items c.lay_object-laid.result laid c.requires.room in
+    omega (arith, fit, c.loop-object.moves.ok.0, c.loop-object.invariant.capacity)
 
 pub loop-object-preserved : goal.loop-object-preserved
 loop-object-preserved g c =
@@ -100,9 +92,9 @@ loop-object-preserved g c =
       walk = ended g a ∙ ap (λ e. record { heap = h; region = c.args.region; end = e }) (sym end);
       within = omega (arith, end, end_within h n c.requires.sound c.requires.condemned.young (first g a));
       laying = rw c.push_reserved.ensures.items (laying_on c.requires.sound c.requires.condemned inv.laying
-          c.requires.spare (first g a) from (move g b) _ end);
+          (first g a) from (move g b) _ end);
       these = rw (c.push_reserved.ensures.items, c.put.ensures.cells, c.stays-pinned.ensures) (these_on
-          c.requires.sound c.requires.condemned inv.laying c.requires.spare (first g a) from (move g b) inv.these spot);
+          c.requires.sound c.requires.condemned inv.laying (first g a) from (move g b) inv.these spot);
       firsts = c.put.ensures.firsts ∙ inv.firsts;
       capacity = c.push_reserved.ensures.capacity ∙ inv.capacity;
     }
@@ -113,7 +105,6 @@ returns-clause-laying g c =
     let n = (g.M.Marker.basis c.args.marker.now).condemned in
     let none = subst (λ (w : WalkOf). IsFirstIn w.heap w.region c.loop-object.objects.end None)
     c.loop-object.invariant.walk c.in_default.ensures.next in
-    rw c.set.ensures (laying_past h n c.requires.sound (g.M.Marker.promoted c.args.marker.now)
-    (g.M.Marker.pinned c.args.marker.now) _ _ (c.args.region * REGION + c.loop-object.objects.end) _
-    c.loop-object.invariant.laying (omega (arith, c.loop-object.invariant.within))
+    rw c.set.ensures (laying_past c.requires.sound c.loop-object.invariant.laying _
+    (omega (arith, c.loop-object.invariant.within))
     (none_left h n c.args.region c.loop-object.objects.end none))

@@ -1,13 +1,13 @@
 use Rattle.hd_plan.proofs.Basics.{ap, arith, length, length-set, min, sym, young_raised, ◌+◌, ◌<◌, ◌∙◌, ◌≡◌}
 use Rattle.hd_heap.proofs.NextObjects.{condemned_has}
-use Rattle.hd_plan.proofs.RegionList.{laid_region, region_condemned, regions_few, room_along}
+use Rattle.hd_plan.proofs.RegionList.{laid_region, region_condemned, regions_few}
 use Rattle.hd_plan.proofs.lay.lay_region.Given.{Over}
 use Rattle.hd_plan.proofs.lay.lay_region.Goals.{After-len-k}
 use Rattle.hd_plan.proofs.lay.lay_region.Goals as goal
 
 -- there is room for one region more
 few : (g : Over) (c : After-len-k g) → length c.args.regions.now.items < c.requires.room.regions.count
-few g c = regions_few c.requires.sound c.requires.so_far.regions c.requires.condemned
+few g c = regions_few c.requires.sound c.args.region c.requires.so_far.regions c.requires.condemned
     c.requires.room.regions.count_is
 
 k_is : (g : Over) (c : After-len-k g) → c.len-k.result ≡ length c.args.regions.now.items
@@ -52,6 +52,8 @@ returns-clause-laid g c =
 
 pub returns-clause-room : goal.returns-clause-room
 returns-clause-room g c =
-    room_along _ _ _ _ c.requires.room c.lay_objects-pinned.ensures.capacity c.push_reserved.ensures.capacity
-    (ap length (c.lay_objects-pinned.ensures.firsts ∙ c.list.ensures.firsts) ∙ length-set _ c.args.region _)
-    (c.lay_objects-pinned.ensures.these.long ∙ ap length c.list.ensures.cells)
+    let firsts = ap length (c.lay_objects-pinned.ensures.firsts ∙ c.list.ensures.firsts)
+    ∙ length-set _ c.args.region _ in
+    let cells = c.lay_objects-pinned.ensures.these.long ∙ ap length c.list.ensures.cells in
+    rw (c.lay_objects-pinned.ensures.capacity, c.push_reserved.ensures.capacity, firsts, cells)
+    c.requires.room

@@ -1,10 +1,7 @@
-use Rattle.hd_plan.proofs.Basics.{is_pinned}
 use Rattle.hd_plan.proofs.CommitReleases.{removed_step}
 use Rattle.hd_plan.proofs.releasing.remove_left.Goals as goal
 
 pub loop-object-preserved : goal.loop-object-preserved
 loop-object-preserved c =
-    removed_step (is_pinned c.args.regions.now c.args.places.now.firsts.items) c.args.heap.now
-    c.loop-object.heap c.args.moves.now c.loop-object.object-index
-    c.loop-object.invariant c.remove_if_left.new.heap c.remove_if_left.ensures.stays
+    removed_step c.loop-object.invariant c.remove_if_left.new.heap c.remove_if_left.ensures.stays
     c.remove_if_left.ensures.whole c.remove_if_left.ensures.left

@@ -1,5 +1,5 @@
 use Rattle.hd_plan.proofs.Basics.{Addr, IsField, has_object, object_at, subst, ⊎_elim}
-use Rattle.hd_plan.proofs.{RegionsInUse.field_object, LayStep.reached_cases}
+use Rattle.hd_plan.proofs.{CommitCards.has_from, LayStep.reached_cases}
 use Rattle.hd_plan.proofs.tests.is_bare.Goals as goal
 
 pub loop-at-preserved : goal.loop-at-preserved
@@ -12,5 +12,5 @@ loop-at-preserved c x y object reached field =
 
 pub returns : goal.returns
 returns c e x y field =
-    let object = field_object (object_at c.args.heap.now) x y field in
+    let object = has_from c.args.heap.now x y field in
     c.loop-at.invariant x y object (c.in_default.ensures.walk x object) field

@@ -2,11 +2,6 @@ use Rattle.hd_heap.proofs.Basics.{false, length-replicate, refl}
 use Rattle.hd_heap.proofs.Areas.{area_empty, falses}
 use Rattle.hd_heap.proofs.area.Area.give_up.Goals as goal
 
-pub returns-clause-area : goal.returns-clause-area
-returns-clause-area c =
-    area_empty _ c.reset.ensures.empty c.reset.ensures.laid_out refl refl c.requires.area.generation
-    (length-replicate 8 false) (falses 8)
-
 pub returns-clause-freed : goal.returns-clause-freed
 returns-clause-freed c = record {
   held = refl;
@@ -15,3 +10,8 @@ returns-clause-freed c = record {
   live = refl;
   count = refl;
 }
+
+pub returns-clause-area : goal.returns-clause-area
+returns-clause-area c =
+    area_empty _ (returns-clause-freed c) c.reset.ensures.laid_out c.requires.area.generation
+    (length-replicate 8 false)

@@ -1,7 +1,6 @@
-use Rattle.hd_heap.proofs.Basics.{Contents, ap, arith, contents, ◌+◌, ◌-◌, ◌≡◌, ◌≤◌}
-use Rattle.std.specs.Box.{with_value}
-use Rattle.hd_heap.specs.Runs.{ArePut, cells_run}
+use Rattle.hd_heap.proofs.Basics.{ArePut, Contents, ap, arith, cells_run, contents, ◌+◌, ◌-◌, ◌≡◌, ◌≤◌}
 use Rattle.hd_heap.proofs.{Areas.count_small, RunCopies.run_fill, RunCopies.run_many}
+use Rattle.std.specs.Box.{with_value}
 use Rattle.hd_heap.proofs.area.Area.put_run.Given.{Over}
 use Rattle.hd_heap.proofs.area.Area.put_run.Goals.{After-fill}
 use Rattle.hd_heap.proofs.area.Area.put_run.Goals as goal

@@ -1,33 +1,16 @@
-use Rattle.hd_heap.proofs.Basics.{HEADER, IsFirstIn, None, ObjectHeader, Option, REGION, Some, ap, arith, subst, sym, ◌*◌, ◌+◌, ◌-◌, ◌≡◌}
-use Rattle.hd_cells.specs.Headers.{IsHeaderFrom}
-use Rattle.hd_heap.specs.Walks.{WalkOf}
-use Rattle.hd_heap.proofs.CondemnedWalk.{first_header, header_end, no_header, object_low, walk_next}
+use Rattle.hd_heap.proofs.Basics.{IsFirstIn, IsHeaderFrom, None, ObjectHeader, Option, Some, WalkOf, arith, subst, sym}
+use Rattle.hd_heap.proofs.CondemnedWalk.{first_header, header_end, no_header, walk_next}
 use Rattle.hd_heap.proofs.condemned.RegionObjects.next.Goals as goal
-
-pub object_from-requires : goal.object_from-requires
-object_from-requires c = c.self.invariant.ends
 
 pub overflow_add-self : goal.overflow_add-self
 overflow_add-self c =
-    omega (
-      arith,
-      header_end c.self.invariant c.in_ok-header.header c.in_ok-header.ensures.0.1
-          c.in_ok-header.ensures.1,
-    )
+    let is = c.in_ok-header.ensures in
+    omega (arith, header_end c.self.invariant c.in_ok-header.header is.0.1 is.1)
 
 pub overflow_add-self-2 : goal.overflow_add-self-2
 overflow_add-self-2 c =
-    omega (
-      arith,
-      header_end c.self.invariant c.in_ok-header.header c.in_ok-header.ensures.0.1
-          c.in_ok-header.ensures.1,
-    )
-
-pub address_in-requires : goal.address_in-requires
-address_in-requires c = record {
-  region = c.self.invariant.number;
-  offset = omega (arith, object_low c.self.invariant c.in_ok-header.header.at c.in_ok-header.ensures.0.1);
-}
+    let is = c.in_ok-header.ensures in
+    omega (arith, header_end c.self.invariant c.in_ok-header.header is.0.1 is.1)
 
 pub invariant_of-self : goal.invariant_of-self
 invariant_of-self c =
@@ -53,11 +36,3 @@ returns-clause-next c =
     subst (λ (w : WalkOf). IsFirstIn w.heap w.region w.end (Some o)) c.self.view_is
     (first_header c.self.invariant c.in_ok-header.header c.address_in.result c.address_in.ensures
     c.in_ok-header.ensures.0 c.in_ok-header.ensures.1)
-
-pub returns-clause-after : goal.returns-clause-after
-returns-clause-after c =
-    let d = c.in_ok-header.header in
-    let e : d.at + d.fields + HEADER
-    ≡ c.address_in.result.0 - c.args.self.now.region * REGION + d.fields + HEADER =
-    omega (arith, c.address_in.ensures, ap (λ (w : WalkOf). w.region) c.self.view_is) in
-    λ i. record (c.self.view_is i) { end = e i }

@@ -1,19 +1,16 @@
 use Rattle.hd_heap.proofs.Basics.{Area, Err, List, Ok, OnOk, Result, [], ap, arith, deque_capacity, false, is_err, sym, ◌++◌, ◌+◌, ◌∙◌, ◌∷◌, ◌≡◌}
-use Rattle.hd_heap.proofs.{RegionReads.opened, RegionReads.IsHeap, RegionUse.heap_lists, RegionUse.heap_roomy, RegionUse.region_added}
-use Rattle.hd_heap.proofs.{Basics.refl, HeapFlags.flags_by, HeapFlags.flags_same}
+use Rattle.hd_heap.proofs.{RegionReads.closed, RegionReads.opened, RegionReads.IsHeap, RegionUse.heap_lists, RegionUse.heap_roomy, RegionUse.region_added}
 use Rattle.hd_heap.proofs.heap.Heap.add_spare.Goals as goal
 
 pub invariant_of-self-then-is_err-2 : goal.invariant_of-self-then-is_err-2
 invariant_of-self-then-is_err-2 c =
-    let heap = heap_lists c.reserve.ensures.items c.reserve-2.ensures.items
-    (heap_roomy (opened c.self.inside c.self.view_is c.self.invariant) c.reserve-2.ensures.capacity) in
-    (heap.kept, heap.full, flags_by c.self.view_is heap.view (λ f. f) c.self.invariant.2)
+    closed (heap_lists c.reserve.ensures.items c.reserve-2.ensures.items
+    (heap_roomy (opened c.self.inside c.self.view_is c.self.invariant) c.reserve-2.ensures.capacity))
 
 pub invariant_of-self-in_default : goal.invariant_of-self-in_default
 invariant_of-self-in_default c =
-    let heap = heap_lists c.reserve.ensures.items c.reserve-2.ensures.items
-    (heap_roomy (opened c.self.inside c.self.view_is c.self.invariant) c.reserve-2.ensures.capacity) in
-    (heap.kept, heap.full, flags_by c.self.view_is heap.view (λ f. f) c.self.invariant.2)
+    closed (heap_lists c.reserve.ensures.items c.reserve-2.ensures.items
+    (heap_roomy (opened c.self.inside c.self.view_is c.self.invariant) c.reserve-2.ensures.capacity))
 
 -- what is said of a success
 from_ok : {A E : Type 0} (r : Result A E) (P : Type 0) → is_err r ≡ false → OnOk r P → P
@@ -23,8 +20,8 @@ from_ok (Err x) P e p = absurd (cc e)
 added : (c : goal.After-push_back_reserved)
     → IsHeap c.push_reserved.new.self.items c.push_back_reserved.new.self.items c.self.inside.limit
     (deque_capacity c.push_back_reserved.new.self)
-    (c.self.inside.used, c.self.inside.count, c.self.inside.held) c.self.inside.current
-    (record c.args.self.now { spare = c.args.self.now.spare ++ (c.len-number.result + 1) ∷ [] })
+    (c.self.inside.used, c.self.inside.count, c.self.inside.held)
+    (c.self.inside.current, c.self.inside.carding, c.self.inside.registering) (record c.args.self.now { spare = c.args.self.now.spare ++ (c.len-number.result + 1) ∷ [] })
 added c =
     let n = c.len-number.result + 1 in
     let heap =
@@ -40,11 +37,7 @@ added c =
     omega (arith, room, c.reserve-2.ensures.len, known, c.len-number.ensures, c.len.ensures))
 
 pub invariant_of-self-2 : goal.invariant_of-self-2
-invariant_of-self-2 c = (
-  (added c).kept,
-  (added c).full,
-  flags_by c.self.view_is (added c).view (flags_same c.args.self.now _ refl refl) c.self.invariant.2,
-)
+invariant_of-self-2 c = closed (added c)
 
 pub returns-clause-ok : goal.returns-clause-ok
 returns-clause-ok c = (c.len-number.result + 1, (added c).view)

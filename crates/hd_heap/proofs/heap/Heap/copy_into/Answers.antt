@@ -1,74 +1,100 @@
-use Rattle.hd_heap.proofs.Basics.{None, Placed, ap, arith, get_or, length, new_object, refl, ◌∙◌}
-use Rattle.hd_heap.specs.Calls.{with_object}
-use Rattle.hd_heap.proofs.HeapValues.{fields_placed, put_read, put_written, copying_starts, copying_next, copying_ends}
+use Rattle.hd_heap.proofs.Basics.{Contents, IsObject, REGION, Region, ap, area_put, arith, cells_of, contents, deque_capacity, object_at, placed_at, region_at, set, size_of, sym, with_copy, ◌*◌, ◌+◌, ◌∙◌, ◌≡◌}
+use Rattle.hd_heap.proofs.{FieldForward.put_placed, RegionSums.cells_placed, RegionReads.closed, RegionReads.opened, RegionReads.noted, RegionReads.held_index, RegionReads.held_read, RegionReads.IsHeap, RegionReads.IsHeldAt, RegionChanges.object_put, RegionChanges.place_free, RegionChanges.put_fits}
+use Rattle.hd_heap.proofs.heap.Heap.copy_into.Goals.{After-fill-cells, After-index_mut}
 use Rattle.hd_heap.proofs.heap.Heap.copy_into.Goals as goal
 
-pub value-requires : goal.value-requires
-value-requires c =
-    (put_read c.args.self.now c.args.from c.put-copy.result c.args.region c.requires.object
-    c.put-copy.ensures.was_free c.put-copy.ensures.place c.put-copy.new.self
-    (new_object c.id.result c.fields-fields.result c.registered.result) c.put-copy.ensures.put).from_there
+pub index_mut-requires : goal.index_mut-requires
+index_mut-requires c =
+    let i = held_index (opened c.self.inside c.self.view_is c.self.invariant) c.requires.held
+    c.place_of.ensures in
+    omega (arith, i.1)
 
-pub write-requires-clause-object : goal.write-requires-clause-object
-write-requires-clause-object c =
-    (put_read c.args.self.now c.args.from c.put-copy.result c.args.region c.requires.object
-    c.put-copy.ensures.was_free c.put-copy.ensures.place c.put-copy.new.self
-    (new_object c.id.result c.fields-fields.result c.registered.result) c.put-copy.ensures.put).there
+-- the object, as it is in the region between
+between : (c : After-fill-cells)
+    → let o = object_at (contents c.area_of-offset.result.0.now) c.area_of-offset.result.1 in
+    IsObject c.put_copy-first.new.self c.put_copy-first.result
+    × (object_at c.put_copy-first.new.self c.put_copy-first.result ≡ o) × (c.fill-cells.result ≡ size_of o)
+    × (cells_of (placed_at c.args.self.now c.args.from) ≡ size_of o)
+between c =
+    let was = ap (λ (r : Contents). object_at r c.area_of-offset.result.1) c.deref.ensures in
+    let (there, same) = put_placed c.empty-copy.result c.put_copy-first.new.self c.put_copy-first.result _
+    c.put_copy-first.ensures.offset c.put_copy-first.ensures.put in (
+      there,
+      same ∙ was,
+      omega (
+        arith,
+        c.fill-cells.ensures.value,
+        ap (λ (r : Contents). r.fill) c.put_copy-first.ensures.put,
+        ap (λ (r : Contents). r.fill) c.empty-copy.ensures.empty,
+        ap size_of was,
+      ),
+      ap cells_of c.area_of-offset.ensures.placed
+          ∙ cells_placed (object_at (contents c.area_of-offset.result.0.now) c.area_of-offset.result.1),
+    )
 
-pub loop-i-init : goal.loop-i-init
-loop-i-init c =
-    let start = new_object c.id.result c.fields-fields.result c.registered.result in
-    let p = put_read c.args.self.now c.args.from c.put-copy.result c.args.region c.requires.object
-    c.put-copy.ensures.was_free c.put-copy.ensures.place c.put-copy.new.self start c.put-copy.ensures.put in
-    let v = c.value.result in
-    let written = c.write.ensures ∙ ap
-    (λ (x : Placed). with_object c.put-copy.new.self c.put-copy.result (record x { value = v })) p.copy_is in
-    copying_starts c.args.self.now c.write.new.self c.args.from c.args.region c.id.result
-    c.fields-fields.result c.registered.result v
-    (put_written c.args.self.now c.args.from c.put-copy.result c.args.region c.requires.object
-    c.put-copy.ensures.was_free c.put-copy.ensures.place c.put-copy.new.self c.write.new.self start
-    (record start { value = v }) c.put-copy.ensures.put written refl) c.id.ensures.identity
-    (c.fields-fields.ensures.count ∙ ap length (fields_placed c.args.self.now c.args.from c.requires.object))
-    c.registered.ensures (c.value.ensures ∙ ap (λ (x : Placed). x.value) p.from_is)
+located : (c : After-index_mut) → IsHeldAt c.self.inside.areas.items c.args.self.now c.args.region
+    c.place_of.result c.index_mut.result.now
+located c = held_read (opened c.self.inside c.self.view_is c.self.invariant) c.requires.held c.place_of.ensures
+    c.index_mut.ensures.value
 
-pub field-field-requires : goal.field-field-requires
-field-field-requires c =
-    let p = put_read c.args.self.now c.args.from c.put-copy.result c.args.region c.requires.object
-    c.put-copy.ensures.was_free c.put-copy.ensures.place c.loop-i.self c.loop-i.invariant.object
-    c.loop-i.invariant.is in
+pub put_copy-end-requires : goal.put_copy-end-requires
+put_copy-end-requires c =
+    let at = located ((goal.at.put_copy-end-requires c).After-index_mut) in
+    let (there, same, _, cells) = between ((goal.at.put_copy-end-requires c).After-fill-cells) in
     record {
-      object = p.from_there;
-      within = omega (arith, c.loop-i-test.true, c.fields-fields.ensures.count, ap length p.fields);
+      area = at.area;
+      held = at.held;
+      object = there;
+      room = omega (arith, c.requires.room, ap (λ (x : Region). x.fill) at.region, cells, ap size_of same);
     }
 
-pub write-requires-in-loop-i : goal.write-requires-in-loop-i
-write-requires-in-loop-i c =
-    let p = put_read c.args.self.now c.args.from c.put-copy.result c.args.region c.requires.object
-    c.put-copy.ensures.was_free c.put-copy.ensures.place c.loop-i.self c.loop-i.invariant.object
-    c.loop-i.invariant.is in
-    let whole = ap length (fields_placed c.args.self.now c.args.from c.requires.object) in
-    let size = ap (λ (x : Placed). length x.fields) p.copy_is in
+pub overflow_add-self : goal.overflow_add-self
+overflow_add-self c =
+    let size = (between ((goal.at.overflow_add-self c).After-fill-cells)).2 in
+    let o = c.area_of-offset.ensures in
+    let fits = put_fits (opened c.self.inside c.self.view_is c.self.invariant) {size = c.fill-cells.result}
+    (omega (arith, size, (o.area.laid_out.well_formed _ o.object).few_fields)) in
+    omega (arith, fits.0)
+
+pub overflow_add-self-2 : goal.overflow_add-self-2
+overflow_add-self-2 c =
+    let fits = put_fits (opened c.self.inside c.self.view_is c.self.invariant) {size = 0} (omega arith) in
+    omega (arith, fits.1)
+
+pub address_in-requires-clause-region : goal.address_in-requires-clause-region
+address_in-requires-clause-region c =
+    let heap = opened c.self.inside c.self.view_is c.self.invariant in
+    let index = held_index heap c.requires.held c.place_of.ensures in
+    omega (arith, c.place_of.ensures, index.0, index.1, heap.kept.few)
+
+put : (c : goal.After-address_in)
+    → IsHeap (set c.self.inside.areas.items c.place_of.result c.put_copy-end.new.self) c.self.inside.spare.items
+    c.self.inside.limit (deque_capacity c.self.inside.spare)
+    (c.self.inside.used + c.fill-cells.result, c.self.inside.count + 1, c.self.inside.held)
+    (c.self.inside.current, c.self.inside.carding, c.self.inside.registering)
+    (with_copy c.args.self.now c.args.from c.args.region)
+put c =
+    let heap = opened c.self.inside c.self.view_is c.self.invariant in
+    let at = held_read heap c.requires.held c.place_of.ensures c.index_mut.ensures.value in
+    let (_, same, size, cells) = between ((goal.at.invariant_of-self c).After-fill-cells) in
+    object_put heap _ (placed_at c.args.self.now c.args.from) c.fill-cells.result
+    (sym c.area_of-offset.ensures.placed) size at c.put_copy-end.ensures.area
+    (omega (arith, c.requires.room, ap (λ (x : Region). x.fill) at.region, size, cells))
+    (c.put_copy-end.ensures.put ∙ ap (area_put c.index_mut.result.now) same) (λ off. off)
+    (λ off. (noted heap).flags.registrations off c.args.from c.requires.object)
+
+pub invariant_of-self : goal.invariant_of-self
+invariant_of-self c = closed (put c)
+
+pub returns : goal.returns
+returns c =
+    let heap = opened c.self.inside c.self.view_is c.self.invariant in
+    let at = located ((goal.at.returns c).After-index_mut) in
+    let fill = ap (λ (x : Region). x.fill) at.region in
+    let place : c.address_in.result.0 ≡ c.args.region * REGION + (region_at c.args.self.now c.args.region).fill =
+    omega (arith, c.address_in.ensures, c.put_copy-end.ensures.offset, fill) in
     record {
-      object = p.there;
-      within = omega
-          (arith, c.loop-i-test.true, c.fields-fields.ensures.count, whole, size, c.loop-i.invariant.many);
+      place = place;
+      was_free = place_free heap c.address_in.result at (omega (arith, c.requires.room, fill)) place;
+      copied = (put c).view;
     }
-
-pub loop-i-preserved : goal.loop-i-preserved
-loop-i-preserved c =
-    let p = put_read c.args.self.now c.args.from c.put-copy.result c.args.region c.requires.object
-    c.put-copy.ensures.was_free c.put-copy.ensures.place c.loop-i.self c.loop-i.invariant.object
-    c.loop-i.invariant.is in
-    let whole = fields_placed c.args.self.now c.args.from c.requires.object in
-    copying_next c.args.self.now c.loop-i.self c.write-in-loop-i.new.self c.args.from c.put-copy.result
-    c.args.region c.loop-i.i
-    _ c.requires.object c.put-copy.ensures.was_free c.put-copy.ensures.place c.loop-i.invariant
-    (omega (arith, c.loop-i-test.true, c.fields-fields.ensures.count, ap length whole))
-    (c.field-field.ensures ∙ ap (λ xs. get_or xs c.loop-i.i None) (p.fields ∙ whole))
-    c.write-in-loop-i.ensures
-
-pub returns-clause-copied : goal.returns-clause-copied
-returns-clause-copied c =
-    copying_ends c.args.self.now c.loop-i.self c.args.from c.args.region c.loop-i.i c.loop-i.invariant
-    (let known = ap length (fields_placed c.args.self.now c.args.from c.requires.object) in
-    omega (arith, c.loop-i-test.false, c.fields-fields.ensures.count, known))

@@ -1,8 +1,5 @@
-use Rattle.hd_heap.proofs.Basics.{HasFlags, ap, arith, deque_capacity, drop, length, refl, subst, take, ◌++◌, ◌+◌, ◌-◌, ◌<◌, ◌^◌, ◌∙◌, ◌≡◌}
-use Rattle.std.proofs.Math.Seq.{take-append_seam}
-use Rattle.hd_model.specs.Heap.{region_of}
-use Rattle.hd_heap.specs.{Moves.move_at, Runs.IsRun, Runs.run_copied}
-use Rattle.hd_heap.proofs.{RegionReads.opened, RegionReads.IsHeap, RegionReads.found, RegionReads.index_of, RegionReads.held_index, RegionUse.heap_lists, HeapSoundness.cells_small, HeapSoundness.objects_small, HeapFlags.flags_by, RunCopies.run_one, RegionCopy.source_read, RegionCopy.target_read, RegionCopy.may_put, RegionCopy.run_moved}
+use Rattle.hd_heap.proofs.Basics.{IsRun, ap, arith, deque_capacity, drop, length, move_at, refl, region_of, run_copied, subst, take, take-append_seam, ◌++◌, ◌+◌, ◌-◌, ◌<◌, ◌^◌, ◌∙◌, ◌≡◌}
+use Rattle.hd_heap.proofs.{RegionReads.closed, RegionReads.opened, RegionReads.IsHeap, RegionReads.found, RegionReads.index_of, RegionReads.held_index, RegionUse.heap_lists, HeapSoundness.cells_small, HeapSoundness.objects_small, RunCopies.run_one, RegionCopy.source_read, RegionCopy.target_read, RegionCopy.may_put, RegionCopy.run_moved}
 use Rattle.hd_heap.proofs.heap.Heap.copy_run.Given.{Over}
 use Rattle.hd_heap.proofs.heap.Heap.copy_run.Goals.{After-copy_between-end}
 use Rattle.hd_heap.proofs.heap.Heap.copy_run.Goals as goal
@@ -41,8 +38,8 @@ moved : (g : Over) → (c : After-copy_between-end g)
     let new = c.copy_between-end.new.areas in
     let h = run_copied (g.F.Forward.place c.args.forward.now) c.args.self.now c.args.moves.now c.args.first n in
     IsHeap (take s.areas.len (new ++ drop (length new) s.areas.items)) s.spare.items s.limit
-    (deque_capacity s.spare) (s.used + c.copy_between-end.result.1, s.count + n, s.held) s.current h
-    × (HasFlags c.args.self.now s.carding s.registering → HasFlags h s.carding s.registering)
+    (deque_capacity s.spare) (s.used + c.copy_between-end.result.1, s.count + n, s.held)
+    (s.current, s.carding, s.registering) h
 moved g c =
     let new = c.copy_between-end.new.areas in
     let rest = drop (length new) c.self.inside.areas.items in
@@ -55,14 +52,14 @@ moved g c =
     let is = run_moved (opened c.self.inside c.self.view_is c.self.invariant) c.args.moves.now c.args.first
     c.requires.run c.requires.places c.deref_mut.ensures.value c.place_of-source.ensures
     c.place_of-target.ensures c.copy_between-end.ensures.put (subst (IsRun c.args.moves.now c.args.first) whole run) in
-    (heap_lists (ap (λ n. take n (new ++ rest)) long ∙ take-append_seam new rest) refl is.0, is.1 _ _)
+    heap_lists (ap (λ n. take n (new ++ rest)) long ∙ take-append_seam new rest) refl is
 
 -- there is room for the numbers of cells and of objects
 small : (g : Over) → (c : After-copy_between-end g)
     → (c.self.inside.used + c.copy_between-end.result.1 < 2 ^ 32)
     × (c.self.inside.count + (c.copy_between-end.result.0 - c.args.first) < 2 ^ 32)
 small g c =
-    let is = (moved g c).0 in
+    let is = moved g c in
     let cells = cells_small is in
     let few = is.kept.few in
     (omega arith, omega (arith, objects_small is))
@@ -78,9 +75,7 @@ overflow_add-self-2 g c = omega
     (arith, (small g ((goal.at.overflow_add-self-2 g c).After-copy_between-end)).1)
 
 pub invariant_of-self : goal.invariant_of-self
-invariant_of-self g c =
-    let (is, flags) = moved g ((goal.at.invariant_of-self g c).After-copy_between-end) in
-    (is.kept, is.full, flags_by c.self.view_is is.view flags c.self.invariant.2)
+invariant_of-self g c = closed (moved g ((goal.at.invariant_of-self g c).After-copy_between-end))
 
 pub returns-clause-copied : goal.returns-clause-copied
-returns-clause-copied g c = (moved g ((goal.at.returns-clause-copied g c).After-copy_between-end)).0.view
+returns-clause-copied g c = (moved g ((goal.at.returns-clause-copied g c).After-copy_between-end)).view

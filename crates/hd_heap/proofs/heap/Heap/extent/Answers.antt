@@ -1,12 +1,13 @@
-use Rattle.hd_heap.proofs.Basics.{Any, Condemned, Extent, IsExtentBelow, REGION, ap, arith, refl, subst, sym, ◌*◌, ◌+◌, ◌<◌, ◌^◌}
-use Rattle.hd_heap.proofs.{RegionReads.opened, RegionReads.place_read, RegionReads.IsPlace, RegionWalk.given_none, RegionWalk.wanted_place, HeapSoundness.sound, CondemnedSums.count_small, CondemnedSums.region_amount, CondemnedSums.extent_starts, CondemnedSums.extent_skips, CondemnedSums.extent_more, CondemnedSums.extent_ends}
-use Rattle.hd_heap.proofs.heap.Heap.extent.Goals.{After-index-area, After-len, then-has_condemned, else-has_condemned}
+use Rattle.hd_heap.proofs.Basics.{Any, IsExtentBelow, arith, refl, region_of, subst, sym, ◌+◌, ◌<◌, ◌^◌}
+use Rattle.hd_heap.proofs.{RegionReads.opened, RegionReads.place_read, RegionReads.IsPlace, RegionWalk.none_condemned, RegionWalk.wanted_place, NextObjects.condemned_has, HeapSoundness.sound, CondemnedSums.count_small, CondemnedSums.region_amount, CondemnedSums.extent_starts, CondemnedSums.extent_skips, CondemnedSums.extent_more, CondemnedSums.extent_ends}
+use Rattle.hd_heap.proofs.heap.Heap.extent.Goals.{After-index-area, then-has_condemned, else-has_condemned}
 use Rattle.hd_heap.proofs.heap.Heap.extent.Goals as goal
 
 pub loop-place-init : goal.loop-place-init
+unfolding region_of
 loop-place-init c =
     let heap = opened c.self.inside c.self.view_is c.self.invariant in
-    extent_starts _ (sound heap) refl refl refl
+    extent_starts (sound heap) _
     (λ a is. let p = wanted_place heap Any a is in omega (arith, p.1, p.2, c.len.ensures))
     (omega (arith, heap.kept.few, c.len.ensures))
 
@@ -27,7 +28,7 @@ fits : (c : After-index-area) → (c.loop-place.extent.objects + c.index-area.re
 fits c =
     let heap = opened c.self.inside c.self.view_is c.self.invariant in
     let p = place c in
-    let small = count_small heap p c.args.n in
+    let small = count_small heap p in
     let w = c.loop-place.invariant in (
       omega (arith, w.few, w.cells, small.0, small.1, p.within, heap.kept.few),
       omega (arith, w.cells, small.1, p.within, heap.kept.few),
@@ -50,42 +51,35 @@ overflow_add-extent-then-has_condemned-3 c =
       c.loop-place.invariant.fewer,
     )
 
--- the number of regions
-number : (c : After-len) → c.len.result + 1 < 2 ^ 32
-number c = omega (arith, c.self.invariant.0.few, c.len.ensures)
-
 pub overflow_cast-extent : goal.overflow_cast-extent
-overflow_cast-extent c = omega (arith, number c)
+overflow_cast-extent c = omega (arith, c.self.invariant.0.few, c.len.ensures)
 
 pub overflow_add-extent : goal.overflow_add-extent
-overflow_add-extent c = omega (arith, number c)
+overflow_add-extent c = omega (arith, c.self.invariant.0.few, c.len.ensures)
 
 pub loop-place-preserved : goal.loop-place-preserved
+unfolding region_of
 loop-place-preserved c =
     let heap = opened c.self.inside c.self.view_is c.self.invariant in
     let p = place ((goal.at.loop-place-preserved c).After-index-area) in
+    let next = IsExtentBelow c.args.self.now c.args.n (c.loop-place.place + 1 + 1) in
     elim c.if-has_condemned.branch [
-      | then-has_condemned w ↦
-          extent_more (c.loop-place.place + 1) c.index-area.result.now.count c.index-area.result.now.live
+      | then-has_condemned w ↦ subst next (sym w.extent-is) (extent_more (c.loop-place.place + 1) _ _
           c.loop-place.invariant
           (region_amount heap p c.args.n (c.has_condemned.ensures.young w.if-has_condemned.true))
-          (c.has_condemned.ensures.some w.if-has_condemned.true) (count_small heap p c.args.n)
-          (ap (λ (e : Extent). e.objects) w.extent-is) (ap (λ (e : Extent). e.cells) w.extent-is)
-          (ap (λ (e : Extent). e.regions) w.extent-is) (ap (λ (e : Extent). e.end) w.extent-is)
-      | else-has_condemned w ↦
-          subst (IsExtentBelow c.args.self.now c.args.n (c.loop-place.place + 1 + 1)) (sym w.extent-is)
-          (extent_skips (c.loop-place.place + 1) c.loop-place.invariant
-          (given_none heap (Condemned c.args.n) 0 ((c.loop-place.place + 1) * REGION)
-          ((c.loop-place.place + 1 + 1) * REGION) p
-          (λ q low. c.has_condemned.ensures.none w.if-has_condemned.false q) (omega arith) refl))
+          (c.has_condemned.ensures.some w.if-has_condemned.true) (count_small heap p))
+      | else-has_condemned w ↦ subst next (sym w.extent-is) (extent_skips (c.loop-place.place + 1)
+          c.loop-place.invariant
+          (none_condemned heap c.args.n p (c.has_condemned.ensures.none w.if-has_condemned.false)))
     ]
 
 pub returns : goal.returns
+unfolding region_of
 returns c =
     let heap = opened c.self.inside c.self.view_is c.self.invariant in
     record {
       extent = extent_ends (c.loop-place.place + 1) c.loop-place.invariant
-          (λ a is. let p = wanted_place heap (Condemned c.args.n) a is in
+          (λ a is. let p = wanted_place heap Any a (condemned_has c.args.self.now c.args.n a is) in
           omega (arith, p.1, p.2, c.loop-place-test.false, c.len-place-end.ensures));
       sound = sound heap;
     }

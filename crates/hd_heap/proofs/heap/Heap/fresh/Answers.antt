@@ -1,5 +1,4 @@
-use Rattle.hd_heap.proofs.{RegionReads.opened, RegionUse.spare_read, RegionUse.region_held}
-use Rattle.hd_heap.proofs.{Basics.refl, HeapFlags.flags_by, HeapFlags.flags_same}
+use Rattle.hd_heap.proofs.{RegionReads.closed, RegionReads.opened, RegionUse.spare_read, RegionUse.region_held}
 use Rattle.hd_heap.proofs.heap.Heap.fresh.Goals as goal
 
 pub hold-requires : goal.hold-requires
@@ -17,20 +16,14 @@ invariant_of-self c =
     let heap = opened c.self.inside c.self.view_is c.self.invariant in
     let at = spare_read heap c.requires.spare c.index-number.ensures c.place_of.ensures
     c.index_mut.ensures.value in
-    let is = region_held heap c.hold.new.self c.args.generation c.still_current-self-inside.result at
-    c.hold.ensures.area c.hold.ensures.held c.pop_front.ensures.rest c.pop_front.ensures.capacity
-    c.still_current-self-inside.ensures in (
-      is.kept,
-      is.full,
-      flags_by heap.view is.view (flags_same _ _ refl refl) c.self.invariant.2,
-    )
+    closed (region_held heap c.hold.new.self c.args.generation at c.hold.ensures.area c.hold.ensures.held
+    c.pop_front.ensures.rest c.pop_front.ensures.capacity c.still_current-self-inside.ensures)
 
 pub returns : goal.returns
 returns c =
     let heap = opened c.self.inside c.self.view_is c.self.invariant in
     let at = spare_read heap c.requires.spare c.index-number.ensures c.place_of.ensures
     c.index_mut.ensures.value in
-    let is = region_held heap c.hold.new.self c.args.generation c.still_current-self-inside.result at
-    c.hold.ensures.area c.hold.ensures.held c.pop_front.ensures.rest c.pop_front.ensures.capacity
-    c.still_current-self-inside.ensures in
+    let is = region_held heap c.hold.new.self c.args.generation at c.hold.ensures.area c.hold.ensures.held
+    c.pop_front.ensures.rest c.pop_front.ensures.capacity c.still_current-self-inside.ensures in
     record { number = at.number; was_free = at.was_free; held = is.view }

@@ -1,6 +1,5 @@
 use Rattle.hd_heap.proofs.Basics.{arith, deque_capacity, set, without_region, ◌-◌}
-use Rattle.hd_heap.proofs.{RegionReads.opened, RegionReads.held_index, RegionReads.held_read, RegionReads.IsHeap, RegionReads.IsHeldAt, RegionUse.cells_counted, RegionUse.objects_counted, RegionUse.region_freed, RegionUse.held_counted}
-use Rattle.hd_heap.proofs.{HeapFlags.flags_by, HeapFlags.flags_left}
+use Rattle.hd_heap.proofs.{RegionReads.closed, RegionReads.opened, RegionReads.held_index, RegionReads.held_read, RegionReads.IsHeap, RegionReads.IsHeldAt, RegionUse.cells_counted, RegionUse.objects_counted, RegionUse.region_freed, RegionUse.held_counted}
 use Rattle.hd_heap.proofs.heap.Heap.give_up.Goals.{After-index_mut, After-push_back_reserved}
 use Rattle.hd_heap.proofs.heap.Heap.give_up.Goals as goal
 
@@ -49,7 +48,7 @@ freed : (c : After-push_back_reserved)
       c.self.inside.count - c.give_up-cells.result.1,
       c.self.inside.held - 1,
     )
-    c.self.inside.current (without_region c.args.self.now c.args.region)
+    (c.self.inside.current, c.self.inside.carding, c.self.inside.registering) (without_region c.args.self.now c.args.region)
 freed c =
     let heap = opened c.self.inside c.self.view_is c.self.invariant in
     let located = held_read heap c.requires.held c.place_of.ensures c.index_mut.ensures.value in
@@ -59,13 +58,7 @@ freed c =
     now.cells now.count c.push_back_reserved.ensures.items c.push_back_reserved.ensures.capacity
 
 pub invariant_of-self : goal.invariant_of-self
-invariant_of-self c =
-    let heap = opened c.self.inside c.self.view_is c.self.invariant in
-    let is = freed c in (
-      is.kept,
-      is.full,
-      flags_by heap.view is.view (flags_left c.args.self.now c.args.region) c.self.invariant.2,
-    )
+invariant_of-self c = closed (freed c)
 
 pub returns : goal.returns
 returns c = (freed c).view

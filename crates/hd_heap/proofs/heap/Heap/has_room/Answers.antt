@@ -1,37 +1,30 @@
-use Rattle.hd_heap.proofs.Basics.{Contents, HasRoom, Region, ap, arith, both_ways, le-leb, leb-true, refl, sym, ◌∙◌}
+use Rattle.hd_heap.proofs.Basics.{Contents, Decides, HasRoom, Region, ap, arith, both_ways, false, le-leb, leb-true, refl, sym, ◌∙◌}
 use Rattle.hd_heap.proofs.RegionReads.{opened, place_read, held_index, held_read, located_by}
 use Rattle.hd_heap.proofs.heap.Heap.has_room.Goals.{then-region-eq0-via-then-region-eq0, then-region-eq0-via-else-region-eq0+then-region-len}
 use Rattle.hd_heap.proofs.heap.Heap.has_room.Goals as goal
 
+lacks : {P : Type 0} → (P → ⊥) → Decides false P
+lacks none = (λ e. absurd (cc e), λ p. absurd (none p))
+
 pub returns-then-region-eq0 : goal.returns-then-region-eq0
-returns-then-region-eq0 c = (
-  λ e. absurd (cc e),
-  λ (room : HasRoom c.args.self.now c.args.region c.args.size).
-      let index = held_index (opened c.self.inside c.self.view_is c.self.invariant) room.held refl in
-      elim c.then-region-eq0.branch [
-        | then-region-eq0-via-then-region-eq0 w ↦ absurd (omega (arith, index.0, w.if-region-eq0.true))
-        | then-region-eq0-via-else-region-eq0+then-region-len w ↦
-            absurd (omega (arith, index.0, index.1, w.if-region-len.true, w.len.ensures))
-      ],
-)
+returns-then-region-eq0 c = lacks (λ (room : HasRoom c.args.self.now c.args.region c.args.size).
+    let index = held_index (opened c.self.inside c.self.view_is c.self.invariant) room.held refl in
+    elim c.then-region-eq0.branch [
+      | then-region-eq0-via-then-region-eq0 w ↦ omega (arith, index.0, w.if-region-eq0.true)
+      | then-region-eq0-via-else-region-eq0+then-region-len w ↦
+          omega (arith, index.0, index.1, w.if-region-len.true, w.len.ensures)
+    ])
 
 pub returns-then-not-area : goal.returns-then-not-area
-returns-then-not-area c = (
-  λ e. absurd (cc e),
-  λ (room : HasRoom c.args.self.now c.args.region c.args.size).
-      let at = held_read (opened c.self.inside c.self.view_is c.self.invariant) room.held c.place_of.ensures
-      c.index-area.ensures in
-      absurd (both_ways _ c.if-not-area.true at.held),
-)
+returns-then-not-area c = lacks (λ (room : HasRoom c.args.self.now c.args.region c.args.size).
+    both_ways _ c.if-not-area.true (held_read (opened c.self.inside c.self.view_is c.self.invariant) room.held
+    c.place_of.ensures c.index-area.ensures).held)
 
 pub returns-then-area-ne0 : goal.returns-then-area-ne0
-returns-then-area-ne0 c = (
-  λ e. absurd (cc e),
-  λ (room : HasRoom c.args.self.now c.args.region c.args.size).
-      let at = held_read (opened c.self.inside c.self.view_is c.self.invariant) room.held c.place_of.ensures
-      c.index-area.ensures in
-      absurd (c.if-area-ne0.true (sym (ap (λ (x : Region). x.generation) at.region) ∙ room.young)),
-)
+returns-then-area-ne0 c = lacks (λ (room : HasRoom c.args.self.now c.args.region c.args.size).
+    let at = held_read (opened c.self.inside c.self.view_is c.self.invariant) room.held c.place_of.ensures
+    c.index-area.ensures in
+    c.if-area-ne0.true (sym (ap (λ (x : Region). x.generation) at.region) ∙ room.young))
 
 pub returns : goal.returns
 returns c =

@@ -1,6 +1,5 @@
-use Rattle.hd_heap.proofs.Basics.{Condemned, REGION, arith, cases_lt, inl, inr, refl, ◌*◌, ◌+◌, ◌/◌}
-use Rattle.hd_model.specs.Heap.{region_of}
-use Rattle.hd_heap.proofs.{RegionReads.opened, RegionReads.place_read, RegionReads.IsPlace, RegionWalk.given_none, RegionWalk.wanted_place, HeapSoundness.sound, CondemnedSums.amount_some, CondemnedSums.region_amount}
+use Rattle.hd_heap.proofs.Basics.{Any, REGION, arith, cases_lt, inl, inr, refl, region_of, ◌+◌, ◌/◌}
+use Rattle.hd_heap.proofs.{RegionReads.opened, RegionReads.place_read, RegionReads.IsPlace, RegionWalk.none_condemned, RegionWalk.wanted_place, NextObjects.condemned_has, HeapSoundness.sound, CondemnedSums.amount_some, CondemnedSums.region_amount}
 use Rattle.hd_heap.proofs.heap.Heap.next_condemned_region.Goals.{After-index}
 use Rattle.hd_heap.proofs.heap.Heap.next_condemned_region.Goals as goal
 
@@ -37,12 +36,11 @@ unfolding region_of
 loop-place-preserved c = λ a of later.
     let heap = opened c.self.inside c.self.view_is c.self.invariant in
     let p = place ((goal.at.loop-place-preserved c).After-index) in
-    let here = c.loop-place.invariant a of later in
-    let past = given_none heap (Condemned c.args.n) 0 ((c.loop-place.place + 1) * REGION)
-    ((c.loop-place.place + 1 + 1) * REGION) p
-    (λ q low. c.has_condemned.ensures.none c.if-has_condemned.false q) (omega arith) refl a of
-    (omega (arith, here)) in
-    omega (arith, past)
+    omega (
+      arith,
+      c.loop-place.invariant a of later,
+      none_condemned heap c.args.n p (c.has_condemned.ensures.none c.if-has_condemned.false) a of,
+    )
 
 pub returns : goal.returns
 unfolding region_of
@@ -51,7 +49,7 @@ returns c =
     record {
       walk = λ a of. elim (cases_lt c.args.after (a.0 / REGION)) [
         | inl later ↦
-            let p = wanted_place heap (Condemned c.args.n) a of in
+            let p = wanted_place heap Any a (condemned_has c.args.self.now c.args.n a of) in
             absurd (let known = c.loop-place.invariant a of later in
             omega (arith, known, p.1, p.2, c.loop-place-test.false, c.len-place-end.ensures))
         | inr before ↦ before

@@ -1,5 +1,6 @@
 use Rattle.hd_heap.proofs.Basics.{REGION, arith, refl, ◌+◌, ◌/◌}
-use Rattle.hd_heap.proofs.{RegionReads.opened, RegionReads.place_read, HeapSoundness.sound, RegionWalk.wanted_place, RegionWalk.wants_low, RegionWalk.given_some, RegionWalk.given_none}
+use Rattle.hd_heap.proofs.{RegionReads.IsPlace, RegionReads.opened, RegionReads.place_read, HeapSoundness.sound, RegionWalk.wanted_place, RegionWalk.wants_low, RegionWalk.given_some, RegionWalk.given_none}
+use Rattle.hd_heap.proofs.heap.Heap.next_in_region.Goals.{After-index}
 use Rattle.hd_heap.proofs.heap.Heap.next_in_region.Goals as goal
 
 pub returns-then-at-lt-REGION : goal.returns-then-at-lt-REGION
@@ -22,40 +23,38 @@ returns-then-place-regions c =
       sound = sound heap;
     }
 
+place : (c : After-index) → IsPlace c.self.inside.areas.items (c.args.at.0 / REGION) c.place_of-place.result
+    c.index.result.now
+place c = place_read c.self.inside.areas.items (c.args.at.0 / REGION) c.place_of-place.result
+    c.index.result.now (omega (arith, c.place_of-place.ensures, c.if-at-lt-REGION.false))
+    (omega (arith, c.if-place-regions.false, c.len-regions.ensures)) c.index.ensures
+
 pub wanted_after-requires-clause-area : goal.wanted_after-requires-clause-area
-wanted_after-requires-clause-area c = c.self.invariant.0.each (c.args.at.0 / REGION) c.index.result.now
-    (place_read c.self.inside.areas.items (c.args.at.0 / REGION) c.place_of-place.result c.index.result.now
-    (omega (arith, c.place_of-place.ensures, c.if-at-lt-REGION.false))
-    (omega (arith, c.if-place-regions.false, c.len-regions.ensures)) c.index.ensures).here
+wanted_after-requires-clause-area c =
+    c.self.invariant.0.each _ _ (place ((goal.at.wanted_after-requires-clause-area c).After-index)).here
 
 pub address_in-requires-clause-offset : goal.address_in-requires-clause-offset
 address_in-requires-clause-offset c =
-    let p = place_read c.self.inside.areas.items (c.args.at.0 / REGION) c.place_of-place.result
-    c.index.result.now (omega (arith, c.place_of-place.ensures, c.if-at-lt-REGION.false))
-    (omega (arith, c.if-place-regions.false, c.len-regions.ensures)) c.index.ensures in
+    let p = place ((goal.at.address_in-requires-clause-offset c).After-index) in
     wants_low c.args.wanted c.index.result.now c.in-Some.offset (c.self.invariant.0.each _ _ p.here)
     c.in-Some.ensures.0
 
 pub returns-in-Some : goal.returns-in-Some
 returns-in-Some c =
     let heap = opened c.self.inside c.self.view_is c.self.invariant in
-    let p = place_read c.self.inside.areas.items (c.args.at.0 / REGION) c.place_of-place.result
-    c.index.result.now (omega (arith, c.place_of-place.ensures, c.if-at-lt-REGION.false))
-    (omega (arith, c.if-place-regions.false, c.len-regions.ensures)) c.index.ensures in
     record {
       next = given_some heap c.args.wanted (c.offset_of.result + 1) c.in-Some.offset (c.args.at.0 + 1) 0
-          c.address_in.result p c.in-Some.ensures c.address_in.ensures (omega (arith, c.offset_of.ensures));
+          c.address_in.result (place ((goal.at.returns-in-Some c).After-index)) c.in-Some.ensures
+          c.address_in.ensures (omega (arith, c.offset_of.ensures));
       sound = sound heap;
     }
 
 pub returns-in-None : goal.returns-in-None
 returns-in-None c =
     let heap = opened c.self.inside c.self.view_is c.self.invariant in
-    let p = place_read c.self.inside.areas.items (c.args.at.0 / REGION) c.place_of-place.result
-    c.index.result.now (omega (arith, c.place_of-place.ensures, c.if-at-lt-REGION.false))
-    (omega (arith, c.if-place-regions.false, c.len-regions.ensures)) c.index.ensures in
     record {
-      next = given_none heap c.args.wanted (c.offset_of.result + 1) (c.args.at.0 + 1) _ p c.in-None.ensures
-          (omega (arith, c.offset_of.ensures)) refl;
+      next = given_none heap c.args.wanted (c.offset_of.result + 1) (c.args.at.0 + 1) _
+          (place ((goal.at.returns-in-None c).After-index)) c.in-None.ensures (omega (arith, c.offset_of.ensures))
+          refl;
       sound = sound heap;
     }

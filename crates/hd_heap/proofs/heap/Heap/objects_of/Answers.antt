@@ -1,5 +1,4 @@
-use Rattle.hd_heap.proofs.Basics.{Heap, ap, arith, subst, sym}
-use Rattle.hd_heap.specs.Walks.{IsWalkIn, WalkOf}
+use Rattle.hd_heap.proofs.Basics.{Heap, IsWalkIn, WalkOf, ap, arith, subst, sym}
 use Rattle.hd_heap.proofs.{CondemnedWalk.walk_begins, RegionReads.opened, RegionReads.held_index, RegionReads.held_read}
 use Rattle.hd_heap.proofs.heap.Heap.objects_of.Goals as goal
 

@@ -1,10 +1,5 @@
-use Rattle.hd_heap.proofs.Basics.{HEADER, REGION, Region, ap, arith, deque_capacity, length-replicate, new_object, region_at, region_generation, set, size_of, sym, ℕ, ◌*◌, ◌+◌, ◌∙◌, ◌≡◌}
-use Rattle.std.proofs.lemmas.Bool.{or_parts}
-use Rattle.hd_cells.specs.Object.{new_object as new_region_object}
-use Rattle.hd_model.specs.Heap.{region_of}
-use Rattle.hd_heap.specs.Calls.{with_put}
-use Rattle.hd_heap.proofs.{RegionReads.opened, RegionReads.held_index, RegionReads.held_read, RegionReads.IsHeap, RegionChanges.object_put, RegionChanges.place_free, RegionChanges.new_placed, HeapSoundness.cells_small, HeapSoundness.objects_small}
-use Rattle.hd_heap.proofs.{Basics.refl, HeapFlags.flags_by, HeapFlags.flags_written}
+use Rattle.hd_heap.proofs.Basics.{HEADER, REGION, Region, ap, arith, deque_capacity, length-replicate, new_object, new_region_object, or_parts, region_at, region_generation, region_of, set, size_of, sym, with_put, ℕ, ◌*◌, ◌+◌, ◌∙◌, ◌≡◌}
+use Rattle.hd_heap.proofs.{RegionReads.closed, RegionReads.opened, RegionReads.held_index, RegionReads.held_read, RegionReads.IsHeap, RegionChanges.object_put, RegionChanges.place_free, RegionChanges.new_placed, RegionChanges.put_fits}
 use Rattle.hd_heap.proofs.heap.Heap.put.Goals.{After-put-offset}
 use Rattle.hd_heap.proofs.heap.Heap.put.Goals as goal
 
@@ -28,29 +23,25 @@ put-offset-requires c =
 
 pub overflow_add-self-2 : goal.overflow_add-self-2
 overflow_add-self-2 c =
-    let heap = opened c.self.inside c.self.view_is c.self.invariant in
-    omega (arith, cells_small heap, heap.kept.few, c.requires.few_fields)
+    let fits = put_fits (opened c.self.inside c.self.view_is c.self.invariant) {size = c.args.fields + HEADER}
+    (omega (arith, c.requires.few_fields)) in
+    omega (arith, fits.0)
 
 pub overflow_add-self-3 : goal.overflow_add-self-3
 overflow_add-self-3 c =
-    let heap = opened c.self.inside c.self.view_is c.self.invariant in
-    omega (arith, cells_small heap, objects_small heap, heap.kept.few)
+    let fits = put_fits (opened c.self.inside c.self.view_is c.self.invariant) {size = 0} (omega arith) in
+    omega (arith, fits.1)
 
-pub address_in-requires : goal.address_in-requires
-address_in-requires c =
+pub address_in-requires-clause-region : goal.address_in-requires-clause-region
+address_in-requires-clause-region c =
     let heap = opened c.self.inside c.self.view_is c.self.invariant in
     let index = held_index heap c.requires.held c.place_of.ensures in
-    let at = held_read heap c.requires.held c.place_of.ensures c.index_mut.ensures.value in
-    let fill = ap (λ (x : Region). x.fill) at.region in
-    record {
-      region = omega (arith, c.place_of.ensures, index.0, index.1, heap.kept.few);
-      offset = omega (arith, c.requires.room, c.put-offset.ensures.offset, fill);
-    }
+    omega (arith, c.place_of.ensures, index.0, index.1, heap.kept.few)
 
 put : (c : After-put-offset) → IsHeap (set c.self.inside.areas.items c.place_of.result c.put-offset.new.self)
     c.self.inside.spare.items c.self.inside.limit (deque_capacity c.self.inside.spare)
     (c.self.inside.used + (c.args.fields + HEADER), c.self.inside.count + 1, c.self.inside.held)
-    c.self.inside.current
+    (c.self.inside.current, c.self.inside.carding, c.noted-self-inside.result)
     (with_put c.args.self.now c.args.region (region_generation c.args.self.now c.args.region)
     (new_object c.args.id c.args.fields c.args.registered))
 put c =
@@ -59,22 +50,14 @@ put c =
     let o = new_region_object c.args.id.0 c.args.fields c.args.registered in
     let size : c.args.fields + HEADER ≡ size_of o =
     ap (λ n. n + HEADER) (sym (length-replicate c.args.fields (let z : ℕ = 0 in z))) in
-    object_put heap c.put-offset.new.self o (new_object c.args.id c.args.fields c.args.registered)
-    (new_placed c.args.id.0 c.args.fields c.args.registered) (c.args.fields + HEADER) size at
-    c.put-offset.ensures.area
+    object_put heap o (new_object c.args.id c.args.fields c.args.registered) (c.args.fields + HEADER)
+    (new_placed c.args.id.0 c.args.fields c.args.registered) size at c.put-offset.ensures.area
     (omega (arith, c.requires.room, ap (λ (x : Region). x.fill) at.region)) c.put-offset.ensures.put
+    (λ off. (or_parts _ _ (sym c.noted-self-inside.ensures ∙ off)).0)
+    (λ off. (or_parts _ _ (sym c.noted-self-inside.ensures ∙ off)).1)
 
 pub invariant_of-self : goal.invariant_of-self
-invariant_of-self c =
-    let heap = opened c.self.inside c.self.view_is c.self.invariant in
-    let is = put ((goal.at.invariant_of-self c).After-put-offset) in (
-      is.kept,
-      is.full,
-      flags_by heap.view is.view
-          (flags_written c.args.self.now _ _ _ refl refl
-          (λ off. (or_parts _ _ (sym c.noted-self-inside.ensures ∙ off)).0)
-          (λ off. (or_parts _ _ (sym c.noted-self-inside.ensures ∙ off)).1)) c.self.invariant.2,
-    )
+invariant_of-self c = closed (put ((goal.at.invariant_of-self c).After-put-offset))
 
 pub returns : goal.returns
 unfolding region_of

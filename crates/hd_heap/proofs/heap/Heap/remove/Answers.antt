@@ -1,6 +1,5 @@
-use Rattle.hd_heap.proofs.Basics.{Heap, IsRemoved, arith, refl, subst, sym}
-use Rattle.hd_heap.proofs.{RegionReads.opened, RegionReads.index_of, RegionReads.found_read, RegionChanges.object_removed, RegionChanges.removed_cards, RegionChanges.counted}
-use Rattle.hd_heap.proofs.{HeapFlags.flags_by, HeapFlags.flags_removed, HeapSoundness.sound}
+use Rattle.hd_heap.proofs.Basics.{Heap, IsRemoved, arith, subst, sym}
+use Rattle.hd_heap.proofs.{RegionReads.closed, RegionReads.opened, RegionReads.index_of, RegionReads.found_read, RegionChanges.object_removed, RegionChanges.removed_cards, RegionChanges.counted}
 use Rattle.hd_heap.proofs.heap.Heap.remove.Goals as goal
 
 pub index_mut-requires : goal.index_mut-requires
@@ -19,38 +18,26 @@ pub overflow_sub-self : goal.overflow_sub-self
 overflow_sub-self c =
     let heap = opened c.self.inside c.self.view_is c.self.invariant in
     let f = found_read heap c.args.at c.requires c.place_of.ensures c.index_mut.ensures.value in
-    (counted heap c.args.at c.remove-cells.new.self c.remove-cells.result f
-    (rw c.offset_of.ensures at c.remove-cells.ensures.taken)).0
+    (counted heap c.args.at f (rw c.offset_of.ensures at c.remove-cells.ensures.taken)).0
 
 pub overflow_sub-self-2 : goal.overflow_sub-self-2
 overflow_sub-self-2 c =
     let heap = opened c.self.inside c.self.view_is c.self.invariant in
     let f = found_read heap c.args.at c.requires c.place_of.ensures c.index_mut.ensures.value in
-    (counted heap c.args.at c.remove-cells.new.self c.remove-cells.result f
-    (rw c.offset_of.ensures at c.remove-cells.ensures.taken)).1
+    (counted heap c.args.at f (rw c.offset_of.ensures at c.remove-cells.ensures.taken)).1
 
 pub invariant_of-self : goal.invariant_of-self
 invariant_of-self c =
     let heap = opened c.self.inside c.self.view_is c.self.invariant in
     let f = found_read heap c.args.at c.requires c.place_of.ensures c.index_mut.ensures.value in
     let taken = rw c.offset_of.ensures at c.remove-cells.ensures.taken in
-    let is = object_removed heap c.args.at c.remove-cells.new.self c.remove-cells.result f
-    c.remove-cells.ensures.area taken in (
-      is.kept,
-      is.full,
-      flags_by heap.view is.view
-          (flags_removed c.args.self.now _ c.args.at (sound is)
-          (removed_cards heap c.args.at c.remove-cells.new.self c.remove-cells.result f
-          c.remove-cells.ensures.area taken is refl)) c.self.invariant.2,
-    )
+    closed (object_removed heap c.args.at f c.remove-cells.ensures.area taken)
 
 pub returns : goal.returns
 returns c =
     let heap = opened c.self.inside c.self.view_is c.self.invariant in
     let f = found_read heap c.args.at c.requires c.place_of.ensures c.index_mut.ensures.value in
     let taken = rw c.offset_of.ensures at c.remove-cells.ensures.taken in
-    let is = object_removed heap c.args.at c.remove-cells.new.self c.remove-cells.result f
-    c.remove-cells.ensures.area taken in
-    subst (λ (x : Heap). IsRemoved c.args.self.now x c.args.at) (sym is.view)
-    (removed_cards heap c.args.at c.remove-cells.new.self c.remove-cells.result f c.remove-cells.ensures.area
-    taken is refl)
+    subst (λ (x : Heap). IsRemoved c.args.self.now x c.args.at)
+    (sym (object_removed heap c.args.at f c.remove-cells.ensures.area taken).view)
+    (removed_cards heap c.args.at f c.remove-cells.ensures.area taken)

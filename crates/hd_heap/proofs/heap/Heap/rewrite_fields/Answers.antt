@@ -1,7 +1,5 @@
-use Rattle.hd_heap.proofs.Basics.{REGION, ap, arith, contents, deque_capacity, forwarded, object_at, placed_at, region_forwarded, set, sym, true, ◌%◌, ◌∙◌, ◌≡◌, ◌≢◌}
-use Rattle.hd_heap.specs.Calls.{with_object}
-use Rattle.hd_heap.proofs.{RegionReads.opened, RegionReads.index_of, RegionReads.found_read, RegionReads.object_of, RegionReads.IsHeap, RegionWrites.object_written, FieldForward.field_of, FieldForward.forwarded_placed}
-use Rattle.hd_heap.proofs.{Basics.refl, HeapFlags.flags_by, HeapFlags.flags_of, HeapFlags.flags_written}
+use Rattle.hd_heap.proofs.Basics.{REGION, ap, arith, contents, deque_capacity, forwarded, object_at, placed_at, region_forwarded, set, sym, true, with_object, ◌%◌, ◌∙◌, ◌≡◌, ◌≢◌}
+use Rattle.hd_heap.proofs.{RegionReads.closed, RegionReads.opened, RegionReads.index_of, RegionReads.found_read, RegionReads.object_of, RegionReads.IsHeap, RegionReads.noted, RegionWrites.object_written, FieldForward.field_of, FieldForward.forwarded_placed, HeapNotes.noted_written}
 use Rattle.hd_heap.proofs.heap.Heap.rewrite_fields.Given.{Over}
 use Rattle.hd_heap.proofs.heap.Heap.rewrite_fields.Goals.{After-forward_fields}
 use Rattle.hd_heap.proofs.heap.Heap.rewrite_fields.Goals as goal
@@ -28,7 +26,8 @@ forward_fields-requires g c =
 written : (g : Over) → (c : After-forward_fields g)
     → IsHeap (set c.self.inside.areas.items c.place_of.result c.forward_fields.new.self)
     c.self.inside.spare.items c.self.inside.limit (deque_capacity c.self.inside.spare)
-    (c.self.inside.used, c.self.inside.count, c.self.inside.held) c.self.inside.current
+    (c.self.inside.used, c.self.inside.count, c.self.inside.held)
+    (c.self.inside.current, c.self.inside.carding, c.self.inside.registering)
     (with_object c.args.self.now c.args.at
     (forwarded (g.F.Forward.place c.args.forward.now) (placed_at c.args.self.now c.args.at)))
 written g c =
@@ -39,20 +38,13 @@ written g c =
     let some =
     field_of (λ y. (place y).0 ≢ 0) c.args.self.now c.args.at old.fields (object_of c.args.at f).fields
     c.requires.places in
-    object_written heap c.args.at c.forward_fields.new.self (region_forwarded place old) _
+    object_written heap c.args.at (region_forwarded place old) _
     (forwarded_placed place old some ∙ ap (forwarded place) (sym f.placed)) f c.forward_fields.ensures.area
-    (rw c.offset_of.ensures at c.forward_fields.ensures.written)
+    (rw c.offset_of.ensures at c.forward_fields.ensures.written) (noted_written (noted heap) _ (λ off. off)
+    (λ off. (noted heap).flags.registrations off c.args.at c.requires.object) c.args.at)
 
 pub invariant_of-self : goal.invariant_of-self
-invariant_of-self g c =
-    let heap = opened c.self.inside c.self.view_is c.self.invariant in
-    let is = written g ((goal.at.invariant_of-self g c).After-forward_fields) in (
-      is.kept,
-      is.full,
-      flags_by heap.view is.view
-          (flags_written c.args.self.now _ _ _ refl refl (λ off. off)
-          (λ off. flags_of heap.view off c.args.at c.requires.object c.self.invariant.2)) c.self.invariant.2,
-    )
+invariant_of-self g c = closed (written g ((goal.at.invariant_of-self g c).After-forward_fields))
 
 pub returns : goal.returns
 returns g c = (written g ((goal.at.returns g c).After-forward_fields)).view

@@ -1,5 +1,5 @@
 use Rattle.hd_heap.proofs.Basics.{AreFull, AreOthersFull, Heap, IsRoom, subst, sym, ◌∙◌}
-use Rattle.hd_heap.proofs.{HeapValues.room_was, HeapValues.room_made, FullRegions.others_begun}
+use Rattle.hd_heap.proofs.{HeapValues.room_was, HeapValues.room_made, HeapNotes.others_begun}
 use Rattle.hd_heap.proofs.heap.Heap.room_for.Goals as goal
 
 pub returns-in-Some-clause-ok : goal.returns-in-Some-clause-ok

@@ -1,9 +1,5 @@
-use Rattle.hd_heap.proofs.Basics.{Bool, HasPart, Placed, REGION, ap, arith, contents, deque_capacity, false, object_at, placed_at, region_with_part, set, subst, sym, with_part, ◌%◌, ◌||◌, ◌∙◌, ◌≡◌}
-use Rattle.hd_heap.specs.Steps.{registers}
-use Rattle.std.proofs.lemmas.Bool.{or_parts}
-use Rattle.hd_heap.specs.Calls.{with_object}
-use Rattle.hd_heap.proofs.{RegionReads.opened, RegionReads.index_of, RegionReads.found_read, RegionReads.IsHeap, RegionWrites.object_written, RegionWrites.part_placed, RegionWrites.part_within}
-use Rattle.hd_heap.proofs.{Basics.refl, HeapFlags.flags_by, HeapFlags.flags_of, HeapFlags.flags_written, HeapFlags.part_noted}
+use Rattle.hd_heap.proofs.Basics.{Bool, HasPart, Placed, REGION, ap, arith, contents, deque_capacity, false, object_at, or_parts, placed_at, region_with_part, registers, set, subst, sym, with_object, with_part, ◌%◌, ◌||◌, ◌∙◌, ◌≡◌}
+use Rattle.hd_heap.proofs.{RegionReads.closed, RegionReads.opened, RegionReads.index_of, RegionReads.found_read, RegionReads.IsHeap, RegionReads.noted, RegionWrites.object_written, RegionWrites.part_placed, RegionWrites.part_within, HeapNotes.noted_written, HeapNotes.part_noted}
 use Rattle.hd_heap.proofs.heap.Heap.write.Goals.{After-write}
 use Rattle.hd_heap.proofs.heap.Heap.write.Goals as goal
 
@@ -26,32 +22,25 @@ write-requires c =
 
 written : (c : After-write) → IsHeap (set c.self.inside.areas.items c.place_of.result c.write.new.self)
     c.self.inside.spare.items c.self.inside.limit (deque_capacity c.self.inside.spare)
-    (c.self.inside.used, c.self.inside.count, c.self.inside.held) c.self.inside.current
+    (c.self.inside.used, c.self.inside.count, c.self.inside.held)
+    (c.self.inside.current, c.self.inside.carding, c.noted-self-inside.result)
     (with_object c.args.self.now c.args.at (with_part (placed_at c.args.self.now c.args.at) c.args.part))
 written c =
     let heap = opened c.self.inside c.self.view_is c.self.invariant in
     let f = found_read heap c.args.at c.requires.object c.place_of.ensures c.index_mut.ensures.value in
     let old = object_at (contents c.index_mut.result.now) (c.args.at.0 % REGION) in
-    object_written heap c.args.at c.write.new.self (region_with_part old c.args.part) _
-    (part_placed old c.args.part ∙ ap (λ p. with_part p c.args.part) (sym f.placed)) f c.write.ensures.area
-    (rw c.offset_of.ensures at c.write.ensures.written)
-
-pub invariant_of-self : goal.invariant_of-self
-invariant_of-self c =
-    let heap = opened c.self.inside c.self.view_is c.self.invariant in
-    let is = written ((goal.at.invariant_of-self c).After-write) in
     let lower : c.noted-self-inside.result ≡ false → (c.self.inside.registering || registers c.args.part) ≡ false =
     λ off. ap (λ (b : Bool). c.self.inside.registering || b) (sym c.registers.ensures)
-    ∙ sym c.noted-self-inside.ensures ∙ off in (
-      is.kept,
-      is.full,
-      flags_by heap.view is.view
-          (flags_written c.args.self.now _ _ _ refl refl (λ off. (or_parts _ _ (lower off)).0)
-          (λ off. part_noted (placed_at c.args.self.now c.args.at) c.args.part c.self.inside.registering
-          (lower off)
-          (λ none. flags_of heap.view none c.args.at c.requires.object c.self.invariant.2)))
-          c.self.invariant.2,
-    )
+    ∙ sym c.noted-self-inside.ensures ∙ off in
+    object_written heap c.args.at (region_with_part old c.args.part) _
+    (part_placed old c.args.part ∙ ap (λ p. with_part p c.args.part) (sym f.placed)) f c.write.ensures.area
+    (rw c.offset_of.ensures at c.write.ensures.written) (noted_written (noted heap) _
+    (λ off. (or_parts _ _ (lower off)).0) (λ off. part_noted (placed_at c.args.self.now c.args.at) c.args.part
+    c.self.inside.registering (lower off)
+    (λ none. (noted heap).flags.registrations none c.args.at c.requires.object)) c.args.at)
+
+pub invariant_of-self : goal.invariant_of-self
+invariant_of-self c = closed (written ((goal.at.invariant_of-self c).After-write))
 
 pub returns : goal.returns
 returns c = (written ((goal.at.returns c).After-write)).view

@@ -1,50 +1,41 @@
-use Rattle.hd_mark.proofs.Basics.{Basis, IsSettledMarks, [], ap, append-nil, is_object, log_of, objects_of, pinned_in, rules, subst, sym, true, ◌≡◌}
-use Rattle.hd_mark.proofs.MarkDrain.{already_grown, already_same, log_kept, one_left, promoted_grows, pushed_basis}
+use Rattle.hd_mark.proofs.Basics.{IsTraced, MarksOf, [], arith, fields_at, nil_from_length, object_at, objects_of, subst, ◌∷◌, ◌≡◌}
+use Rattle.hd_mark.proofs.MarkDrain.{bare_done, bare_drained, marked_before, marked_since, one_left}
+use Rattle.hd_mark.proofs.marks.Marks.mark.Goals.{Then-bare}
 use Rattle.hd_mark.proofs.marks.Marks.mark.Goals as goal
 
-pub drain_one-requires-clause-one : goal.drain_one-requires-clause-one
-drain_one-requires-clause-one c =
-    one_left c.args.self.now c.push_new.new.self c.args.at c.push_new.ensures.after
-    (c.push_new.ensures.is_new c.if-push_new.true) c.requires.settled.empty
+traced : (c : Then-bare) → IsTraced c.push_new.new.self
+traced c = subst IsTraced c.self.view_is c.self.invariant.traced
 
-pub drain_one-requires-clause-object : goal.drain_one-requires-clause-object
-drain_one-requires-clause-object c =
-    subst (λ (b : Basis). is_object (objects_of b) c.args.at ≡ true)
-    (sym (pushed_basis c.args.self.now c.push_new.new.self c.args.at c.push_new.ensures.after))
-    c.requires.object
+one : (c : Then-bare) → c.push_new.new.self.unscanned ≡ c.args.at ∷ []
+one c =
+    one_left c.args.at c.push_new.ensures.after c.requires.settled
+    (c.push_new.ensures.is_new c.if-push_new.true)
 
-pub returns-then-push_new-clause-grows : goal.returns-then-push_new-clause-grows
-returns-then-push_new-clause-grows c =
-    promoted_grows c.args.self.now c.push_new.new.self _ c.args.at c.push_new.ensures.after
-    c.requires.settled (search rules)
+bare : (c : Then-bare) → fields_at (objects_of c.push_new.new.self.basis) c.args.at ≡ []
+bare c =
+    subst (λ (m : MarksOf). fields_at (objects_of m.basis) c.args.at ≡ []) c.self.view_is
+    (nil_from_length (fields_at (object_at c.self.inside.heap.now) c.args.at)
+    (omega (arith, c.fields-bare.ensures.count, c.if-bare.true)))
 
-pub returns-then-push_new-clause-log : goal.returns-then-push_new-clause-log
-returns-then-push_new-clause-log c =
-    log_kept c.args.self.now c.push_new.new.self c.drain_one.new.self c.args.at c.push_new.ensures.after
-    c.drain_one.ensures.log
+pub advance-requires : goal.advance-requires
+advance-requires c =
+    let here = (goal.at.advance-requires c).Then-bare in bare_done (traced here) (one here) (bare here)
 
-pub returns-else-push_new-clause-settled : goal.returns-else-push_new-clause-settled
-returns-else-push_new-clause-settled c =
-    subst IsSettledMarks
-    (sym (already_same c.args.self.now c.push_new.new.self c.args.at c.push_new.ensures.after
-    (c.push_new.ensures.is_old c.if-push_new.false)))
-    c.requires.settled
+pub returns-then-bare : goal.returns-then-bare
+returns-then-bare c =
+    let here = (goal.at.returns-then-bare c).Then-bare in
+    marked_since c.args.at c.push_new.ensures.after c.requires.settled
+    (c.push_new.ensures.is_new c.if-push_new.true)
+    (bare_drained (traced here) (one here) (bare here) c.advance.ensures.after c.advance.ensures.traced)
 
-pub returns-else-push_new-clause-basis : goal.returns-else-push_new-clause-basis
-returns-else-push_new-clause-basis c =
-    pushed_basis c.args.self.now c.push_new.new.self c.args.at c.push_new.ensures.after
+pub returns-else-bare : goal.returns-else-bare
+returns-else-bare c =
+    let d = c.drain.ensures in
+    marked_since c.args.at c.push_new.ensures.after c.requires.settled
+    (c.push_new.ensures.is_new c.if-push_new.true)
+    (record { settled = d.settled; basis = d.basis; pins = d.pins; grows = d.grows; log = d.log })
 
-pub returns-else-push_new-clause-grows : goal.returns-else-push_new-clause-grows
-returns-else-push_new-clause-grows c =
-    already_grown c.args.self.now c.push_new.new.self c.args.at c.push_new.ensures.after
+pub returns-else-push_new : goal.returns-else-push_new
+returns-else-push_new c =
+    marked_before c.args.at c.push_new.ensures.after c.requires.settled
     (c.push_new.ensures.is_old c.if-push_new.false)
-
-pub returns-else-push_new-clause-pinned : goal.returns-else-push_new-clause-pinned
-returns-else-push_new-clause-pinned c =
-    ap pinned_in (already_same c.args.self.now c.push_new.new.self c.args.at c.push_new.ensures.after
-    (c.push_new.ensures.is_old c.if-push_new.false))
-
-pub returns-else-push_new-clause-log : goal.returns-else-push_new-clause-log
-returns-else-push_new-clause-log c =
-    log_kept c.args.self.now c.push_new.new.self c.push_new.new.self c.args.at c.push_new.ensures.after
-    ([], sym (append-nil (log_of c.push_new.new.self)))

@@ -1,53 +1,58 @@
-use Rattle.hd_mark.proofs.Basics.{Addr, HasNoneYet, IsSettledMarks, IsTraced, ap, arith, first_marks, indices, length, length-map, map, refl, same_address, set_of, subst, sym, ◌≢◌}
-use Rattle.hd_model.proofs.Members.{mapped_in, pairs_mapped}
-use Rattle.hd_mark.proofs.{UnmarkedCount.left_most, MarksInvariant.first_seen}
+use Rattle.hd_mark.proofs.Basics.{Addr, Bool, HasNoneYet, IsSettledMarks, IsTraced, ap, arith, contains, length, not, refl, set_of, subst, sym}
+use Rattle.std.proofs.lemmas.List.Sums.{count_by-le-length, length-filter}
+use Rattle.hd_mark.proofs.MarksInvariant.{first_seen}
 use Rattle.hd_mark.proofs.MarkDrain.{first_traced, first_none, settled_empty}
 use Rattle.hd_mark.proofs.marks.Marks.over.Goals as goal
 
 pub invariant_of-result : goal.invariant_of-result
 invariant_of-result c =
-    let places = (indices c.in_ok-places.places.places.items) in
     let all = c.requires.extent.objects in
-    let numbers = map (λ (a : Addr). a.0) all.members in
+    let fresh : Addr → Bool = λ a. not (contains (set_of c.in_ok-places.places.places.items
+    c.in_ok-marks.marks.words.items) a.0) in
     record {
-      table = c.in_ok-places.ensures.table;
-      few = c.in_ok-places.ensures.few;
-      covers = c.in_ok-places.ensures.covers;
-      span = c.in_ok-places.ensures.span;
+      places = c.in_ok-places.ensures;
       marks_long = c.in_ok-marks.ensures.long;
       pins_long = c.in_ok-pins.ensures.long;
-      members = numbers;
-      apart = pairs_mapped (λ x y. x ≢ y) (λ x y. x ≢ y) (λ (a : Addr). a.0) all.members
-          (λ x y apart same. apart (same_address x y same)) all.apart;
-      all = λ a condemned. mapped_in (λ (x : Addr). x.0) all.members a (all.all a condemned);
+      number = c.args.extent.objects;
+      condemned = record {
+        members = all.members;
+        apart = all.apart;
+        each = all.each;
+        all = all.all;
+        number = all.number;
+      };
       room_left =
-          let most = left_most (set_of places c.in_ok-marks.marks.words.items) numbers in
           let none = ap length c.in-Ok.ensures.items in
-          let number = length-map all.members (λ (a : Addr). a.0) in
-          omega (arith, most, none, number, all.number, c.in-Ok.ensures.capacity);
+          omega (
+            arith,
+            length-filter fresh all.members,
+            count_by-le-length fresh all.members,
+            none,
+            all.number,
+            c.in-Ok.ensures.capacity,
+          );
       within = omega arith;
       traced = subst IsTraced
-          (sym (first_seen c.args.heap.now c.args.n places _ _ _ c.in_ok-marks.ensures.empty
+          (sym (first_seen c.args.heap.now c.args.n _ _ _ c.in_ok-marks.ensures.empty
           c.in_ok-pins.ensures.empty c.in-Ok.ensures.items))
           (first_traced c.args.heap.now c.args.n c.requires.fields);
     }
 
 pub returns-clause-marks : goal.returns-clause-marks
 returns-clause-marks c =
-    first_seen c.args.heap.now c.args.n (indices c.in_ok-places.places.places.items) _ _ _
-    c.in_ok-marks.ensures.empty c.in_ok-pins.ensures.empty c.in-Ok.ensures.items
+    first_seen c.args.heap.now c.args.n _ _ _ c.in_ok-marks.ensures.empty
+    c.in_ok-pins.ensures.empty c.in-Ok.ensures.items
 
 pub returns-clause-settled : goal.returns-clause-settled
 returns-clause-settled c =
     subst IsSettledMarks
-    (sym (first_seen c.args.heap.now c.args.n (indices c.in_ok-places.places.places.items) _ _ _
-    c.in_ok-marks.ensures.empty c.in_ok-pins.ensures.empty c.in-Ok.ensures.items))
-    (settled_empty (first_marks c.args.heap.now c.args.n)
-    (first_traced c.args.heap.now c.args.n c.requires.fields) refl)
+    (sym (first_seen c.args.heap.now c.args.n _ _ _ c.in_ok-marks.ensures.empty
+    c.in_ok-pins.ensures.empty c.in-Ok.ensures.items))
+    (settled_empty (first_traced c.args.heap.now c.args.n c.requires.fields) refl)
 
 pub returns-clause-none : goal.returns-clause-none
 returns-clause-none c =
     subst HasNoneYet
-    (sym (first_seen c.args.heap.now c.args.n (indices c.in_ok-places.places.places.items) _ _ _
-    c.in_ok-marks.ensures.empty c.in_ok-pins.ensures.empty c.in-Ok.ensures.items))
+    (sym (first_seen c.args.heap.now c.args.n _ _ _ c.in_ok-marks.ensures.empty
+    c.in_ok-pins.ensures.empty c.in-Ok.ensures.items))
     (first_none c.args.heap.now c.args.n)

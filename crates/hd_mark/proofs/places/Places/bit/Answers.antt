@@ -7,12 +7,12 @@ pub overflow_mul-result : goal.overflow_mul-result
 unfolding region_of
 overflow_mul-result c =
     let low = index_low c.args.self.now.places.items c.args.self.now.regions (region_of c.args.at)
-    c.index.result.now c.requires.table c.requires.few c.requires.span c.index.ensures in
+    c.index.result.now c.requires.table c.requires.span c.index.ensures in
     omega (arith, low)
 
 pub overflow_add-result : goal.overflow_add-result
 unfolding region_of
 overflow_add-result c =
     let low = index_low c.args.self.now.places.items c.args.self.now.regions (region_of c.args.at)
-    c.index.result.now c.requires.table c.requires.few c.requires.span c.index.ensures in
+    c.index.result.now c.requires.table c.requires.span c.index.ensures in
     omega (arith, low)

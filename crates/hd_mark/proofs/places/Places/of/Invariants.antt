@@ -1,10 +1,10 @@
-use Rattle.hd_mark.proofs.Basics.{indices, length, ◌-◌, ◌≡◌}
+use Rattle.hd_mark.proofs.Basics.{length, ◌-◌, ◌≡◌}
 use Rattle.hd_mark.proofs.CondemnedWalks.{IsPlaced}
 use Rattle.hd_mark.proofs.places.Places.of.Given as goal
 
 abbrev pub invariant-loop-region : goal.invariant-loop-region
 invariant-loop-region l = record {
-  placed : IsPlaced l.heap l.n l.after (indices l.places.items) l.regions;
+  placed : IsPlaced l.heap l.n l.after l.places.items l.regions;
   long : length l.places.items ≡ l.fn.extent.end;
 }
 

@@ -1,6 +1,7 @@
-use Rattle.hd_plan.proofs.Basics.{Basis, Counts, HasCondemned, HasNoEmptyCondemned, Heap, IsClosed, IsCondemned, IsField, IsSettled, PlanOf, ap, length, objects_of, stays_in, subst, sym, true, vec_capacity, ◌∙◌, ◌≡◌, ◌≤◌}
-use Rattle.hd_plan.specs.LaySteps.{HasLayRoom}
-use Rattle.hd_plan.proofs.LaidPlan.{IsLaidFrom, from_heap, laid_from, kept_from, pinned_from, stays_from}
+use Rattle.hd_plan.proofs.Basics.{Basis, Counts, HasCondemned, HasNoEmptyCondemned, Heap, IsClosed, IsCondemned, IsField, IsSettled, IsSound, PlanOf, ap, length, objects_of, room_at, stays_in, subst, sym, true, vec_capacity, ℕ, ◌∙◌, ◌≡◌, ◌≤◌}
+use Rattle.hd_plan.specs.LaySteps.{HasLayRoom, IsLaidTo}
+use Rattle.hd_model.specs.declared.limits.TheConstants.{REGIONS}
+use Rattle.hd_plan.proofs.LaidPlan.{IsLaidFrom, laid_from}
 use Rattle.hd_plan.proofs.plan.Plan.lay.Goals.{After-lay_regions}
 use Rattle.hd_plan.proofs.plan.Plan.lay.Given.{Over}
 use Rattle.hd_plan.proofs.plan.Plan.lay.Goals as goal
@@ -32,27 +33,31 @@ from : (g : Over) (c : After-lay_regions g)
     → IsLaidFrom (laid_of g c) (g.M.Marker.promoted c.args.marker.now) (g.M.Marker.pinned c.args.marker.now)
 from g c =
     let promoted = g.M.Marker.promoted c.args.marker.now in
-    let pinned = g.M.Marker.pinned c.args.marker.now in
+    let n : ℕ = c.self.inside.condemned in
     let basis : c.args.self.now.basis ≡ (laid_of g c).basis =
     sym (ap (λ (p : PlanOf). p.basis) c.self.view_is) in
-    let same : c.self.inside.heap.value ≡ c.args.heap.now =
-    ap (λ (p : PlanOf). p.basis.heap) c.self.view_is ∙ c.requires.heap in
-    from_heap same c.lay_regions.ensures.sound
-    (subst (λ (b : Basis). b.condemned ≤ 2) basis c.requires.taken.generation)
-    c.lay_regions.ensures.laid
+    let same : c.args.heap.now ≡ c.self.inside.heap.value =
+    sym c.requires.heap ∙ ap (λ (b : Basis). b.heap) basis in
+    laid_from (subst IsSound same c.lay_regions.ensures.sound)
+    (subst (λ (h : Heap). IsLaidTo h n promoted (g.M.Marker.pinned c.args.marker.now)
+    c.lay_regions.new.moves.items c.lay_regions.new.regions.items c.lay_regions.new.places.firsts.items
+    c.lay_regions.new.places.cells.items (room_at h c.lay_regions.new.moves.items
+    (length c.lay_regions.new.moves.items)).cursors REGIONS) same c.lay_regions.ensures.laid)
     (subst (λ (b : Basis). IsSettled (objects_of b) b.condemned promoted) (c.requires.marker ∙ basis)
     (g.met.M.Marker.settles c.args.marker.now c.requires.settled))
+    (subst (λ (b : Basis). b.condemned ≤ 2) basis c.requires.taken.generation)
     (subst (λ (b : Basis). IsClosed (IsField (objects_of b)) promoted) basis c.requires.closed)
-    (subst (λ (b : Basis). HasNoEmptyCondemned c.args.heap.now b.condemned) basis c.requires.full)
+    (subst (λ (h : Heap). HasNoEmptyCondemned h n) same
+    (subst (λ (b : Basis). HasNoEmptyCondemned c.args.heap.now b.condemned) basis c.requires.full))
 
 pub returns-clause-laid : goal.returns-clause-laid
-returns-clause-laid g c = laid_from (laid_of g c) _ _ (from g c)
+returns-clause-laid g c = (from g c).laid
 
 pub returns-clause-kept : goal.returns-clause-kept
-returns-clause-kept g c = kept_from (laid_of g c) _ _ (from g c)
+returns-clause-kept g c = (from g c).kept
 
 pub returns-clause-pinned : goal.returns-clause-pinned
-returns-clause-pinned g c = pinned_from (laid_of g c) _ _ (from g c)
+returns-clause-pinned g c = (from g c).in_place
 
 pub returns-clause-stays : goal.returns-clause-stays
 returns-clause-stays g c =
@@ -60,4 +65,4 @@ returns-clause-stays g c =
     (λ (b : Basis). Counts (λ a. IsCondemned (objects_of b) b.condemned a
     × (g.M.Marker.promoted c.args.marker.now a ≡ true) × (g.M.Marker.pinned c.args.marker.now a ≡ true))
     (stays_in (laid_of g c)))
-    (ap (λ (p : PlanOf). p.basis) c.self.view_is) (stays_from (laid_of g c) _ _ (from g c))
+    (ap (λ (p : PlanOf). p.basis) c.self.view_is) (from g c).stays

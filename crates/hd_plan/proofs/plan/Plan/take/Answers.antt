@@ -1,6 +1,6 @@
 use Rattle.hd_plan.proofs.Basics.{Heap, IsExtent, arith, subst, sym}
 use Rattle.std.proofs.lemmas.Result.{err_from_is_err_and}
-use Rattle.hd_plan.proofs.{CondemnedAmounts.extent_spare, FreeRegionCount.spares_at_most}
+use Rattle.hd_plan.proofs.{CondemnedAmounts.extent_spare, CondemnedAmounts.spares_at_most}
 use Rattle.hd_plan.proofs.plan.Plan.take.Goals as goal
 
 pub with_room-requires-clause-found : goal.with_room-requires-clause-found
