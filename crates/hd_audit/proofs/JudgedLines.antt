@@ -135,7 +135,8 @@ module _ {n : Numbers} {lists : List (List Cmd)} {s : State} {done : List ℕ} {
       ∙ length-filter (λ (e : Entry). e.caller == c) j.journal ∙ sym (j.counts c small)
 
   -- the next command of a caller is the first that it has left
-  next_left : (c : ℕ) (cmd : Cmd) → c < n.callers → slice_get (list_of lists c) (get_or done c 0) ≡ Some cmd
+  pub next_left : (c : ℕ) (cmd : Cmd) → c < n.callers
+      → slice_get (list_of lists c) (get_or done c 0) ≡ Some cmd
       → list_of j.rest c ≡ cmd ∷ drop 1 (list_of j.rest c)
   next_left c cmd small is =
       after_taken (commands_of (part_of j.journal c)) (list_of j.rest c) cmd
@@ -145,7 +146,7 @@ module _ {n : Numbers} {lists : List (List Cmd)} {s : State} {done : List ℕ} {
   number_is c small = ap (λ k. k + 1) (sym (j.counts c small))
 
   -- where nothing is left, no caller has a command left
-  left_of : left ≡ 0 → (c : ℕ) → list_of j.rest c ≡ []
+  pub left_of : left ≡ 0 → (c : ℕ) → list_of j.rest c ≡ []
   left_of none c = ⊎_elim (λ small.
       let low = get_or-le-sum_by (λ (list : List Cmd). length list) j.rest c [] small in
       empty_list (list_of j.rest c) (omega (arith, low, none, j.left_is)))

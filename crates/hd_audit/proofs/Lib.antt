@@ -7,7 +7,7 @@ pub mod PlaceRanges
 pub mod PlaceWays
 pub mod RowMaps
 pub mod TableCalls
-mod ChoiceLines
+pub mod ChoiceLines
 pub mod StepWays
 pub mod WeakCalls
 pub mod AttachedLists
@@ -31,3 +31,7 @@ pub mod ListBuilds
 pub mod MarkAdds
 pub mod RootMarks
 pub mod RunTexts
+pub mod LinesBefore
+pub mod EntryChoices
+pub mod KnownFacts
+pub mod AddressIds

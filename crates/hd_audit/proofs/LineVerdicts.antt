@@ -69,11 +69,11 @@ none_after n lists lines line next a b c is right = by _ right refl
 
 -- ---- by the lines of the text
 
-take_of : (xs ys : List (List ℕ)) → take (length xs) (xs ++ ys) ≡ xs
+pub take_of : (xs ys : List (List ℕ)) → take (length xs) (xs ++ ys) ≡ xs
 take_of [] ys = refl
 take_of (x ∷ xs) ys = ap (λ (l : List (List ℕ)). x ∷ l) (take_of xs ys)
 
-take_one : (xs ys : List (List ℕ)) (y : List ℕ) → take (length xs + 1) (xs ++ y ∷ ys) ≡ xs ++ y ∷ []
+pub take_one : (xs ys : List (List ℕ)) (y : List ℕ) → take (length xs + 1) (xs ++ y ∷ ys) ≡ xs ++ y ∷ []
 take_one xs ys y =
     (λ i. take (sym (length-append xs (y ∷ [])) i) (sym (append_assoc xs (y ∷ []) ys) i))
     ∙ take_of (xs ++ y ∷ []) ys

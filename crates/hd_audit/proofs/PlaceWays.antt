@@ -118,7 +118,7 @@ module _ (s : State) where
 
 module _ (caller h : ℕ) (choice : Choice) (old : Judge) where
   -- the outcome of another entry of the way
-  outcome_of : (e : Entry) (after : State) (found : Result Id Refusal) → e.caller ≡ caller
+  pub outcome_of : (e : Entry) (after : State) (found : Result Id Refusal) → e.caller ≡ caller
       → pinned_in old.state caller h ≡ found → (is : RepliesPlace old.state e after h)
       → IsOutcome e (of_pinned old.state is.place found) after
   outcome_of e after found by pinned is =
@@ -153,7 +153,7 @@ module _ (caller h : ℕ) (choice : Choice) (old : Judge) where
             same_entry e caller c (made_of (Err refused)) by of same.slot same.grown same.reply;
       }
 
-  at_place : (c : Cmd) (new : Judge) (id : Id) (p : ℕ) → pinned_in old.state caller h ≡ Ok id
+  pub at_place : (c : Cmd) (new : Judge) (id : Id) (p : ℕ) → pinned_in old.state caller h ≡ Ok id
       → MayReturn old.state id p → new.state ≡ with_place old.state id p
       → RepliesPlace old.state
       (entry_by caller c (record { reply = reply.Place p; slot = None; grown = Zero })) new.state h
@@ -180,7 +180,8 @@ module _ (caller h : ℕ) (choice : Choice) (old : Judge) where
       same_entry e caller c (record { reply = reply.Place p; slot = None; grown = Zero }) by of outcome.slot
       outcome.grown (outcome.reply ∙ ap reply.Place same)
 
-  may_of : (id : Id) (e : Entry) (after : State) → pinned_in old.state caller h ≡ Ok id → e.caller ≡ caller
+  pub may_of : (id : Id) (e : Entry) (after : State) → pinned_in old.state caller h ≡ Ok id
+      → e.caller ≡ caller
       → (is : RepliesPlace old.state e after h) → MayReturn old.state id is.place
   may_of id e after pinned by is = is.may id (its_target e id by pinned)
 

@@ -17,3 +17,5 @@ pub mod SoFar
 pub mod Collecting
 pub mod Found
 pub mod Marking
+pub mod Known
+pub mod Before

@@ -7,16 +7,16 @@ use hd_model::{Grown, Slot};
 
 /// The choice that a line states: its caller, slot and blocks, and the last number of an `addr`.
 #[derive(Clone, Copy)]
-pub(crate) struct Choice {
-    pub(crate) caller: u32,
-    pub(crate) slot: Option<Slot>,
-    pub(crate) grown: Grown,
-    pub(crate) place: u32,
+pub struct Choice {
+    pub caller: u32,
+    pub slot: Option<Slot>,
+    pub grown: Grown,
+    pub place: u32,
 }
 
 impl Choice {
     /// The choice that a line states.
-    pub(crate) fn by(line: &[u8]) -> Choice
+    pub fn by(line: &[u8]) -> Choice
         ensures { result ≡ choice_in line.now }
     {
         Choice {
@@ -85,8 +85,8 @@ fn after_mark(bytes: &[u8], mark: u8) -> Option<&[u8]>
     None
 }
 
-// The number with which the bytes begin, 0 where they begin with none, and modulo 2^32.
-fn leading(bytes: &[u8]) -> u32
+/// The number with which the bytes begin, 0 where they begin with none, and modulo 2^32.
+pub fn leading(bytes: &[u8]) -> u32
     ensures { result ≡ leading bytes.now }
 {
     let mut value: u32 = 0;

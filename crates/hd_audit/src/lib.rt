@@ -2,10 +2,12 @@
 //! It has a machine of its own, on maps and lists, and reads no heap and no table of the runtime.
 #![tactic(auto)]
 
+mod before;
 mod choice;
 mod collecting;
 mod data;
 mod entries;
+mod entry_choice;
 mod handles;
 mod laws;
 mod lines;
@@ -22,5 +24,8 @@ mod store;
 mod table;
 mod weak;
 
-pub use laws::runs_have_no_wrong_line;
-pub use lines::{Verdict, audit};
+pub use before::{Before, state_after};
+pub use choice::{Choice, leading};
+pub use entry_choice::{Entries, PinnedCells};
+pub use laws::{one_state_before, runs_have_no_wrong_line};
+pub use lines::{Verdict, audit, cut_line};

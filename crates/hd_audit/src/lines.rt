@@ -68,8 +68,8 @@ fn judge(
     Ok(judged.end(lines, rest))
 }
 
-// The first line with its end, and the bytes after it.
-fn cut_line(bytes: &[u8]) -> (&[u8], &[u8])
+/// The first line with its end, which the last one may not have, and the bytes after it.
+pub fn cut_line(bytes: &[u8]) -> (&[u8], &[u8])
     requires { 0 < length bytes.now }
     ensures lines { cut_lines bytes.now ≡ result.0.now ∷ cut_lines result.1.now }
     ensures shorter { length result.1.now < length bytes.now }
@@ -99,19 +99,24 @@ fn no_counts(alloc: Global, callers: u32) -> Result<Vec<u32>, Memory>
     }
 }
 
-// What was judged so far: the machine after it, the entries of each caller, the commands that are
-// left, and the collections.
+/// What was judged so far: the machine after it, the entries of each caller, the commands that are
+/// left, and the collections.
 #[derive(Drop)]
-struct Judged {
-    machine: Machine,
-    done: Vec<u32>,
-    left: u32,
-    collections: u32,
+pub(crate) struct Judged {
+    pub(crate) machine: Machine,
+    pub(crate) done: Vec<u32>,
+    pub(crate) left: u32,
+    pub(crate) collections: u32,
 }
 
 impl Judged {
-    // Nothing yet.
-    fn open(alloc: Global, scripts: &Scripts, heap: u32, blocks: u32) -> Result<Judged, Memory>
+    /// Nothing yet.
+    pub(crate) fn open(
+        alloc: Global,
+        scripts: &Scripts,
+        heap: u32,
+        blocks: u32,
+    ) -> Result<Judged, Memory>
         requires { blocks ≤ BLOCKS }
         ensures numbers { let n = numbers_of scripts.now heap blocks in
             IfOk result (λ j. j.machine.numbers ≡ n) }
@@ -129,8 +134,8 @@ impl Judged {
         })
     }
 
-    // The next command of a caller, if it has one.
-    fn next(&self, scripts: &Scripts, caller: u32) -> Option<Cmd>
+    /// The next command of a caller, if it has one.
+    pub(crate) fn next(&self, scripts: &Scripts, caller: u32) -> Option<Cmd>
         requires { length self.now.done.items ≡ length scripts.now }
         ensures command { result ≡ slice_get (slice_index_or scripts.now caller [])
             (slice_index self.now.done.items caller) }
@@ -144,8 +149,8 @@ impl Judged {
         }
     }
 
-    // Whether a line is the full line of the next entry of its caller. Its step is taken then.
-    fn take_line(&mut self, scripts: &Scripts, line: &[u8]) -> Result<bool, Memory>
+    /// Whether a line is the full line of the next entry of its caller. Its step is taken then.
+    pub(crate) fn take_line(&mut self, scripts: &Scripts, line: &[u8]) -> Result<bool, Memory>
         requires some { 0 < self.old.left }
         requires along { (lines : List (List ℕ)) × Along scripts.now self.old lines }
         ensures { IfOk result (TakesLine scripts.now self.old line.now self.new) }

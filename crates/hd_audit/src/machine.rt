@@ -1,5 +1,5 @@
 // The state of the judge's machine, and what its commands read and write there.
-ghost use Rattle.std.specs.Prelude.{◌≡◌, ℕ, ◌+◌, ◌*◌, ◌/◌, ◌<◌, ◌≤◌, ◌^◌, [], ◌∷◌, ◌++◌, replicate, length, slice_set, Some, None, IsSome, IfOk, IfSome, IfNone, MatchResult, MatchOption, IsTrue, ◌↔◌, option_map, option_copied};
+ghost use Rattle.std.specs.Prelude.{◌≡◌, ℕ, ◌+◌, ◌*◌, ◌/◌, ◌<◌, ◌≤◌, ◌^◌, [], ◌∷◌, ◌++◌, replicate, length, slice_set, Some, None, IsSome, IfOk, IfSome, IfNone, MatchResult, MatchOption, AllPairs, Contains, IsTrue, ◌↔◌, option_map, option_copied};
 ghost use Rattle.hd_model.specs.{Places.IsFreePlace, UserLaws.HasPlacesApart, WellFormed.IsWellFormed};
 ghost use Rattle.std.specs.FinMap as map;
 ghost use Rattle.std.specs.FinMap.{get, len};
@@ -11,6 +11,7 @@ ghost use Rattle.hd_model.specs.State.{given_of, handles_of, use_of as block_use
 ghost use Rattle.hd_audit.specs.View.{handle_of, entry_of, use_of};
 ghost use Rattle.hd_audit.specs.declared.data.Edit.TheVariants as edit;
 ghost use Rattle.hd_audit.specs.Judge.{Becomes};
+ghost use Rattle.hd_audit.specs.Pinned.{IsBelow};
 ghost use Rattle.hd_audit.specs.Commands.{Edits, MayUse};
 ghost use Rattle.hd_audit.specs.Inside.{slots_of, IsUnnamed};
 
@@ -485,6 +486,15 @@ impl Machine {
         ensures { result ≡ get self.now.state.places id.0 }
     {
         self.places.of(id)
+    }
+
+    /// The objects that have one, in rising address.
+    pub(crate) fn ids_by_address(&self, alloc: Global) -> Result<Vec<u64>, Memory>
+        ensures all { IfOk result (λ ids. (id : ℕ)
+            → Contains ids.items id ↔ IsSome (get self.now.state.places id)) }
+        ensures rising { IfOk result (λ ids. AllPairs (IsBelow self.now.state.places) ids.items) }
+    {
+        self.places.ids_by_address(alloc)
     }
 
     /// Whether an address is free for an object.

@@ -33,8 +33,8 @@ fn extra_by(machine: &Machine, caller: u32, make: Make, target: Option<Id>) -> E
     }
 }
 
-// Whether a slot is a free one of a kind.
-fn is_free(machine: &Machine, kind: Kind, slot: Slot) -> bool
+/// Whether a slot is a free one of a kind.
+pub(crate) fn is_free(machine: &Machine, kind: Kind, slot: Slot) -> bool
     ensures { IsTrue result ↔ IsFree machine.now.state kind slot }
 {
     machine.handle(slot).is_none()
@@ -150,8 +150,8 @@ pub(crate) fn make_handle(
     Some(Ok(Made::in_slot(slot, choice.grown)))
 }
 
-// Whether all slots of a block are free slots of a kind.
-fn is_all_free(machine: &Machine, kind: Kind, block: u32) -> bool
+/// Whether all slots of a block are free slots of a kind.
+pub(crate) fn is_all_free(machine: &Machine, kind: Kind, block: u32) -> bool
     requires { IsWellFormed machine.now.numbers machine.now.state }
     ensures { IsTrue result ↔ IsAllFree machine.now.state kind block }
 {
@@ -194,8 +194,8 @@ pub(crate) fn trim(
     }))
 }
 
-// The object that the handle in hS pins, or why it pins none.
-fn pinned_in(machine: &Machine, caller: u32, h: u8) -> Result<Id, Refusal>
+/// The object that the handle in hS pins, or why it pins none.
+pub(crate) fn pinned_in(machine: &Machine, caller: u32, h: u8) -> Result<Id, Refusal>
     requires caller { caller < machine.now.numbers.callers }
     requires register { h < REGISTERS }
     ensures { result ≡ pinned_in machine.now.state caller h }

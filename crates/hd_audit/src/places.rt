@@ -1,12 +1,13 @@
 // The pinned addresses, by object and by address. No two of them overlap, so an address is free
 // where its two neighbours leave room.
-ghost use Rattle.std.specs.Prelude.{◌≡◌, ◌≢◌, ℕ, ◌+◌, ◌<◌, ◌≤◌, ◌↔◌, length, Some, None, IsTrue, IfOk, MatchResult};
+ghost use Rattle.std.specs.Prelude.{◌≡◌, ◌≢◌, ℕ, ◌+◌, ◌<◌, ◌≤◌, ◌↔◌, ◌++◌, length, Some, None, IsTrue, IfOk, IsSome, MatchResult, AllPairs, Contains};
 ghost use Rattle.std.specs.FinMap as map;
 ghost use Rattle.std.specs.FinMap.{get};
+ghost use Rattle.std.specs.Option.{option_to_list};
 ghost use Rattle.hd_model.specs.declared.limits.TheConstants.{FIELDS};
 ghost use Rattle.hd_model.specs.Places.{Range};
 ghost use Rattle.hd_audit.specs.Judge.{IsApart, AreApart, object_in};
-ghost use Rattle.hd_audit.specs.Pinned.{EndBefore, BeginAfter};
+ghost use Rattle.hd_audit.specs.Pinned.{EndBefore, BeginAfter, IsBelow};
 
 use crate::numbered::Numbered;
 use crate::store::Objects;
@@ -123,6 +124,20 @@ impl Places {
         self.by_id.keys(alloc)
     }
 
+    /// The objects that have one, in rising address.
+    pub(crate) fn ids_by_address(&self, alloc: Global) -> Result<Vec<u64>, Memory>
+        ensures all { IfOk result (λ ids. (id : ℕ)
+            → Contains ids.items id ↔ IsSome (get self.now id)) }
+        ensures rising { IfOk result (λ ids. AllPairs (IsBelow self.now) ids.items) }
+    {
+        let mut ids = Vec::new(alloc);
+        let places = self.by_place.keys(alloc)?;
+        for place in &places {
+            push_owner(&self.by_place, *place, &mut ids)?;
+        }
+        Ok(ids)
+    }
+
     /// Forgets that of an object.
     pub(crate) fn take(&mut self, id: u64)
         ensures { self.new ≡ map.remove self.old id }
@@ -130,5 +145,19 @@ impl Places {
         if let Some(place) = self.by_id.remove(id) {
             let _ = self.by_place.remove(u64::from(place));
         }
+    }
+}
+
+// Appends the object at an address, where there is one.
+fn push_owner(by_place: &Numbered<u64>, place: u64, ids: &mut Vec<u64>) -> Result<(), Memory>
+    ensures { IfOk result (λ _. ids.new.items
+        ≡ ids.old.items ++ option_to_list (get by_place.now place)) }
+{
+    let Some(id) = by_place.get(place) else {
+        return Ok(());
+    };
+    match ids.push(*id) {
+        Ok(_) => Ok(()),
+        Err(_) => Err(Memory),
     }
 }

@@ -1,7 +1,8 @@
 // One step of the machine by the choice that a line states.
-ghost use Rattle.std.specs.Prelude.{◌≡◌, Some, IfOk, IsTrue};
+ghost use Rattle.std.specs.Prelude.{◌≡◌, true, Some, IfOk, IsTrue};
 ghost use Rattle.hd_model.specs.Step.{way_of};
 ghost use Rattle.hd_audit.specs.declared.choice.Choice.{Choice};
+ghost use Rattle.hd_audit.specs.Before.{has_one_step, HasOne};
 ghost use Rattle.hd_audit.specs.Commands.{MayStep, StepsBy, WayComesTo, entry_by, is_plain, made_of};
 
 use crate::choice::Choice;
@@ -39,6 +40,38 @@ impl Machine {
             Some(made) => Ok(Some(entry_of(choice.caller, cmd, made))),
             None => Ok(None),
         }
+    }
+
+    /// Takes the step of a caller's command that has one entry, and returns it.
+    pub(crate) fn settle(&mut self, caller: u32, cmd: Cmd) -> Result<Entry, Memory>
+        requires may { MayStep self.old caller cmd }
+        requires one { has_one_step cmd ≡ true }
+        ensures { IfOk result (HasOne self.old.numbers self.old.state caller cmd) }
+    {
+        Ok(entry_of(caller, cmd, settled(self, caller, cmd)?))
+    }
+}
+
+// What a command that has one entry comes to, whatever a line states.
+fn settled(machine: &mut Machine, caller: u32, cmd: Cmd) -> Result<Result<Made, Refusal>, Memory>
+    requires may { MayStep machine.old caller cmd }
+    requires one { has_one_step cmd ≡ true }
+    ensures { let way = way_of machine.old.state caller cmd in
+        IfOk result (λ made. (choice : Choice)
+        → WayComesTo caller way choice machine.old machine.new (Some made)) }
+{
+    if is_plain(cmd) {
+        return Ok(decide(machine, caller, cmd));
+    }
+    match cmd {
+        Cmd::Collect { n } => {
+            let report = machine.collect(n)?;
+            Ok(Ok(Made::of(Reply::Report(report))))
+        }
+        Cmd::GcRoot { s } => Ok(machine.reply_root(caller, s)?),
+        Cmd::New { d, fields, fin } => Ok(machine.make_object(caller, d, fields, fin)?),
+        Cmd::CRemove { k } => Ok(machine.remove_entry(caller, k)?),
+        _ => unreachable!(),
     }
 }
 

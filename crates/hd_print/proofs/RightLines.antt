@@ -1,15 +1,15 @@
 -- Lines that are right have ends, and so are their prefixes; so a text has one number of a line that is not.
-use Rattle.hd_print.proofs.Basics.{Entry, List, [], ap, append_assoc, arith, codes, decimal, drop, length, length-append, numbered_after, refl, subst, sym, take, take-append-drop, take_all, ℕ, ⊎_elim, ◌++◌, ◌+◌, ◌<◌, ◌∙◌, ◌∷◌, ◌≡◌, ◌≤◌}
+use Rattle.hd_print.proofs.Basics.{Entry, List, [], ap, append_assoc, arith, codes, decimal, drop, length, length-append, numbered_after, refl, subst, sym, take, take-append-drop, take_all, ℕ, ⊎_elim, ◌++◌, ◌+◌, ◌<◌, ◌∙◌, ◌∷◌, ◌≡◌}
 use Rattle.std.specs.Prelude.{suc, zero, All}
 use Rattle.std.proofs.{lemmas.Bool.cases_lt, lemmas.List.take-take, lemmas.List.take-append-le, lemmas.List.Elements.All-nil, lemmas.List.Elements.All-cons, lemmas.List.Elements.All-push}
 use Rattle.hd_model.specs.declared.command.Cmd.{Cmd}
-use Rattle.hd_model.specs.State.{Numbers, State, start_of}
+use Rattle.hd_model.specs.State.{Numbers, State}
 use Rattle.hd_model.specs.Step.{Step}
 use Rattle.hd_model.specs.Run.{Chain, stay, link}
 use Rattle.hd_model.specs.Text.{collections_of}
 use Rattle.std.specs.FinMap.{len}
 use Rattle.hd_model.specs.FullText.{full_line, full_lines, end_of}
-use Rattle.hd_model.specs.Judged.{cut_lines, GoesAlong, AreRight, so_far, at_the_end, IsNoRun, wrong, missing}
+use Rattle.hd_model.specs.Judged.{cut_lines, GoesAlong, AreRight, so_far, at_the_end, wrong, missing}
 use Rattle.hd_print.specs.VerdictLaws.{HasEnd, RightLinesHaveEnds, OneLineIsWrong}
 use Rattle.hd_print.proofs.JudgedRuns.{own, own-append, next_number}
 
@@ -61,7 +61,8 @@ so_far_take n lists j s left i along =
     } in
     subst (AreRight n lists) (sym (take_numbered full_line i [] j)) (so_far shorter)
 
-right_take : (n : Numbers) (lists : List (List Cmd)) (i : ℕ) (lines : List (List ℕ)) → AreRight n lists lines
+pub right_take : (n : Numbers) (lists : List (List Cmd)) (i : ℕ) (lines : List (List ℕ))
+    → AreRight n lists lines
     → AreRight n lists (take i lines)
 right_take n lists i _ (so_far {journal = j} {s = s} {left = left} along) =
     so_far_take n lists j s left i along

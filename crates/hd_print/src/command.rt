@@ -173,7 +173,7 @@ fn strength_name(strength: Strength) -> &'static str
 }
 
 /// The word for a kind of handle.
-pub(crate) fn kind_name(kind: Kind) -> &'static str
+pub fn kind_name(kind: Kind) -> &'static str
     ensures word { result.now ≡ kind_name kind }
     ensures short { length result.now ≤ 6 }
 {

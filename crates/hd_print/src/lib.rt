@@ -10,9 +10,10 @@ mod line;
 mod reply;
 mod roots;
 
-pub use command::command_line;
+pub use command::{command_line, kind_name};
 pub use end::{end_line, load_line};
 pub use entries::{entry_line, full_line, write_entries, write_full};
 pub use laws::{full_lines_determine_entries, one_line_is_wrong, right_lines_have_ends};
 pub use line::Line;
+pub use reply::reply_line;
 pub use roots::{root_line, roots_line};

@@ -109,3 +109,12 @@ pub(crate) fn push_reply(line: &mut Line, reply: Reply)
         Reply::Refused(refusal) => push_refusal(line, refusal),
     }
 }
+
+/// A reply, without the end of a line.
+pub fn reply_line(reply: Reply) -> Line
+    ensures { result ≡ reply_text reply }
+{
+    let mut line = Line::new();
+    push_reply(&mut line, reply);
+    line
+}

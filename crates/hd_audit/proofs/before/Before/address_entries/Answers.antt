@@ -1,0 +1,37 @@
+use Rattle.std.proofs.Common.{refl, subst, sym, ◌<◌}
+use Rattle.hd_model.specs.declared.command.Cmd.TheVariants.{AddrOf}
+use Rattle.hd_model.specs.declared.data.Entry.{Entry}
+use Rattle.hd_audit.specs.Before.{HasExactly, HasOne, ReturnsFree}
+use Rattle.hd_audit.specs.Known.{Known}
+use Rattle.hd_audit.proofs.EntryChoices.{address_again, address_free, address_refused}
+use Rattle.hd_audit.proofs.before.Before.address_entries.Goals as goal
+
+pub returns-in-Err : goal.returns-in-Err
+returns-in-Err c =
+    let j = c.self.inside.judged.machine in
+    let cmd = AddrOf c.args.s in
+    subst (λ (k : Known). HasOne k.numbers k.state c.args.caller cmd c.refused.result) c.self.view_is
+    (subst (λ (e : Entry). HasOne j.numbers j.state c.args.caller cmd e) (sym c.refused.ensures)
+    (address_refused j.numbers j.state c.args.caller cmd
+    (subst (λ (k : Known). c.args.caller < k.numbers.callers) (sym c.self.view_is) c.requires.caller)
+    c.requires.valid c.args.s refl c.in-Err.refusal (sym c.in-Err.ensures)))
+
+pub returns-in-Some : goal.returns-in-Some
+returns-in-Some c =
+    let j = c.self.inside.judged.machine in
+    let cmd = AddrOf c.args.s in
+    subst (λ (k : Known). HasOne k.numbers k.state c.args.caller cmd c.done.result) c.self.view_is
+    (subst (λ (e : Entry). HasOne j.numbers j.state c.args.caller cmd e) (sym c.done.ensures)
+    (address_again j.numbers j.state c.args.caller cmd
+    (subst (λ (k : Known). c.args.caller < k.numbers.callers) (sym c.self.view_is) c.requires.caller)
+    c.requires.valid c.args.s refl c.in-Ok.id c.in-Some.own (sym c.in-Ok.ensures) (sym c.in-Some.ensures)))
+
+pub returns-in-None : goal.returns-in-None
+returns-in-None c =
+    let j = c.self.inside.judged.machine in
+    let cmd = AddrOf c.args.s in
+    subst (λ (k : Known). HasExactly k.numbers k.state c.args.caller cmd (ReturnsFree k.state c.in-Ok.id))
+    c.self.view_is
+    (address_free j.numbers j.state c.args.caller cmd
+    (subst (λ (k : Known). c.args.caller < k.numbers.callers) (sym c.self.view_is) c.requires.caller)
+    c.requires.valid c.args.s refl c.in-Ok.id (sym c.in-Ok.ensures) (sym c.in-None.ensures))

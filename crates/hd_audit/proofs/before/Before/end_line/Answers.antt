@@ -1,0 +1,6 @@
+use Rattle.std.proofs.Common.{arith}
+use Rattle.hd_audit.proofs.JudgedLines.{objects_fit}
+use Rattle.hd_audit.proofs.before.Before.end_line.Goals as goal
+
+pub overflow_cast-objects : goal.overflow_cast-objects
+overflow_cast-objects c = omega (arith, objects_fit c.self.invariant.1, c.objects_len-objects.ensures)
