@@ -5,10 +5,10 @@ use Rattle.std.proofs.lemmas.Nat.Bits.{bit_at_ones}
 use mathlib.Core.Option.{some}
 use lib.ListN.{get_elem?}
 use Rattle.hd_custody.specs.Traces.{every_row, follow, sweep, missed, ending}
-use Rattle.hd_world.specs.World.{Takes as TakesOffer}
-use Rattle.hd_gate.specs.declared.change.Change.TheVariants.{GivesBack as Gives}
+use Rattle.hd_store.specs.Offers.{Takes as TakesOffer}
+use Rattle.hd_slots.specs.declared.change.Change.TheVariants.{GivesBack as Gives}
 use Rattle.hd_gate.proofs.HandleMake.{free_among_held}
-use Rattle.hd_gate.proofs.StepLiveSlots.{in_state, zero_is_not_one, is_trim}
+use Rattle.hd_slots.proofs.StepLiveSlots.{in_state, zero_is_not_one, is_trim}
 use Rattle.hd_gate.proofs.GateLeave.{Finds, SameSeat, same_seat, Leaves, leaves, every_nil, held_stays}
 use Rattle.std.specs.FinMap as map
 use Rattle.hd_model.specs.declared.data.Reply.TheVariants as reply

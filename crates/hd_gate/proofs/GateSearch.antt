@@ -1,6 +1,6 @@
 -- A slot that was looked for with the gate: its caller is as if it had been looked for before.
 use Rattle.hd_gate.proofs.Basics.{Adds, Bool, Cmd, Dependent, Entered, Entry, Every, Fresh, GrowsByBlocks, IfSome, IsIdle, IsOffer, KindIs, Known, Looked, LooksWhere, MayGrant, None, Option, Slot, Some, StepOf, Stepped, TableId, Takes, View, WorldView, Zero, [], ap, block_of, called, change_in, change_of, cond, every_cons, extra_block, false, ghosts, handle_block, kind_number, looks_with_gate, needs_slot, offered, refl, slot_block, slot_number, subst, sym, took, true, with_grown, ℕ, ◌+◌, ◌∙◌, ◌≡◌, ◌≢◌, ◌≤◌}
-use Rattle.hd_gate.proofs.StepLiveSlots.{LeavesThem, asks_for, adds_none}
+use Rattle.hd_slots.proofs.StepLiveSlots.{LeavesThem, asks_for, adds_none}
 use Rattle.hd_gate.proofs.GateLeave.{well_formed, every_nil, Leaves}
 use Rattle.hd_gate.proofs.{HandleMake.may_offer, HandleMake.made, PlainTurn.plain_leaves}
 

@@ -1,7 +1,7 @@
 -- `hfree`: what its caller has once it left the gate, and once it let the slot go.
 use Rattle.hd_gate.proofs.Basics.{BLOCKS, Change, Cmd, Entered, Entry, Follows, Frees, Handle, HasAs, HasDone, Id, IfSome, IsIdle, Kind, Known, LookedFor, None, Numbers, Option, ROWS, ReleasesFreed, ReleasesOne, SearchView, Slot, SlotCalls, Some, StepOf, Stepped, TableId, Turned, View, WorldView, [], ap, arith, asks_of, block_of, caller_view_of, cases_eq, change_in, change_of, cond, eq-eqb, freed_in, gave_back, get, ghosts, handles_of, inl, inr, is_some, kind_in_use, kind_number, kind_word, looks_with_gate, not, option_map, refl, search_of, subst, sym, took, true, use_of, without, ℕ, ◌+◌, ◌-◌, ◌/◌, ◌||◌, ◌∙◌, ◌∷◌, ◌≡◌, ◌≢◌, ◌≤◌}
 use lib.ListN.{get_elem?}
-use Rattle.hd_gate.proofs.StepLiveSlots.{in_state, is_free, LeavesSlots, IsFreed, FreesAt, frees_at}
+use Rattle.hd_slots.proofs.StepLiveSlots.{in_state, is_free, LeavesSlots, IsFreed, FreesAt, frees_at}
 use Rattle.hd_gate.proofs.GateLeave.{well_formed, idle_of, goes_on, done_after, held_stays, held_ends}
 use Rattle.hd_model.specs.declared.data.Reply.TheVariants as reply
 

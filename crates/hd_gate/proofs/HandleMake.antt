@@ -3,7 +3,7 @@ use Rattle.hd_gate.proofs.Basics.{Back, BlockUse, Bool, Change, Cmd, Entered, En
 use mathlib.Core.Option.{some}
 use lib.ListN.{get_elem?}
 use Rattle.hd_custody.specs.{Views.GrowsByBlocks as GrowsKind, Misses.WholeMiss, Traces.Did}
-use Rattle.hd_gate.proofs.StepLiveSlots.{use_by_word, neither, asks_for, IsNowLive, TakesOrIsFull, takes_or_full, TakesIt, GrowsBy, takes_it, grows_by}
+use Rattle.hd_slots.proofs.StepLiveSlots.{use_by_word, neither, asks_for, IsNowLive, TakesOrIsFull, takes_or_full, TakesIt, GrowsBy, takes_it, grows_by}
 use Rattle.hd_gate.proofs.GateLeave.{well_formed, Finds, SameSeat, same_seat, Leaves, leaves, held_stays, held_lives}
 use Rattle.std.specs.FinMap as map
 use Rattle.hd_model.specs.declared.data.Refusal.TheVariants as refusal

@@ -1,8 +1,6 @@
 pub mod Basics
-pub mod TiedPool
-pub mod PoolStep
+pub mod PoolCall
 pub mod CallerOpen
-pub mod StepLiveSlots
 pub mod PlainTurn
 pub mod HandleMake
 pub mod GateSearch

@@ -1,7 +1,7 @@
 -- A command that leaves the slots as they are.
 use Rattle.hd_gate.proofs.Basics.{Adds, Bool, Change, Cmd, Dependent, Entered, Entry, Err, FitsHeap, Follows, Frees, GivesBack, IsIdle, Keeps, Known, LookedFor, MatchResult, None, Numbers, Ok, Result, Run, SearchView, SlotCalls, State, Stayed, Stepped, TableId, Takes, View, WantsMemory, WorldView, adding_of, ap, arith, asks_of, caller_view_of, change_in, change_of, cond, false, gave_back, get, ghosts, handle_slot, inl, kind_word, length, looks_with_gate, needs_new, no_room, part_of, refl, search_of, subst, sym, took, true, unchanged, ℕ, ◌+◌, ◌-◌, ◌∙◌, ◌≡◌, ◌≤◌}
 use Rattle.hd_model.specs.declared.data.Memory.{Memory}
-use Rattle.hd_gate.proofs.StepLiveSlots.{LeavesThem, LeavesSlots, leaves_slots}
+use Rattle.hd_slots.proofs.StepLiveSlots.{LeavesThem, LeavesSlots, leaves_slots}
 use Rattle.hd_gate.proofs.GateLeave.{well_formed, Leaves, leaves, held_stays}
 use Rattle.hd_model.specs.declared.command.Cmd.TheVariants as cmd
 

@@ -5,7 +5,8 @@ use Rattle.hd_model.specs.declared.data.Refusal.TheVariants as refusal
 use Rattle.hd_model.specs.declared.data.Reply.TheVariants as reply
 use Rattle.hd_model.specs.declared.command.Cmd.TheVariants as cmd
 use Rattle.hd_model.specs.Run.{SoloStep, NoneFree, NoneAllFree}
-use Rattle.hd_world.specs.World.{WorldView, handle_slot, asks_of}
+use Rattle.hd_store.specs.Offers.{handle_slot, asks_of}
+use Rattle.hd_world.specs.World.{WorldView}
 
 -- a call that was done: its entry is the one more in the journal, and a step of one thread
 pub record HasCalled (old new : WorldView) (caller : ℕ) (command : Cmd) (answer : Reply) : Type 0 where

@@ -1,5 +1,3 @@
-pub mod Change
-pub mod Tied
 pub mod Alone
 pub mod Shared
 pub mod Laws

@@ -7,9 +7,9 @@ use Rattle.hd_model.specs.declared.data.Reply.TheVariants as reply
 use Rattle.hd_model.specs.State.{Numbers, State, handles_of, use_of, block_of}
 use Rattle.hd_custody.specs.Traces.{Did, follow, sweep, missed, push, found}
 use Rattle.hd_custody.specs.{Calls.ShowsNone, Misses.WholeMiss, Views.Named, Views.IsPrefix}
-use Rattle.hd_world.specs.World.{Asks, object_room, handle_slot, block_back, no_room, asks_of, FitsHeap}
-use Rattle.hd_gate.specs.{declared.change.Change.Change, Change.change_in, Change.change_of}
-use Rattle.hd_gate.specs.declared.change.Change.TheVariants.{Takes, Adds, Frees, GivesBack, Keeps}
+use Rattle.hd_store.specs.Offers.{Asks, object_room, handle_slot, block_back, no_room, asks_of, FitsHeap}
+use Rattle.hd_slots.specs.{declared.change.Change.Change, Change.change_in, Change.change_of}
+use Rattle.hd_slots.specs.declared.change.Change.TheVariants.{Takes, Adds, Frees, GivesBack, Keeps}
 
 -- of the last call that looked for slots or released one: the steps on the shared words, how many such calls
 -- there were, and whether the caller held no slot, and whether it had the gate, as that one began

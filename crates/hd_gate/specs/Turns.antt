@@ -3,7 +3,8 @@ use Rattle.std.specs.Prelude.{◌≡◌, ◌↔◌, ℕ, ◌+◌, ◌≤◌, Boo
 use Rattle.hd_model.specs.{declared.data.Entry.Entry, declared.data.Grown.Grown, declared.data.Kind.Kind, declared.data.Kind.TheVariants.Dependent, declared.held.Held.Ghosts, declared.data.Reply.Reply, declared.data.Slot.Slot, declared.limits.TheConstants.BLOCKS, declared.command.Cmd.Cmd, Kinds.kind_number, Run.Run, Valid.IsValid, Valid.takes_memory}
 use Rattle.hd_model.specs.declared.data.Grown.TheVariants.{Zero, One, Two, Back}
 use Rattle.hd_model.specs.State.{State, use_of, block_of}
-use Rattle.hd_world.specs.{Applied.Applied, StateHeap.IsOfJournal, World.WorldView, World.RanOut, Growth.kind_in_use}
+use Rattle.hd_store.specs.{Offers.RanOut, Growth.kind_in_use}
+use Rattle.hd_world.specs.{Applied.Applied, StateHeap.IsOfJournal, World.WorldView}
 use Rattle.hd_custody.specs.{declared.view.View.View, Misses.WholeMiss}
 use Rattle.hd_custody.specs.Views.{Named, Known, numbers_of, granted, closed, Fresh, KindIs}
 use Rattle.hd_custody.specs.Calls.{slot_number, Allocates, Releases}

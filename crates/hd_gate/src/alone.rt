@@ -1,12 +1,13 @@
 ghost use Rattle.std.specs.Prelude.{◌≡◌, ◌<◌, ◌≤◌, IsTrue, IfOk, OnErr};
 ghost use Rattle.hd_model.specs.{State.start_of, Valid.IsValid, Valid.takes_memory};
-ghost use Rattle.hd_world.specs.World.{FitsHeap};
+ghost use Rattle.hd_store.specs.Offers.{FitsHeap};
 ghost use Rattle.hd_gate.specs.Alone.{HasCalled, FindsFullExactly, TrimsExactly};
 
-use crate::change::{change_in, note, offer};
+use crate::change::change_in;
 use crate::step::step;
 use hd_model::{Cmd, Memory, Reply};
 use hd_pool::Pool;
+use hd_slots::{note, offer};
 use hd_world::World;
 use std::alloc::Global;
 use std::marker::Model;
@@ -20,7 +21,7 @@ pub struct Alone {
 
 impl Model for Alone {
     ghost use Rattle.hd_world.specs.World.{WorldView, world_view_code};
-    ghost use Rattle.hd_gate.specs.Tied.{IsTied};
+    ghost use Rattle.hd_slots.specs.Tied.{IsTied};
 
     ghost Value = { WorldView };
 

@@ -1,7 +1,8 @@
 ghost use Rattle.std.specs.Prelude.{◌≡◌, ◌<◌, IfOk, MatchResult};
 ghost use Rattle.hd_model.specs.Valid.{IsValid};
 ghost use Rattle.hd_gate.specs.Turns.{Stepped, WantsMemory};
-ghost use Rattle.hd_world.specs.World.{MayApply, needs_slot};
+ghost use Rattle.hd_store.specs.Offers.{needs_slot};
+ghost use Rattle.hd_world.specs.World.{MayApply};
 
 use crate::step::step;
 use hd_model::{Cmd, Entry, Held, Memory, Slot};

@@ -3,16 +3,16 @@ ghost use Rattle.std.specs.Prelude.{◌≡◌, ◌≢◌, ◌<◌, ◌≤◌, �
 ghost use Rattle.hd_model.specs.{Kinds.kind_number, Kinds.is_paired, State.first_slot, Valid.takes_memory};
 ghost use Rattle.hd_custody.specs.Counts.{Has, HasAs};
 ghost use Rattle.hd_custody.specs.Views.{GrowsByBlocks, MayGrant, handle_block, extra_block};
-ghost use Rattle.hd_gate.specs.Change.{change_of};
-ghost use Rattle.hd_gate.specs.declared.change.Change.TheVariants.{Takes, Adds, Frees, GivesBack, Keeps};
+ghost use Rattle.hd_slots.specs.Change.{change_of};
+ghost use Rattle.hd_slots.specs.declared.change.Change.TheVariants.{Takes, Adds, Frees, GivesBack, Keeps};
 ghost use Rattle.hd_gate.specs.Turns.{MayTurn, Turned, Stayed, Stepped, Looked, LooksWhere, with_grown, without_gathered, freed_in, ReleasesFreed};
 ghost use Rattle.hd_world.specs.World.{MayApply};
 
 use crate::boxed::Boxed;
-use crate::change::{Change, change_of};
 use hd_custody::{Custody, Seat};
 use hd_model::limits::{BLOCKS, ROWS};
 use hd_model::{Cmd, Entry, Grown, Held, Kind, Memory, Reply, Slot};
+use hd_slots::{Change, change_of};
 use std::sync::Wait;
 
 /// Does a command of the caller with this number, whose seat holds no slot before and after it.

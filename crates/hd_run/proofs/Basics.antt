@@ -62,4 +62,5 @@ pub use Rattle.hd_run.specs.declared.outcome.Kept.{Kept}
 pub use Rattle.hd_run.specs.declared.outcome.Kept.TheVariants.{Alone, Nothing, Shared}
 pub use Rattle.hd_run.specs.declared.outcome.Outcome.{Outcome}
 pub use Rattle.hd_run.specs.declared.request.Request.{Request}
-pub use Rattle.hd_world.specs.World.{FitsHeap, WorldView}
+pub use Rattle.hd_store.specs.Offers.{FitsHeap}
+pub use Rattle.hd_world.specs.World.{WorldView}

@@ -2,7 +2,8 @@
 -- taken so is this project's own.
 use Rattle.std.specs.Prelude.{◌≡◌, ℕ, ◌+◌, ◌≤◌, List, [], ◌∷◌, ◌++◌, map, filter, length, slice_index_or, ◌==◌, IsTrue, sum_by}
 use Rattle.hd_model.specs.{declared.command.Cmd.Cmd, declared.data.Entry.Entry, declared.limits.TheConstants.CALLERS, State.Numbers, State.start_of, Run.SoloRun, Valid.takes_memory}
-use Rattle.hd_world.specs.World.{WorldView, FitsHeap}
+use Rattle.hd_store.specs.Offers.{FitsHeap}
+use Rattle.hd_world.specs.World.{WorldView}
 
 -- the commands of a caller in a script
 abbrev pub list_of : List (List Cmd) → ℕ → List Cmd

@@ -1,48 +1,9 @@
 -- What a world's journal states before a command, and that it is a run after it. Only the state of the
 -- machine has pinned addresses.
-use Rattle.hd_world.proofs.StoreWords.{AgedRun, Asks, Cmd, Entry, FinMap, GrowsFor, GrowsUnoffered, HasHandles, HasLimits, HasWeakTable, IsOffer, IsTrueRun, IsWellFormed, KeepsPlaces, List, Machine, MayOffer, Moves, None, Numbers, Option, Run, Slot, Some, State, Step, TakesSteps, [], aged_by, ap, arith, asks_of, block_back, empty, get, handle_slot, identity_of, last_serial, length, nat_cmp, no_room, nothing_at, object_room, replicate, same_places, start_of, stay, subst, sym, with_places, ℕ, ◌*◌, ◌++◌, ◌+◌, ◌<◌, ◌^◌, ◌∷◌, ◌≡◌}
-use Rattle.hd_model.proofs.{StepChains.aged_run_is_run, StepChains.push, RunCounts.fresh, Serials.last_serial-le, Serials.count-le, WellFormedSteps.run_is_well_formed}
-use Rattle.hd_world.specs.{Counts.HasSmallCounts, Placed.Placed}
-
--- what steps an entry takes does not depend on pinned addresses
-pub steps_placed : (s : State) (p : FinMap nat_cmp ℕ) (ages : List ℕ) (e : Entry) (before after : ℕ)
-    → TakesSteps s ages e before after → TakesSteps (with_places s p) ages e before after
-steps_placed s p ages e before after is = record {
-  others = is.others;
-  searches = is.searches;
-  collects = is.collects;
-}
-
--- nor does what is offered, and whether the table grows
-module _ (n : Numbers) (s : State) (p : FinMap nat_cmp ℕ) where
-  pub offer_placed : (caller : ℕ) (c : Cmd) (o : Option Slot) → IsOffer (with_places s p) caller c o
-      → IsOffer s caller c o
-  offer_placed caller c None is = tt
-  offer_placed caller c (Some slot) is = by (asks_of s caller c) is
-    where
-      by : (a : Asks) → MayOffer (with_places s p) a slot → MayOffer s a slot
-      by (object_room fields) is = is
-      by (handle_slot kind) is =
-          record { no_handle = is.no_handle; not_weak = is.not_weak; of_kind = is.of_kind }
-      by (block_back kind) is = (
-        is.0,
-        λ other same.
-            let free = is.1 other same in
-            record { no_handle = free.no_handle; not_weak = free.not_weak; of_kind = free.of_kind },
-      )
-      by no_room is = is
-
-  pub growth_placed : (caller : ℕ) (c : Cmd) (o : Option Slot) (e : Entry) → GrowsUnoffered n s caller c o e
-      → GrowsUnoffered n (with_places s p) caller c o e
-  growth_placed caller c o e = by (asks_of s caller c) o
-    where
-      by : (a : Asks) (o : Option Slot) → GrowsFor n s a o e → GrowsFor n (with_places s p) a o e
-      by (object_room fields) o is = is
-      by (handle_slot kind) None is = record { full = is.full; grows = is.grows }
-      by (handle_slot kind) (Some slot) is = is
-      by (block_back kind) None is = is
-      by (block_back kind) (Some slot) is = is
-      by no_room o is = is
+use Rattle.hd_store.proofs.StoreWords.{AgedRun, Cmd, Entry, FinMap, HasLimits, KeepsPlaces, List, Machine, Moves, Run, Step, [], aged_by, ap, arith, empty, last_serial, length, nat_cmp, nothing_at, replicate, start_of, stay, subst, sym, with_places, ℕ, ◌*◌, ◌++◌, ◌+◌, ◌<◌, ◌^◌, ◌∷◌, ◌≡◌}
+use Rattle.hd_model.proofs.{StepChains.aged_run_is_run, StepChains.push, Serials.last_serial-le, Serials.count-le}
+use Rattle.hd_store.specs.Calls.{StaysWithin}
+use Rattle.hd_world.specs.Placed.{IsTrueRun, Placed, same_places}
 
 -- what is true with the pinned addresses of a journal is true of any that are said to be those
 pub at_places : (m : Machine) (journal : List Entry) (p q : FinMap nat_cmp ℕ)
@@ -53,32 +14,20 @@ module _ (m : Machine) (journal : List Entry) (p : FinMap nat_cmp ℕ) (is : IsT
   pub run_of : Run m.numbers journal (with_places m.state p)
   run_of = aged_run_is_run m.numbers journal (with_places m.state p) m.ages is.run
 
-  well_of : IsWellFormed m.numbers (with_places m.state p)
-  well_of = run_is_well_formed m.numbers journal (with_places m.state p) run_of
-
-  pub handles_of : HasHandles m.numbers m.state
-  handles_of =
-      let h = well_of.handles in
-      record { kinds = h.kinds; extras = h.extras; dependents = h.dependents; blocks = h.blocks }
-
-  pub weak_of : HasWeakTable m.state
-  weak_of = let w = well_of.weak in record { kinds = w.kinds; apart = w.apart; once = w.once }
-
   -- where the journal has room for one more entry
   module _ (room : length journal + 1 < 2 ^ 32) where
-    pub small_of : (caller : ℕ) → last_serial m.state caller + 1 < 2 ^ 32
+    small_of : (caller : ℕ) → last_serial m.state caller + 1 < 2 ^ 32
     small_of caller =
         omega (arith, last_serial-le m.numbers journal (with_places m.state p) caller run_of, room)
 
-    pub fresh_of : (caller : ℕ)
-        → get m.state.objects (identity_of caller (last_serial m.state caller + 1)).0 ≡ None
-    fresh_of caller = fresh m.numbers (with_places m.state p) caller well_of (small_of caller)
-
-    pub counts_of : HasSmallCounts m.state
-    counts_of = λ slot handle is_stored.
-        let known =
-        count-le m.numbers journal (with_places m.state p) (record { 0 = slot }) handle run_of is_stored in
-        omega (arith, known, room)
+    -- no serial and no count is at the end of its type
+    pub within_of : (caller : ℕ) (c : Cmd) → StaysWithin m.state caller c
+    within_of caller c = record {
+      serial = λ d fields fin is. small_of caller;
+      count = λ h is slot handle register is_stored.
+          let known = count-le m.numbers journal (with_places m.state p) slot handle run_of is_stored in
+          omega (arith, known, room);
+    }
 
   -- where a command keeps pinned addresses and the journal gets its entry
   module _ (next : Machine) (e : Entry) (entries : List Entry) (keeps : KeepsPlaces m e next)

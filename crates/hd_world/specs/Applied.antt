@@ -2,8 +2,9 @@
 use Rattle.std.specs.Prelude.{[], ◌≡◌, ℕ, ◌+◌, ◌∷◌, ◌++◌, Option}
 use Rattle.std.specs.Option.{ForSome}
 use Rattle.hd_model.specs.{declared.data.Entry.Entry, declared.data.Slot.Slot, declared.command.Cmd.Cmd, Step.Step, Aging.aged_by}
-use Rattle.hd_world.specs.World.{WorldView, GrowsWithout, Takes}
-use Rattle.hd_world.specs.StateHeap.{KeepsAddresses, LeavesHeap}
+use Rattle.hd_store.specs.{Offers.Takes, StateHeap.LeavesHeap}
+use Rattle.hd_world.specs.World.{WorldView, GrowsWithout}
+use Rattle.hd_world.specs.StateHeap.{KeepsAddresses}
 
 -- all that callers of a world learn of a command, where those of its store say its effect alone (`HasRun`):
 -- the returned entry is of this command and is appended; it is a step from the state before to the one after,

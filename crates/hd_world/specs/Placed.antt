@@ -6,7 +6,7 @@ use mathlib.Core.HLevel.{Σ_prop_path}
 use Rattle.std.proofs.Math.Logic.{∥∥₁_prop, ∥∥₁_elim}
 use Rattle.hd_model.specs.{declared.data.Entry.Entry, Places.with_places, Aging.AgedRun}
 use Rattle.hd_model.proofs.Journals.{one_places}
-use Rattle.hd_world.specs.{Store.Machine, Places.AreAddresses, World.HasLimits}
+use Rattle.hd_store.specs.{Store.Machine, Places.AreAddresses, Offers.HasLimits}
 
 -- with these pinned addresses a journal leads to the state of a store and leaves its ages, and each is that
 -- of its object; the numbers are within the limits

@@ -2,14 +2,14 @@ ghost use Rattle.std.specs.Prelude.{◌≡◌, ◌+◌, ◌<◌, ◌≤◌, ◌^
 ghost use Rattle.std.specs.FinMap.{len};
 ghost use Rattle.hd_model.specs.State.{Numbers, start_of, use_of, block_of};
 ghost use Rattle.hd_model.specs.{Run.Run, Valid.IsValid, Valid.takes_memory, RootText.roots_of, Text.collections_of, Text.is_collect};
-ghost use Rattle.hd_world.specs.{Growth.kind_in_use, Placed.Placed, Placed.Placed-prop, Applied.Applied, StateHeap.IsOfJournal, Visited.TakesSteps};
-ghost use Rattle.hd_world.specs.World.{HasLimits, IsOffer, needs_slot, FitsHeap, MayApply, RanOut};
+ghost use Rattle.hd_store.specs.{Growth.kind_in_use, Visited.TakesSteps};
+ghost use Rattle.hd_store.specs.Offers.{HasLimits, IsOffer, needs_slot, FitsHeap, RanOut};
+ghost use Rattle.hd_world.specs.{Placed.Placed, Placed.Placed-prop, Applied.Applied, StateHeap.IsOfJournal, World.MayApply};
 
-use crate::done::CallerCommand;
-use crate::store::Store;
-use crate::{commands, on_entries};
 use hd_model::limits::{BLOCKS, CALLERS, HEAP};
 use hd_model::{Class, Cmd, Entry, Held, Journal, Kind, Memory, RootId, Slot, Steps};
+use hd_scan::gather;
+use hd_store::Store;
 use std::alloc::Global;
 use std::marker::{Brand, Model};
 use std::sync::ledger::{Blank, Ledger};
@@ -119,12 +119,9 @@ impl World {
             IfOk result (λ e. TakesSteps s ages e steps.old steps.new) }
         ensures unstepped { OnErr result (steps.new ≡ steps.old) }
     {
-        // Read for the proof alone: the journal's length bounds the serials and the counts, and
-        // the store is one over its heap.
+        // Read for the proof alone: the journal's length bounds the serials and the counts.
         let _room = self.journal.spare();
-        let _before = self.store.objects();
-        let entry = commands::run(&mut self.store, CallerCommand { caller, cmd }, offer, steps)?;
-        let _after = self.store.objects();
+        let entry = self.store.apply(caller, cmd, offer, steps)?;
         self.journal.push(entry);
         Ok(entry)
     }
@@ -193,18 +190,7 @@ impl World {
         requires valid { IsValid cmd }
         ensures { result ≡ needs_slot self.now.state caller cmd }
     {
-        self.needs_slot_on::<Brand>(caller, cmd, Blank::new(1))
-    }
-
-    // The same, with a counter that nothing reads.
-    fn needs_slot_on<L: Ledger>(&self, caller: u32, cmd: Cmd, blank: Blank) -> bool
-        requires caller { caller < self.now.numbers.callers }
-        requires valid { IsValid cmd }
-        requires blank { (L.name ≡ blank.name) × (L.parts ≡ blank.parts) × (0 < blank.parts) }
-        ensures { result ≡ needs_slot self.now.state caller cmd }
-    {
-        let mut steps = Steps::<L>::open(blank);
-        on_entries::needs_slot(&self.store, caller, cmd, &mut steps)
+        self.store.needs_slot(caller, cmd)
     }
 
     /// The kind of the block of a slot, if it has handles. The slot may be any number.
@@ -235,7 +221,8 @@ impl World {
     {
         // The read gives a bound of the handles, and so of the roots.
         let _live = self.store.live();
-        self.store.roots(rt, alloc)
+        let roots = gather(rt, alloc, self.store.table(), self.store.blocks())?;
+        self.store.named_roots(alloc, &roots)
     }
 
     /// The number of collections in the journal.

@@ -1,5 +1,6 @@
 use Rattle.hd_gate.proofs.Basics.{GrowsByBlocks, Known, MayGrant, TableId, Takes, View, WorldView, Zero, ap, extra_block, false, ghosts, handle_block, is_paired, kind_number, looks_with_gate, offered, slot_number, subst, sym, took, with_grown, ◌<◌, ◌∙◌, ◌≡◌, ◌≢◌, ◌≤◌}
-use Rattle.hd_gate.proofs.{StepLiveSlots.in_state, StepLiveSlots.asks_for, HandleMake.may_offer, HandleMake.looked_without, HandleMake.made}
+use Rattle.hd_slots.proofs.StepLiveSlots.{in_state, asks_for}
+use Rattle.hd_gate.proofs.HandleMake.{may_offer, looked_without, made}
 use Rattle.hd_gate.proofs.GateLeave.{may_step, Leaves, may_leave, turned}
 use Rattle.hd_gate.proofs.turns.make.Given.{Over}
 use Rattle.hd_gate.proofs.turns.make.Goals.{After-step_surely-entry, After-grant_blocks}

@@ -1,5 +1,5 @@
 use Rattle.hd_gate.proofs.Basics.{Cmd, Keeps, Known, None, Stayed, WorldView, ap, change_in, change_of, gave_back, ghosts, refl, subst, sym, took, ℕ, ◌∙◌, ◌≡◌}
-use Rattle.hd_gate.proofs.StepLiveSlots.{LeavesThem, in_state}
+use Rattle.hd_slots.proofs.StepLiveSlots.{LeavesThem, in_state}
 use Rattle.hd_gate.proofs.GateLeave.{may_step, may_leave_with, turned}
 use Rattle.hd_gate.proofs.PlainTurn.{plain_follows, plain_leaves, stays}
 use Rattle.hd_gate.proofs.turns.plainly.Goals as goal

@@ -1,5 +1,6 @@
 use Rattle.hd_gate.proofs.Basics.{FindsFullExactly, HasCalled, MayNote, Offers, TrimsExactly, WorldView, ap, change_in, noted, subst, sym, ◌<◌, ◌∙◌, ◌≤◌}
-use Rattle.hd_gate.proofs.PoolStep.{may_offer, may_note, tied_after, has_called, full_exactly, trims_exactly}
+use Rattle.hd_slots.proofs.PoolStep.{may_offer}
+use Rattle.hd_gate.proofs.PoolCall.{may_note, tied_after, has_called, full_exactly, trims_exactly}
 use Rattle.hd_gate.proofs.alone.Alone.call.Goals.{After-offer-offered}
 use Rattle.hd_gate.proofs.alone.Alone.call.Goals as goal
 

@@ -1,5 +1,5 @@
 use Rattle.hd_gate.proofs.Basics.{ap, ◌∙◌}
-use Rattle.hd_gate.proofs.TiedPool.{tied_at_start}
+use Rattle.hd_slots.proofs.TiedPool.{tied_at_start}
 use Rattle.std.specs.FinMap as map
 use Rattle.std.specs.FinSet as set
 use Rattle.hd_gate.proofs.alone.Alone.open.Goals as goal

@@ -1,4 +1,4 @@
-use Rattle.hd_world.proofs.StoreWords.{Entry, List, Some, [], ap, arith, collections_of, cond, get_or, is_collect, length, refl, slice_get, suc, sum_by_more, sym, take, zero, ℕ, ◌+◌, ◌<◌, ◌∙◌, ◌∷◌, ◌≡◌}
+use Rattle.hd_store.proofs.StoreWords.{Entry, List, Some, [], ap, arith, collections_of, cond, get_or, is_collect, length, refl, slice_get, suc, sum_by_more, sym, take, zero, ℕ, ◌+◌, ◌<◌, ◌∙◌, ◌∷◌, ◌≡◌}
 use Rattle.hd_world.proofs.world.World.collections.Goals.{Joined-is_collect, then-is_collect, else-is_collect}
 use Rattle.hd_world.proofs.world.World.collections.Goals as goal
 

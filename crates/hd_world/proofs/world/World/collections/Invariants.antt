@@ -1,4 +1,4 @@
-use Rattle.hd_world.proofs.StoreWords.{collections_of, take, ◌≡◌, ◌≤◌}
+use Rattle.hd_store.proofs.StoreWords.{collections_of, take, ◌≡◌, ◌≤◌}
 use Rattle.hd_world.proofs.world.World.collections.Given as goal
 
 abbrev pub invariant-loop-i : goal.invariant-loop-i

@@ -1,6 +1,7 @@
-use Rattle.hd_world.proofs.StoreWords.{HasLimits, Run, WorldView, subst}
-use Rattle.hd_world.specs.StateHeap.{IsOfJournal}
-use Rattle.hd_world.proofs.{JournalApply.run_of, StateHeap.of-heap, StateHeap.of-table}
+use Rattle.hd_store.proofs.StoreWords.{HasLimits, Run, subst}
+use Rattle.hd_world.specs.{StateHeap.IsOfJournal, World.WorldView}
+use Rattle.hd_store.proofs.StateHeap.{of-heap, of-table}
+use Rattle.hd_world.proofs.JournalApply.{run_of}
 use Rattle.hd_world.proofs.world.World.journal.Goals as goal
 
 pub returns-clause-run : goal.returns-clause-run

@@ -1,4 +1,4 @@
-use Rattle.hd_world.proofs.StoreWords.{HasLimits, Numbers, ap, replicate, subst, sym, ◌*◌, ◌∙◌, ◌≡◌}
+use Rattle.hd_store.proofs.StoreWords.{HasLimits, Numbers, ap, replicate, subst, sym, ◌*◌, ◌∙◌, ◌≡◌}
 use Rattle.hd_world.proofs.JournalApply.{placed_first, run_first, state_first}
 use Rattle.hd_world.proofs.world.World.open.Goals.{In_ok-journal}
 use Rattle.hd_world.proofs.world.World.open.Goals as goal

@@ -1,0 +1,4 @@
+pub mod Basics
+pub mod StepLiveSlots
+pub mod TiedPool
+pub mod PoolStep

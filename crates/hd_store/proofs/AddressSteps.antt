@@ -1,0 +1,383 @@
+-- What each command does with the pinned addresses.
+use Rattle.hd_store.proofs.StoreWords.{Addr, RepliesPlace, Bool, Cmd, CollectedSteps, Done, Entry, Err, FinMap, GrowsFor, Handle, HasCollected, HasNames, HasPlace, HasRun, Id, IsOffer, IsOutcome, IsPlainStep, IsValid, KeepsNames, KeepsPlaces, LeavesHeap, Machine, MayReturn, MayOffer, MayRun, Moves, None, Ok, Option, Outcome, Refusal, Reply, Report, Result, Slot, Some, State, Step, StepOf, TakesSteps, Zero, aged_by, reply_place, reply_with, ap, asks_of, class_of, cond, done_of, empty, entry_of, false, get, get_inserted, handle_at, handle_register_of, if◌then◌else◌, insert, is_collect, kept_places, key_register, name_in, nat_cmp, no_room, nothing_at, option_and_then, option_map_or, pinned_by, pinned_in, pinned_target, pins, refl, refuses, register_of, same_Some, subst, sym, touched_by, true, true≢false, with_place, with_places, ℕ, ◌<◌, ◌∙◌, ◌≡◌, ◌≤◌}
+use Rattle.hd_model.specs.Aging.{is_refused}
+use Rattle.hd_model.specs.Command.{reply_root}
+use Rattle.hd_model.specs.Anchors.{ReturnsRoot}
+use Rattle.hd_model.proofs.{OutcomePlaces.step_placed, Journals.ages_placed}
+use Rattle.hd_store.specs.declared.done.CallerCommand.{CallerCommand}
+use Rattle.hd_store.proofs.IdentityReadings.{no_some}
+use Rattle.hd_model.specs.declared.data.Refusal.TheVariants as refusal
+use Rattle.hd_model.specs.declared.data.Reply.TheVariants as reply
+use Rattle.hd_model.specs.declared.command.Cmd.TheVariants as cmd
+use Rattle.hd_model.specs.declared.limits.TheConstants.{REGISTERS}
+
+-- an entry of `addr` or `collect`
+abbrev pub entry_with : ℕ → Cmd → Reply → Entry
+entry_with caller c answer =
+    record { caller = caller; cmd = c; slot = None; grown = Zero; reply = answer }
+
+-- what no collection leaves of the heap, and how many steps it takes
+module _ (e : Entry) (f : Cmd → Bool) (is : f e.cmd ≡ false) (each : (n : ℕ) → f (cmd.Collect n) ≡ true) where
+  none : (n : ℕ) → e.cmd ≡ cmd.Collect n → ⊥
+  none n same = true≢false (sym (each n) ∙ ap f (sym same) ∙ is)
+
+  others-heap : (k : Machine) → LeavesHeap e k.state.handles k.heap
+  others-heap k = record {
+    cards = λ n report same answer. absurd (none n same);
+    compact = λ report same answer. absurd (none 2 same);
+  }
+
+  pub others-steps : (m : Machine) (steps : ℕ) → key_register (class_of e.cmd) ≡ None
+      → TakesSteps m.state m.ages e steps steps
+  others-steps m steps no_key = record {
+    others = λ _ _. refl;
+    searches = λ key is. absurd
+        (no_some key (sym is ∙ ap (option_and_then (register_of m.state e.caller)) no_key));
+    collects = λ n report same answer. absurd (none n same);
+  }
+
+abbrev uses_places : Cmd → Bool
+uses_places c = (touched_by c).places
+
+-- a command that uses no pinned address
+plain-moves : (m k : Machine) (e : Entry) → uses_places e.cmd ≡ false
+    → Step m.numbers m.state e k.state → KeepsNames m.names k.names → k.ages ≡ aged_by m.state e m.ages
+    → k.numbers ≡ m.numbers → KeepsPlaces m e k
+plain-moves m k e plain step keeps aged numbers p are = record {
+  places = p;
+  step = step_placed p m.numbers m.state e k.state plain step;
+  addresses = λ x a is. keeps a (record { 0 = x }) (are x a is);
+  ages = aged ∙ sym (ages_placed m.state p e m.ages);
+  numbers = numbers;
+  heap = others-heap e uses_places plain (λ n. refl) k;
+}
+
+-- the generation that a command collects
+abbrev number_in : ℕ → Cmd → ℕ
+number_in d (cmd.Collect n) = n
+number_in d c = d
+
+-- a collection
+pub collect-moves : (m k : Machine) (n : ℕ) (report : Report) (caller : ℕ) → caller < m.numbers.callers
+    → n ≤ 2 → HasCollected m k n report
+    → KeepsPlaces m (entry_with caller (cmd.Collect n) (reply.Report report)) k
+collect-moves m k n report caller known low has p are = record {
+  places = kept_places m.state p;
+  step = record {
+    caller = known;
+    valid = low;
+    does = record { report = report; reply = refl; slot = refl; grown = refl; collects = has.collects p };
+  };
+  addresses = has.addresses p are;
+  ages = has.ages;
+  numbers = has.numbers;
+  heap = record {
+    cards = λ j other same answer. has.cards;
+    compact = λ other same answer. has.compact (ap (number_in n) same);
+  };
+}
+
+-- a command that makes no object keeps all identities as they are
+names-kept : (b : Bool) (old new : FinMap nat_cmp Id) → HasNames b old new → KeepsNames old new
+names-kept true old new has a x is = has a x is
+names-kept false old new same a x is = ap (λ names. get names a) same ∙ is
+
+-- `addr`: what the handle pins decides the reply and the state
+abbrev returned : State → Result Id Refusal → ℕ → Outcome
+returned s (Ok id) place = reply_with (reply.Place place) (with_place s id place)
+returned s (Err refused) place = refuses refused s
+
+abbrev target_of : Result Id Refusal → Option Id
+target_of (Ok id) = Some id
+target_of (Err refused) = None
+
+module _ (s : State) where
+  -- what is pinned, as a result, an option and an outcome
+  abbrev Agree : Result Id Refusal → Option Id → (ℕ → Outcome) → Type 0
+  Agree r target answer = (target ≡ target_of r) × ((place : ℕ) → answer place ≡ returned s r place)
+
+  agree_at : (b : Bool) (t : Option Id)
+      → Agree (if b then option_map_or Ok t (Err refusal.Null) else Err refusal.WrongKind) (cond b t None)
+      (λ place. if b then option_map_or (λ id. reply_with (reply.Place place) (with_place s id place)) t
+      (refuses refusal.Null s) else refuses refusal.WrongKind s)
+  agree_at true None = (refl, λ place. refl)
+  agree_at true (Some id) = (refl, λ place. refl)
+  agree_at false t = (refl, λ place. refl)
+
+  agree_by : (o : Option (Handle Id))
+      → Agree (option_map_or (λ handle. if pins handle then option_map_or Ok handle.target (Err refusal.Null)
+      else Err refusal.WrongKind) o (Err refusal.NotLive)) (pinned_by o)
+      (λ place. option_map_or (λ handle. if pins handle then option_map_or
+      (λ id. reply_with (reply.Place place) (with_place s id place)) handle.target (refuses refusal.Null s)
+      else refuses refusal.WrongKind s) o (refuses refusal.NotLive s))
+  agree_by None = (refl, λ place. refl)
+  agree_by (Some handle) = agree_at (pins handle) handle.target
+
+  agree : (caller h : ℕ) → Agree (pinned_in s caller h) (pinned_target s caller h) (reply_place s caller h)
+  agree caller h = by (handle_register_of s caller h)
+    where
+      by : (o : Option Slot)
+          → Agree (option_map_or (λ slot. option_map_or (λ handle. if pins handle then option_map_or Ok
+          handle.target (Err refusal.Null) else Err refusal.WrongKind) (handle_at s slot)
+          (Err refusal.NotLive))
+          o (Err refusal.EmptyRegister)) (option_and_then (λ slot. pinned_by (handle_at s slot)) o)
+          (λ place. option_map_or (λ slot. option_map_or (λ handle. if pins handle then option_map_or
+          (λ id. reply_with (reply.Place place) (with_place s id place)) handle.target
+          (refuses refusal.Null s)
+          else refuses refusal.WrongKind s) (handle_at s slot) (refuses refusal.NotLive s)) o
+          (refuses refusal.EmptyRegister s))
+      by None = (refl, λ place. refl)
+      by (Some slot) = agree_by (handle_at s slot)
+
+  -- the address of what is pinned is returned
+  pinned_reply : (caller h : ℕ) (x : Id) → pinned_target s caller h ≡ Some x → (place : ℕ)
+      → reply_place s caller h place ≡ reply_with (reply.Place place) (with_place s x place)
+  pinned_reply caller h x is place = by (pinned_in s caller h) (agree caller h)
+    where
+      by : (r : Result Id Refusal) → Agree r (pinned_target s caller h) (reply_place s caller h)
+          → reply_place s caller h place ≡ reply_with (reply.Place place) (with_place s x place)
+      by (Ok id) a = a.1 place ∙ ap (λ i. reply_with (reply.Place place) (with_place s i place))
+          (same_Some id x (sym a.0 ∙ is))
+      by (Err refused) a = absurd (no_some x (sym is ∙ a.0))
+
+module _ (m : Machine) (caller h : ℕ) (known : caller < m.numbers.callers) (low : h < REGISTERS) where
+  came_to : {w : Outcome} {after : State} (answer : Reply) → reply_with answer after ≡ w
+      → IsOutcome (entry_with caller (cmd.AddrOf h) answer) w after
+  came_to {w} {after} answer is = subst (λ o. IsOutcome (entry_with caller (cmd.AddrOf h) answer) o after) is
+      (record { reply = refl; slot = refl; grown = refl; after = refl })
+
+  pub addr-replies : (at : Addr) → HasPlace m at → Ok (name_in m.names at) ≡ pinned_in m.state caller h
+      → KeepsPlaces m (entry_with caller (cmd.AddrOf h) (reply.Place at.0)) m
+  addr-replies at has is p are =
+      let id = name_in m.names at in
+      let pinned = subst (λ r. Agree (with_places m.state p) r (pinned_target m.state caller h)
+      (reply_place (with_places m.state p) caller h)) (sym is) (agree (with_places m.state p) caller h) in
+      record {
+        places = insert p id.0 at.0;
+        step = record {
+          caller = known;
+          valid = low;
+          does = record {
+            place = at.0;
+            may = λ x same. subst (λ y. MayReturn (with_places m.state p) y at.0)
+                (same_Some id x (sym pinned.0 ∙ same)) (has.may p are);
+            outcome = came_to (reply.Place at.0) (sym (pinned.1 at.0));
+          };
+        };
+        addresses = has.addresses p are;
+        ages = refl;
+        numbers = refl;
+        heap = others-heap (entry_with caller (cmd.AddrOf h) (reply.Place at.0)) is_collect refl
+            (λ n. refl) m;
+      }
+
+  pub addr-refused : (refused : Refusal) → Err refused ≡ pinned_in m.state caller h
+      → KeepsPlaces m (entry_with caller (cmd.AddrOf h) (reply.Refused refused)) m
+  addr-refused refused is p are =
+      let none = subst (λ r. Agree (with_places m.state p) r (pinned_target m.state caller h)
+      (reply_place (with_places m.state p) caller h)) (sym is) (agree (with_places m.state p) caller h) in
+      record {
+        places = p;
+        step = record {
+          caller = known;
+          valid = low;
+          does = record {
+            place = 0;
+            may = λ x same. absurd (no_some x (sym same ∙ none.0));
+            outcome = came_to (reply.Refused refused) (sym (none.1 0));
+          };
+        };
+        addresses = are;
+        ages = refl;
+        numbers = refl;
+        heap = others-heap (entry_with caller (cmd.AddrOf h) (reply.Refused refused)) is_collect refl
+            (λ n. refl) m;
+      }
+
+-- the steps of a collection
+pub collect-steps : (m : Machine) (n : ℕ) (report : Report) (caller before after : ℕ)
+    → CollectedSteps m.state m.ages n before after
+    → TakesSteps m.state m.ages (entry_with caller (cmd.Collect n) (reply.Report report)) before after
+collect-steps m n report caller before after steps = record {
+  others = λ not _. absurd (true≢false not);
+  searches = λ key is. absurd (no_some key (sym is));
+  collects = λ k other same_n same_report.
+      subst (λ j. CollectedSteps m.state m.ages j before after) (ap (number_in n) same_n) steps;
+}
+
+-- what was done without a use of pinned addresses was done with any
+pub plain-kept : (m k : Machine) (asked : CallerCommand) (offer : Option Slot) → MayRun m asked offer
+    → (e : Entry) → HasRun m asked offer e (IsPlainStep m asked.cmd k e)
+    → HasRun m asked offer e (KeepsPlaces m e k)
+plain-kept m k asked offer may e did =
+    let step = did.effect in
+    let still : uses_places e.cmd ≡ false = ap uses_places did.command ∙ step.plain in
+    record {
+      caller = did.caller;
+      command = did.command;
+      effect = plain-moves m k e still (record {
+        caller = subst (λ x. x < m.numbers.callers) (sym did.caller) may.caller;
+        valid = subst IsValid (sym did.command) may.valid;
+        does = subst (StepOf m.numbers m.state e k.state) (sym did.command) step.step;
+      }) (names-kept (touched_by asked.cmd).makes_object m.names k.names step.names) step.ages step.numbers;
+      offer = did.offer;
+      growth = did.growth;
+    }
+
+pub plain-runs : (m k : Machine) (asked : CallerCommand) (offer : Option Slot) → MayRun m asked offer
+    → key_register (class_of asked.cmd) ≡ None → (steps : ℕ) (did e : Entry) → e ≡ did
+    → HasRun m asked offer did (IsPlainStep m asked.cmd k did)
+    → HasRun m asked offer e (KeepsPlaces m e k) × TakesSteps m.state m.ages e steps steps
+plain-runs m k asked offer may no_key steps did e entry ran =
+    subst (λ x. HasRun m asked offer x (KeepsPlaces m x k) × TakesSteps m.state m.ages x steps steps)
+    (sym entry) (
+      plain-kept m k asked offer may did ran,
+      others-steps did uses_places (ap uses_places ran.command ∙ ran.effect.plain) (λ n. refl) m steps
+          (ap (λ c. key_register (class_of c)) ran.command ∙ no_key),
+    )
+
+-- `addr` returns the address of what the handle pins
+module _ (m k : Machine) (e : Entry) (keeps : KeepsPlaces m e k) (h place : ℕ) (x : Id)
+    (same : e.cmd ≡ cmd.AddrOf h) (in_reply : e.reply ≡ reply.Place place)
+    (pinned : pinned_target m.state e.caller h ≡ Some x) where
+  moved : Moves m e k empty
+  moved = keeps empty (λ y b is. absurd (nothing_at y b is))
+
+  does : RepliesPlace (with_places m.state empty) e (with_places k.state moved.places) h
+  does = subst (StepOf m.numbers (with_places m.state empty) e (with_places k.state moved.places)) same
+      moved.step.does
+
+  outcome_is : reply_place (with_places m.state empty) e.caller h does.place
+      ≡ reply_with (reply.Place does.place) (with_place (with_places m.state empty) x does.place)
+  outcome_is = pinned_reply (with_places m.state empty) e.caller h x pinned does.place
+
+  abbrev place_in : Reply → ℕ
+  place_in (reply.Place p) = p
+  place_in r = place
+
+  place_is : does.place ≡ place
+  place_is = ap place_in (sym (does.outcome.reply ∙ ap (λ (o : Outcome). o.reply) outcome_is) ∙ in_reply)
+
+  pub returns-address : get k.names place ≡ Some x
+  returns-address =
+      moved.addresses x.0 place
+      (ap (λ (s : State). get s.places x.0)
+      (does.outcome.after ∙ ap (λ (o : Outcome). o.after) outcome_is)
+      ∙ get_inserted empty x.0 does.place ∙ ap Some place_is)
+
+-- a command that takes no slot and gives none back has an effect
+without-room : (m : Machine) (asked : CallerCommand) (offered : Option Slot) → MayRun m asked offered
+    → asks_of m.state asked.caller asked.cmd ≡ no_room → (done : Done) (e : Entry) → e ≡ entry_of asked done
+    → {E : Type 0} → E → HasRun m asked offered e E
+without-room m asked offered may nothing done e entry effect = record {
+  caller = ap (λ (x : Entry). x.caller) entry;
+  command = ap (λ (x : Entry). x.cmd) entry;
+  effect = effect;
+  offer = λ slot given. absurd (subst (λ a. MayOffer m.state a slot) nothing
+      (subst (IsOffer m.state asked.caller asked.cmd) given may.offer));
+  growth = subst (λ a. GrowsFor m.numbers m.state a offered e) (sym nothing) tt;
+}
+
+-- so was what takes no slot and gives none back
+pub others-run : (m k : Machine) (asked : CallerCommand) (offered : Option Slot) (c : Cmd) → asked.cmd ≡ c
+    → asks_of m.state asked.caller c ≡ no_room → (r : Result Done Refusal) (before after : ℕ)
+    → MayRun m asked offered
+    → KeepsPlaces m (entry_of (record { caller = asked.caller; cmd = c }) (done_of r)) k
+    → TakesSteps m.state m.ages (entry_of (record { caller = asked.caller; cmd = c }) (done_of r))
+    before after → (e : Entry) → e ≡ entry_of asked (done_of r)
+    → HasRun m asked offered e (KeepsPlaces m e k) × TakesSteps m.state m.ages e before after
+others-run m k asked offered c is none r before after may keeps steps e entry =
+    let same = entry ∙ (λ i. entry_of (record { caller = asked.caller; cmd = is i }) (done_of r)) in (
+      without-room m asked offered may (ap (asks_of m.state asked.caller) is ∙ none) (done_of r) e entry
+          (subst (λ x. KeepsPlaces m x k) (sym same) keeps),
+      subst (λ x. TakesSteps m.state m.ages x before after) (sym same) steps,
+    )
+
+-- `gcroot`, which changes nothing
+module _ (m : Machine) (caller r : ℕ) where
+  abbrev asking : Done → Entry
+  asking done = entry_of (record { caller = caller; cmd = cmd.GcRoot r }) done
+
+  ages_stay : (b : Bool) → m.ages ≡ cond b m.ages m.ages
+  ages_stay true = refl
+  ages_stay false = refl
+
+  root_step : (found : Reply) (done : Done)
+      → ((goal : Id) → register_of m.state caller r ≡ Some goal → ReturnsRoot m.state goal found)
+      → IsOutcome (asking done) (reply_root m.state caller r found) m.state
+      → IsPlainStep m (cmd.GcRoot r) m (asking done)
+  root_step found done is_root outcome = record {
+    plain = refl;
+    step = record { found = found; is_root = is_root; outcome = outcome };
+    numbers = refl;
+    names = refl;
+    ages = ages_stay (is_refused done.reply);
+  }
+
+  root_outcome : (found : Reply) (w : Outcome) → reply_root m.state caller r found ≡ w → w.after ≡ m.state
+      → (done : Done) → done ≡ record { reply = w.reply; slot = w.slot; grown = Zero }
+      → IsOutcome (asking done) (reply_root m.state caller r found) m.state
+  root_outcome found w is same done of = record {
+    reply = ap (λ (d : Done). d.reply) of ∙ ap (λ (o : Outcome). o.reply) (sym is);
+    slot = ap (λ (d : Done). d.slot) of ∙ ap (λ (o : Outcome). o.slot) (sym is);
+    grown = ap (λ (d : Done). d.grown) of;
+    after = sym same ∙ ap (λ (o : Outcome). o.after) (sym is);
+  }
+
+  abbrev reply_by : Reply → Option Id → Outcome
+  reply_by found o = option_map_or (λ _. reply_with found m.state) o (refuses refusal.Null m.state)
+
+  pub root-returned : (goal : Id) → register_of m.state caller r ≡ Some goal → (found : Reply)
+      → ReturnsRoot m.state goal found → (done : Done)
+      → done ≡ record { reply = found; slot = None; grown = Zero }
+      → IsPlainStep m (cmd.GcRoot r) m (asking done)
+  root-returned goal is found is_root done of =
+      root_step found done
+      (λ x same. subst (λ y. ReturnsRoot m.state y found) (same_Some goal x (sym is ∙ same)) is_root)
+      (root_outcome found (reply_with found m.state) (ap (reply_by found) is) refl done of)
+
+  pub root-refused : register_of m.state caller r ≡ None → (refused : Refusal) → refused ≡ refusal.Null
+      → IsPlainStep m (cmd.GcRoot r) m (asking (done_of (Err refused)))
+  root-refused none refused is =
+      root_step reply.Unrooted (done_of (Err refused)) (λ x same. absurd (no_some x (sym same ∙ none)))
+      (root_outcome reply.Unrooted (refuses refusal.Null m.state) (ap (reply_by reply.Unrooted) none) refl
+      (done_of (Err refused)) (ap (λ (q : Refusal). done_of (Err q)) is))
+
+-- so was a search of the weak table
+pub looked-run : (m k : Machine) (asked : CallerCommand) (offered : Option Slot) (c : Cmd) → asked.cmd ≡ c
+    → asks_of m.state asked.caller c ≡ no_room → (r : Result Done Refusal) (before after : ℕ)
+    → MayRun m asked offered
+    → IsPlainStep m c k (entry_of (record { caller = asked.caller; cmd = c }) (done_of r))
+    → TakesSteps m.state m.ages (entry_of (record { caller = asked.caller; cmd = c }) (done_of r))
+    before after → (e : Entry) → e ≡ entry_of asked (done_of r)
+    → HasRun m asked offered e (KeepsPlaces m e k) × TakesSteps m.state m.ages e before after
+looked-run m k asked offered c is none r before after may did steps e entry =
+    others-run m k asked offered c is none r before after may
+    (plain-moves m k (entry_of (record { caller = asked.caller; cmd = c }) (done_of r)) did.plain (record {
+      caller = may.caller;
+      valid = subst IsValid is may.valid;
+      does = did.step;
+    }) (names-kept (touched_by c).makes_object m.names k.names did.names) did.ages did.numbers) steps e entry
+
+-- and a `cadd`
+pub added-run : (m k : Machine) (asked : CallerCommand) (offered : Option Slot) (c : Cmd) → asked.cmd ≡ c
+    → (r : Result Done Refusal) (before after : ℕ) → MayRun m asked offered
+    → HasRun m (record { caller = asked.caller; cmd = c }) offered
+    (entry_of (record { caller = asked.caller; cmd = c }) (done_of r))
+    (IsPlainStep m c k (entry_of (record { caller = asked.caller; cmd = c }) (done_of r)))
+    → TakesSteps m.state m.ages (entry_of (record { caller = asked.caller; cmd = c }) (done_of r))
+    before after → (e : Entry) → e ≡ entry_of asked (done_of r)
+    → HasRun m asked offered e (KeepsPlaces m e k) × TakesSteps m.state m.ages e before after
+added-run m k asked offered c is r before after may did steps e entry =
+    let same : record { caller = asked.caller; cmd = c } ≡ asked =
+    λ i. record { caller = asked.caller; cmd = sym is i } in
+    let ran : HasRun m asked offered (entry_of asked (done_of r))
+    (IsPlainStep m asked.cmd k (entry_of asked (done_of r))) =
+    subst (λ (a : CallerCommand). HasRun m a offered (entry_of a (done_of r))
+    (IsPlainStep m a.cmd k (entry_of a (done_of r)))) same did in
+    subst (λ x. HasRun m asked offered x (KeepsPlaces m x k) × TakesSteps m.state m.ages x before after)
+    (sym entry) (
+      plain-kept m k asked offered may (entry_of asked (done_of r)) ran,
+      subst (λ (a : CallerCommand). TakesSteps m.state m.ages (entry_of a (done_of r)) before after) same
+          steps,
+    )

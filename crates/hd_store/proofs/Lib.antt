@@ -1,0 +1,35 @@
+pub mod StoreWords
+mod EntryMaps
+mod IdentityReadings
+mod NameAgreement
+mod EntryReadings
+mod EntrySweep
+mod StoreAdd
+mod RootRows
+mod NamedAddresses
+mod StoreWrite
+mod Barrier
+mod RootAccess
+mod EntrySums
+mod StateCounts
+mod StoreRows
+mod EntryWrites
+mod SlotHandle
+mod StoreNew
+mod FoundHandle
+mod NewBlockSlot
+mod MadeRowAge
+mod StoreOpen
+mod QueueTake
+mod SceneReading
+mod ChainVisits
+mod StoreCollect
+mod AnchorLists
+mod PinnedAddress
+mod AddressSteps
+pub mod StateHeap
+pub mod RootIdentities
+mod EntrySearch
+mod HeldRoom
+pub mod SoundCalls
+pub mod OfferPlaces

@@ -1,0 +1,100 @@
+-- The handle in a slot of a store, as commands find it.
+use Rattle.hd_store.proofs.StoreWords.{Addr, Handle, IfSome, IsNamed, IsStored, IsTable, Kind, Machine, MayBeStored, None, Option, Parts, Row, Slot, Some, age_of, ap, block_of, extra_of, fits, generation_at, get, handle_at, handle_named, handle_of, id_at, is_object, kind_in_use, machine_of, object_at, object_named, option_map, refl, rename_handle, same_Some, secondary_of, subst, sym, true, use_of, ◌∙◌, ◌≡◌, ◌≤◌}
+use Rattle.hd_seg.specs.Row.{row_of}
+use Rattle.hd_seg.proofs.RowRewrite.{extra_again}
+use Rattle.hd_store.proofs.{IdentityReadings.no_some, IdentityReadings.names-are, NamedAddresses.objects_named, NamedAddresses.generation-is, StoreRows.row-read}
+
+pub same_handle : (h : Handle Addr) → handle_of h.kind (row_of h) ≡ h
+same_handle h = λ i. record { kind = h.kind; target = h.target; extra = extra_again h.extra i }
+
+pub no_row : (o : Option (Handle Addr)) → option_map row_of o ≡ None → o ≡ None
+no_row None is = refl
+no_row (Some h) is = absurd (no_some (row_of h) is)
+
+-- the handle of a row that was found
+pub record Found (f : Parts) (slot : Slot) (row : Row) : Type 0 where
+  pub handle : Handle Addr
+  pub is_stored : get f.table.rows slot.0 ≡ Some handle
+  pub row_is : row ≡ row_of handle
+
+pub found : (f : Parts) (slot : Slot) (row : Row) → Some row ≡ option_map row_of (get f.table.rows slot.0)
+    → Found f slot row
+found f slot row is = by (get f.table.rows slot.0) refl
+  where
+    by : (o : Option (Handle Addr)) → get f.table.rows slot.0 ≡ o → Found f slot row
+    by None e = absurd (no_some row (is ∙ ap (option_map row_of) e))
+    by (Some h) e =
+        record {
+          handle = h;
+          is_stored = e;
+          row_is = same_Some row (row_of h) (is ∙ ap (option_map row_of) e);
+        }
+
+module _ (f : Parts) (m : Machine) (view : machine_of f ≡ m) (stored : IsStored f) (table : IsTable f.table)
+    (slot : Slot) (free : get f.weak.held slot.0 ≡ None) (row : Row)
+    (is : Some row ≡ option_map row_of (get f.table.rows slot.0)) where
+  at : Found f slot row
+  at = found f slot row is
+
+  kind_use : kind_in_use (use_of m.state (block_of slot)) ≡ Some at.handle.kind
+  kind_use =
+      ap (λ (n : Machine). kind_in_use (use_of n.state (block_of slot))) (sym view)
+      ∙ ap kind_in_use (table.rows slot.0 at.handle at.is_stored).block
+
+  -- its block has a kind
+  pub kind-there : None ≡ kind_in_use (use_of m.state (block_of slot)) → ⊥
+  kind-there none = no_some at.handle.kind (sym kind_use ∙ sym none)
+
+  module _ (kind : Kind) (known : Some kind ≡ kind_in_use (use_of m.state (block_of slot))) where
+    kind_is : kind ≡ at.handle.kind
+    kind_is = same_Some kind at.handle.kind (known ∙ kind_use)
+
+    whole : handle_of kind row ≡ at.handle
+    whole = (λ i. handle_of (kind_is i) (at.row_is i)) ∙ same_handle at.handle
+
+    pub handle-is : handle_at m.state slot ≡ Some (handle_named m kind row)
+    handle-is =
+        row-read f m view slot free ∙ ap (option_map (rename_handle (id_at f.heap))) at.is_stored
+        ∙ ap (λ h. Some (rename_handle (id_at f.heap) h)) (sym whole)
+        ∙ ap (λ g. Some (rename_handle g (handle_of kind row))) (sym (names-are f.heap))
+        ∙ ap (λ (n : Machine). Some (handle_named n kind row)) view
+
+    named : (o : Option Addr) → ((x : Addr) → o ≡ Some x → is_object (object_at f.heap) x ≡ true)
+        → IsNamed m.names o
+    named o each = subst (λ (n : Machine). IsNamed n.names o) view (objects_named f.heap o each)
+
+    aged : (o : Option Addr) → IsNamed m.names o
+        → ((x : Addr) → o ≡ Some x → age_of f.ages slot.0 ≤ generation_at (object_at f.heap) x)
+        → IfSome o (λ a. age_of m.ages slot.0 ≤ (object_named m a).generation)
+    aged None there each = tt
+    aged (Some a) there each =
+        subst (λ ages. age_of ages slot.0 ≤ (object_named m a).generation) (ap (λ (n : Machine). n.ages) view)
+        (subst (λ g. age_of f.ages slot.0 ≤ g) (generation-is f m view stored a there) (each a refl))
+
+    target_is : row.target ≡ at.handle.target
+    target_is = ap (λ (h : Handle Addr). h.target) whole
+
+    extra_is : extra_of row.extra ≡ at.handle.extra
+    extra_is = ap (λ (h : Handle Addr). h.extra) whole
+
+    second_is : secondary_of (extra_of row.extra) ≡ secondary_of at.handle.extra
+    second_is = ap secondary_of extra_is
+
+    pub handle-may : MayBeStored m slot kind row
+    handle-may =
+        let h = at.handle in
+        let target : IsNamed m.names row.target =
+        named row.target (λ x e. stored.whole.targets slot.0 h x at.is_stored (sym target_is ∙ e)) in
+        let second : IsNamed m.names (secondary_of (extra_of row.extra)) =
+        named (secondary_of (extra_of row.extra))
+        (λ x e. stored.whole.secondaries slot.0 h x at.is_stored (sym second_is ∙ e)) in
+        record {
+          fits = (λ i. fits (kind_is i) (extra_is i)) ∙ (table.rows slot.0 h at.is_stored).fits;
+          target = target;
+          secondary = second;
+          paired = λ none. second_is ∙ stored.whole.paired slot.0 h at.is_stored (sym target_is ∙ none);
+          target_age =
+              aged row.target target (λ x e. stored.ages.targets slot.0 h x at.is_stored (sym target_is ∙ e));
+          secondary_age = aged (secondary_of (extra_of row.extra)) second
+              (λ x e. stored.ages.secondaries slot.0 h x at.is_stored (sym second_is ∙ e));
+        }

@@ -1,0 +1,103 @@
+-- A command of a store keeps it well formed, and what a store asks of a command is what its contents ask.
+use Rattle.hd_store.proofs.StoreWords.{Entry, FinMap, HasLimits, IsOffer, IsValid, IsWellFormed, KeepsPlaces, Machine, MayRun, None, Numbers, Option, Slot, Some, State, T, empty, get, nat_cmp, nothing_at, refl, start_of, subst, sym, with_places, ℕ, ◌<◌, ◌≡◌}
+use Rattle.std.specs.Prelude.{IsSome}
+use Rattle.hd_model.proofs.{RunCounts.fresh, WellFormedSteps.step_keeps, WellFormedSteps.start_is_well_formed, WellFormedWrites.handle_register_keeps}
+use Rattle.hd_model.specs.State.{with_handle_register}
+use Rattle.hd_store.specs.Calls.{IsSound, StaysWithin}
+use Rattle.hd_store.specs.declared.done.CallerCommand.{CallerCommand}
+
+-- pinned addresses are no part of what makes a state well formed, where there are none
+pub unplaced : (n : Numbers) (s : State) (p : FinMap nat_cmp ℕ) → IsWellFormed n (with_places s p)
+    → IsWellFormed n (with_places s empty)
+unplaced n s p w = record {
+  shape = record {
+    registers = w.shape.registers;
+    each_registers = w.shape.each_registers;
+    handle_registers = w.shape.handle_registers;
+    each_handle_registers = w.shape.each_handle_registers;
+    statics = w.shape.statics;
+    board = w.shape.board;
+    serials = w.shape.serials;
+  };
+  names = record {
+    fields = w.names.fields;
+    registers = w.names.registers;
+    statics = w.names.statics;
+    targets = w.names.targets;
+    secondaries = w.names.secondaries;
+    queue = w.names.queue;
+    places = λ id there. absurd (no_place id there);
+    keys = w.names.keys;
+    values = w.names.values;
+  };
+  objects = record {
+    sizes = w.objects.sizes;
+    generations = w.objects.generations;
+    queued_once = w.objects.queued_once;
+  };
+  serials = record {
+    from_one = w.serials.from_one;
+    to_last = w.serials.to_last;
+    limit = w.serials.limit;
+  };
+  handles = record {
+    kinds = w.handles.kinds;
+    extras = w.handles.extras;
+    dependents = w.handles.dependents;
+    blocks = w.handles.blocks;
+  };
+  weak = record { kinds = w.weak.kinds; apart = w.weak.apart; once = w.weak.once };
+}
+  where
+    no_place : (id : ℕ) → IsSome (get (empty {X = ℕ} {R = nat_cmp}) id) → ⊥
+    no_place id there = by (get (empty {X = ℕ} {R = nat_cmp}) id) refl there
+      where
+        by : (o : Option ℕ) → get (empty {X = ℕ} {R = nat_cmp}) id ≡ o → IsSome o → ⊥
+        by None is there = subst T (sym there) tt
+        by (Some place) is there = nothing_at id place is
+
+pub sound-after : (m k : Machine) (e : Entry) → IsSound m → KeepsPlaces m e k → IsSound k
+sound-after m k e sound keeps =
+    let moved = keeps empty (λ x at found. absurd (nothing_at x at found)) in record {
+      limits = subst HasLimits (sym moved.numbers) sound.limits;
+      well_formed = subst (λ n. IsWellFormed n (with_places k.state empty)) (sym moved.numbers)
+          (unplaced m.numbers k.state moved.places (step_keeps m.numbers (with_places m.state empty)
+          (with_places k.state moved.places) e sound.well_formed moved.step));
+    }
+
+pub sound-at-first : (m : Machine) → HasLimits m.numbers → m.state ≡ start_of m.numbers → IsSound m
+sound-at-first m limits first = record {
+  limits = limits;
+  well_formed = subst (λ s. IsWellFormed m.numbers (with_places s empty)) (sym first)
+      (start_is_well_formed m.numbers);
+}
+
+-- a slot in a handle register makes no difference
+pub sound-pointed : (m : Machine) (caller h : ℕ) (slot : Option Slot) → IsSound m → caller < m.numbers.callers
+    → IsSound (record m { state = with_handle_register m.state caller h slot })
+sound-pointed m caller h slot sound known = record {
+  limits = sound.limits;
+  well_formed = unplaced m.numbers (with_handle_register m.state caller h slot) empty
+      (handle_register_keeps m.numbers (with_places m.state empty) sound.well_formed caller h slot known);
+}
+
+pub may-run : (m : Machine) (asked : CallerCommand) (offer : Option Slot) → IsSound m
+    → asked.caller < m.numbers.callers → IsValid asked.cmd → IsOffer m.state asked.caller asked.cmd offer
+    → StaysWithin m.state asked.caller asked.cmd → MayRun m asked offer
+may-run m asked offer sound caller valid may within =
+    let w = sound.well_formed in record {
+      handles = record {
+        kinds = w.handles.kinds;
+        extras = w.handles.extras;
+        dependents = w.handles.dependents;
+        blocks = w.handles.blocks;
+      };
+      weak = record { kinds = w.weak.kinds; apart = w.weak.apart; once = w.weak.once };
+      caller = caller;
+      valid = valid;
+      offer = may;
+      serial = within.serial;
+      fresh = λ d fields fin is.
+          fresh m.numbers (with_places m.state empty) asked.caller w (within.serial d fields fin is);
+      count = within.count;
+    }

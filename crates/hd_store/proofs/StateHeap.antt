@@ -1,0 +1,96 @@
+-- The state of a store is that of its heap and its table, and what keeps its pinned address is kept at it.
+use Rattle.hd_store.proofs.StoreWords.{AreAddresses, Cmd, Entry, FinMap, Id, IsFreePlace, IsOfHeap, IsOfTable, IsOverHeap, IsPinned, IsStored, IsStoredAt, KeepsPlaces, Machine, MatchOption, None, Numbers, Parts, Some, State, ap, cases_eq, cond, empty, false, get, get_beside, get_inserted, inl, inr, insert, is_collect, is_pinned, machine_of, names_of, nat_cmp, nothing_at, objects_by_id, pinned_decides, pinned_target, refl, rows_by_id, same_Some, subst, sym, true, true≢false, weak_by_id, with_places, ℕ, ◌∙◌, ◌≡◌, ◌⊎◌}
+use Rattle.hd_model.proofs.Effects.{Effect, replies_place, collects, effect}
+use Rattle.hd_store.proofs.{IdentityReadings.names-get, EntryReadings.row-reads, AddressSteps.returns-address}
+use Rattle.hd_model.specs.declared.data.Reply.TheVariants as reply
+use Rattle.hd_model.specs.declared.command.Cmd.TheVariants as cmd
+
+module _ (f : Parts) (stored : IsStored f) where
+  over : IsOverHeap (machine_of f)
+  unfolding names_of objects_by_id rows_by_id weak_by_id
+  over = record {
+    names = refl;
+    heap = record {
+      objects = refl;
+      identities = stored.identities;
+      places = λ x place is. absurd (nothing_at x place is);
+      cards = stored.cards;
+    };
+    table = record { rows = λ slot. sym (row-reads f stored.whole.paired stored.tied slot); uses = refl };
+  }
+
+pub over-heap : (f : Parts) (m : Machine) → machine_of f ≡ m → IsStored f → IsOverHeap m
+over-heap f m view stored = subst IsOverHeap view (over f stored)
+
+-- with pinned addresses that are those of their objects it is still that of its heap
+pub of-heap : (m : Machine) (p : FinMap nat_cmp ℕ) → IsOverHeap m → AreAddresses m.names p
+    → IsOfHeap (with_places m.state p) m.heap
+of-heap m p over are = record {
+  objects = over.heap.objects;
+  identities = over.heap.identities;
+  places = λ x place is.
+      sym (names-get m.heap place) ∙ ap (λ names. get names place) (sym over.names) ∙ are x place is;
+  cards = over.heap.cards;
+}
+
+-- no pinned address is in the table
+pub of-table : (m : Machine) (p : FinMap nat_cmp ℕ) → IsOverHeap m
+    → IsOfTable (with_places m.state p) m.heap m.table
+of-table m p over = record { rows = over.table.rows; uses = over.table.uses }
+
+-- what keeps its pinned address over a step: what is pinned, and all over a step of no collection
+module _ (n : Numbers) (s : State) (e : Entry) (x a : ℕ) where
+  place_stays : (c : Cmd) (t : State) → Effect n s e c t → get s.places x ≡ Some a
+      → (is_collect c ≡ false) ⊎ (is_pinned s.handles x ≡ true) → get t.places x ≡ Some a
+  place_stays c t (collects did) is (inl not) = absurd (true≢false not)
+  place_stays c t (collects did) is (inr pinned) =
+      did.collects.places x ∙ ap (λ b. cond b (get s.places x) None) pinned ∙ is
+  place_stays c t (replies_place slot handle id place found target may reply) is why =
+      elim (cases_eq x id.0) [
+        | inl same ↦ ap (get (insert s.places id.0 place)) same ∙ get_inserted s.places id.0 place ∙ ap Some
+            (subst (λ o. MatchOption o (IsFreePlace s id place) (λ own. place ≡ own))
+            (ap (get s.places) (sym same) ∙ is) may)
+        | inr apart ↦ get_beside s.places id.0 place x apart ∙ is
+      ]
+  place_stays c t _ is why = is
+
+-- one pinned address, which is that of its object
+one_address : (names : FinMap nat_cmp Id) (x : Id) (a : ℕ) → get names a ≡ Some x
+    → AreAddresses names (insert empty x.0 a)
+one_address names x a named y b is =
+    elim (cases_eq y x.0) [
+      | inl same ↦
+          ap (get names)
+          (sym (same_Some a b
+          (sym (get_inserted empty x.0 a) ∙ ap (get (insert empty x.0 a)) (sym same) ∙ is)))
+          ∙ named ∙ (λ i. Some (record { 0 = sym same i }))
+      | inr apart ↦ absurd (nothing_at y b (sym (get_beside empty x.0 a y apart) ∙ is))
+    ]
+
+module _ (m k : Machine) (e : Entry) (keeps : KeepsPlaces m e k) (before : IsOverHeap m)
+    (after : IsOverHeap k) (x : Id) (a : ℕ) where
+  keeps_name : (is_collect e.cmd ≡ false) ⊎ (is_pinned m.state.handles x.0 ≡ true) → get m.names a ≡ Some x
+      → get k.names a ≡ Some x
+  keeps_name why named =
+      let p = insert empty x.0 a in
+      let moved = keeps p (one_address m.names x a named) in
+      moved.addresses x.0 a (place_stays m.numbers (with_places m.state p) e x.0 a e.cmd
+      (with_places k.state moved.places)
+      (effect m.numbers (with_places m.state p) e (with_places k.state moved.places) moved.step)
+      (get_inserted empty x.0 a) why)
+
+  pub keeps-address : (is_collect e.cmd ≡ false) ⊎ (is_pinned m.state.handles x.0 ≡ true)
+      → IsStoredAt m.heap x a → IsStoredAt k.heap x a
+  keeps-address why is =
+      sym (names-get k.heap a) ∙ ap (λ names. get names a) (sym after.names)
+      ∙ keeps_name why (ap (λ names. get names a) before.names ∙ names-get m.heap a ∙ is)
+
+  pub returns-stored : (h : ℕ) → e.cmd ≡ cmd.AddrOf h → e.reply ≡ reply.Place a
+      → pinned_target m.state e.caller h ≡ Some x → IsStoredAt k.heap x a
+  returns-stored h same in_reply pinned =
+      sym (names-get k.heap a) ∙ ap (λ names. get names a) (sym after.names)
+      ∙ returns-address m k e keeps h a x same in_reply pinned
+
+  pub keeps-pinned : IsPinned (λ slot. get m.state.handles slot) x → IsStoredAt m.heap x a
+      → IsStoredAt k.heap x a
+  keeps-pinned pinned = keeps-address (inr ((pinned_decides m.state.handles x).1 pinned))

@@ -1,0 +1,88 @@
+use Rattle.hd_store.proofs.StoreWords.{Addr, IsMade, KeepsNames, Machine, None, Option, ap, arith, get, get_inserted, identity_of, is_some, last_serial, length, length-replicate, new_object, parts, subst, sym, total_size, used_of, ◌+◌, ◌<◌, ◌∙◌, ◌≡◌}
+use Rattle.std.proofs.lemmas.Grind.{get_or_default_zero}
+use Rattle.hd_heap.specs.Calls.{IsRefused as IsRefusedBy}
+use Rattle.hd_store.proofs.StateCounts.{used-is, few_objects}
+use Rattle.hd_store.proofs.StoreNew.{stored-next, machine-next, names-next, refused-next, stored-refused, roomier, room_enough, either_roomier}
+use Rattle.hd_store.proofs.contents.Contents.add_object.Goals.{After-from}
+use Rattle.hd_store.proofs.contents.Contents.add_object.Goals as goal
+
+-- the serial of the new object
+last : (c : After-from) → c.index.result.now + 1 ≡ last_serial c.args.self.now.state c.args.caller + 1
+last c =
+    let callers : length c.self.inside.handle_registers.items ≡ c.args.self.now.numbers.callers =
+    ap (λ (m : Machine). m.numbers.callers) c.self.view_is in
+    let within : c.args.caller < length c.self.inside.serials.items = omega
+    (arith, c.requires.caller, callers, c.self.invariant.serials) in
+    ap (λ n. n + 1)
+    (c.index.ensures ∙ get_or_default_zero c.self.inside.serials.items c.args.caller c.index.result.now within
+    ∙ ap (λ (m : Machine). last_serial m.state c.args.caller) c.self.view_is)
+
+pub make-requires-clause-few : goal.make-requires-clause-few
+make-requires-clause-few c =
+    let few = few_objects c.self.inside.heap in omega
+    (arith, few, c.self.invariant.within, c.self.invariant.limit)
+
+pub invariant_of-self : goal.invariant_of-self
+invariant_of-self c =
+    let at = (goal.at.invariant_of-self c).After-from in
+    let f = parts c.self.inside in
+    let q = c.make.new.queue in
+    stored-next f c.args.self.now c.self.view_is c.self.invariant c.make.new.heap c.in-Ok.at
+    c.identity-id.result c.from.result c.args.fin c.in-Ok.ensures.heap c.args.caller
+    (c.index.result.now + 1) (last at) c.identity-id.ensures.value c.requires.fresh q
+    (roomier f.queue q _ c.in-Ok.ensures.queue).0 (room_enough f.queue q _ c.in-Ok.ensures.queue)
+
+pub returns-in-Ok-clause-made : goal.returns-in-Ok-clause-made
+returns-in-Ok-clause-made c =
+    let at = (goal.at.returns-in-Ok-clause-made c).After-from in
+    let f = parts c.self.inside in
+    let q = c.make.new.queue in
+    machine-next f c.args.self.now c.self.view_is c.self.invariant c.make.new.heap c.in-Ok.at
+    c.identity-id.result c.args.fields c.args.fin
+    (subst (λ n. IsMade c.self.inside.heap c.make.new.heap c.in-Ok.at
+    (new_object c.identity-id.result n c.args.fin)) c.from.ensures c.in-Ok.ensures.heap) c.args.caller
+    (c.index.result.now + 1) (last at) c.identity-id.ensures.value c.requires.fresh q
+    (roomier f.queue q _ c.in-Ok.ensures.queue).0 (room_enough f.queue q _ c.in-Ok.ensures.queue)
+
+pub invariant_of-self-in-Err : goal.invariant_of-self-in-Err
+invariant_of-self-in-Err c =
+    let f = parts c.self.inside in
+    stored-refused f c.args.self.now c.self.view_is c.self.invariant c.make.new.heap c.make.new.queue
+    (either_roomier f.queue c.make.new.queue _ c.in-Err.ensures.queue)
+    (c.from.result + 3) c.in-Err.fault c.in-Err.ensures.heap
+
+pub returns-in-Err-clause-refused : goal.returns-in-Err-clause-refused
+returns-in-Err-clause-refused c =
+    let f = parts c.self.inside in
+    refused-next f c.args.self.now c.self.view_is c.self.invariant c.make.new.heap c.make.new.queue
+    (either_roomier f.queue c.make.new.queue _ c.in-Err.ensures.queue)
+    (c.args.fields + 3) c.in-Err.fault (subst
+    (λ n. IsRefusedBy c.self.inside.heap c.make.new.heap (n + 3) c.in-Err.fault) c.from.ensures
+    c.in-Err.ensures.heap)
+
+pub returns-in-Ok-clause-fits : goal.returns-in-Ok-clause-fits
+returns-in-Ok-clause-fits c =
+    let m = c.args.self.now in
+    let f = parts c.self.inside in
+    let used : used_of f.heap ≡ total_size m.state = sym (used-is f.heap c.self.invariant.identities)
+    ∙ ap (λ (n : Machine). total_size n.state) c.self.view_is in
+    let limit : f.heap.limit ≡ m.numbers.heap = ap (λ (n : Machine). n.numbers.heap) c.self.view_is in
+    let size = length-replicate {A = Option Addr} c.from.result None in
+    omega (arith, c.in-Ok.ensures.heap.fits, used, limit, size, c.from.ensures)
+
+pub returns-in-Ok-clause-known : goal.returns-in-Ok-clause-known
+returns-in-Ok-clause-known c = ap (λ (m : Machine). is_some (get m.names c.in-Ok.at.0))
+    (returns-in-Ok-clause-made c) ∙ ap is_some
+    (get_inserted c.args.self.now.names c.in-Ok.at.0
+    (identity_of c.args.caller (last_serial c.args.self.now.state c.args.caller + 1)))
+
+pub returns-in-Ok-clause-kept : goal.returns-in-Ok-clause-kept
+returns-in-Ok-clause-kept c =
+    let at = (goal.at.returns-in-Ok-clause-kept c).After-from in
+    let f = parts c.self.inside in
+    let q = c.make.new.queue in
+    subst (λ (m : Machine). KeepsNames c.args.self.now.names m.names) (sym (returns-in-Ok-clause-made c))
+    (names-next f c.args.self.now c.self.view_is c.self.invariant c.make.new.heap c.in-Ok.at
+    c.identity-id.result c.from.result c.args.fin c.in-Ok.ensures.heap c.args.caller
+    (c.index.result.now + 1) (last at) c.identity-id.ensures.value c.requires.fresh q
+    (roomier f.queue q _ c.in-Ok.ensures.queue).0 (room_enough f.queue q _ c.in-Ok.ensures.queue))

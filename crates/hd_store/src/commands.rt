@@ -1,0 +1,101 @@
+// One command of a caller, as a step of the machine.
+ghost use Rattle.std.specs.Prelude.{◌≡◌, false, None, MatchResult};
+ghost use Rattle.hd_model.specs.{Class.class_of, Touched.touched_by};
+ghost use Rattle.hd_store.specs.Commands.{MayRun, HasRun, IsPlainStep, done_of, entry_of};
+ghost use Rattle.hd_store.specs.{Places.KeepsPlaces, Visited.key_register, Visited.TakesSteps, Offers.RanOut};
+
+use crate::contents::Contents;
+use crate::done::{CallerCommand, Done};
+use crate::{collection, making, on_entries, on_handles, on_objects, places, rooting};
+use hd_model::{Cmd, Entry, Memory, Refusal, Slot, Steps};
+use std::sync::ledger::Ledger;
+
+// Does a command of a caller that neither reads nor changes a pinned address, nor looks at the weak
+// table. Its entry and the state after it are a step of the machine. An offered slot or block is
+// taken. Without one a new handle makes the table grow, or finds it full.
+fn carry_out(
+    store: &mut Contents,
+    asked: CallerCommand,
+    offer: Option<Slot>,
+) -> Result<Result<Done, Refusal>, Memory>
+    requires may { MayRun store.old asked offer }
+    requires plain { (touched_by asked.cmd).places ≡ false }
+    requires no_key { key_register (class_of asked.cmd) ≡ None }
+    ensures done { let m = store.old in let k = store.new in
+        MatchResult result (λ done. let e = entry_of asked (done_of done) in
+        HasRun m asked offer e (IsPlainStep m asked.cmd k e))
+        (λ _. RanOut m.numbers m.state asked.cmd m k) }
+    // What was required, for the proof of the call.
+    ensures no_key { key_register (class_of asked.cmd) ≡ None }
+{
+    let caller = asked.caller;
+    match asked.cmd {
+        Cmd::New { d, fields, fin } => on_objects::new_object(store, caller, d, fields, fin),
+        Cmd::Set { o, i, v } => Ok(on_objects::set_field(store, caller, o, i, v)),
+        Cmd::Get { d, o, i } => Ok(on_objects::get_field(store, caller, d, o, i)),
+        Cmd::Val { o, n } => Ok(on_objects::set_value(store, caller, o, n)),
+        Cmd::Read { o } => Ok(on_objects::read_value(store, caller, o)),
+        Cmd::Copy { d, s } => Ok(Ok(on_objects::copy_register(store, caller, d, s))),
+        Cmd::Clear { d } => Ok(Ok(on_objects::clear_register(store, caller, d))),
+        Cmd::SPut { k, s } => Ok(Ok(on_objects::put_static(store, caller, k, s))),
+        Cmd::SGet { d, k } => Ok(Ok(on_objects::get_static(store, caller, d, k))),
+        Cmd::Gen { s } => Ok(on_objects::read_generation(store, caller, s)),
+        Cmd::Suppress { s } => Ok(on_objects::set_registered(store, caller, s, false)),
+        Cmd::Reregister { s } => Ok(on_objects::set_registered(store, caller, s, true)),
+        Cmd::Final { d } => Ok(Ok(on_objects::take_queued(store, caller, d))),
+        Cmd::HNew { d, make, t } => Ok(making::new_handle(store, caller, d, make, t, offer)),
+        Cmd::HGet { d, s } => Ok(on_handles::get_target(store, caller, d, s)),
+        Cmd::HSet { s, t } => Ok(on_handles::set_target(store, caller, s, t)),
+        Cmd::HSec { h, s } => Ok(on_handles::set_secondary(store, caller, h, s)),
+        Cmd::HDep { d, s } => Ok(on_handles::get_secondary(store, caller, d, s)),
+        Cmd::HVar { s, strength } => Ok(on_handles::set_strength(store, caller, s, strength)),
+        Cmd::HFree { s } => Ok(on_handles::free_handle(store, caller, s)),
+        Cmd::HPut { k, s } => Ok(Ok(on_handles::put_board(store, caller, k, s))),
+        Cmd::HPick { d, k } => Ok(Ok(on_handles::pick_board(store, caller, d, k))),
+        Cmd::HUp { s } => Ok(on_handles::raise_count(store, caller, s)),
+        Cmd::HDown { s } => Ok(on_handles::lower_count(store, caller, s)),
+        Cmd::Trim { kind } => Ok(Ok(making::trim(store, caller, kind, offer))),
+        Cmd::GcRoot { s } => rooting::return_root(store, caller, s),
+        // These use the pinned addresses, or the weak table.
+        Cmd::Collect { .. }
+        | Cmd::AddrOf { .. }
+        | Cmd::CAdd { .. }
+        | Cmd::CFind { .. }
+        | Cmd::CRemove { .. } => unreachable!(),
+    }
+}
+
+/// Does a command of a caller. From any pinned addresses that are those of their objects, its entry
+/// is a step of the machine to others that are.
+pub(crate) fn run<L: Ledger>(
+    store: &mut Contents,
+    asked: CallerCommand,
+    offer: Option<Slot>,
+    steps: &mut Steps<L>,
+) -> Result<Entry, Memory>
+    requires { MayRun store.old asked offer }
+    ensures { let m = store.old in let k = store.new in
+        MatchResult result (λ e. HasRun m asked offer e (KeepsPlaces m e k)
+        × TakesSteps m.state m.ages e steps.old steps.new)
+        (λ _. RanOut m.numbers m.state asked.cmd m k × (steps.new ≡ steps.old)) }
+{
+    if let Cmd::Collect { n } = asked.cmd {
+        let done = collection::collect_up_to(store, asked.caller, n, steps)?;
+        return Ok(asked.entry(Ok(done)));
+    }
+    if let Cmd::AddrOf { s } = asked.cmd {
+        return Ok(asked.entry(places::reply_place(store, asked.caller, s)));
+    }
+    if let Cmd::CAdd { k, v } = asked.cmd {
+        let done = on_entries::add_entry(store, asked.caller, k, v, offer, steps);
+        return Ok(asked.entry(done));
+    }
+    if let Cmd::CFind { d, k } = asked.cmd {
+        return Ok(asked.entry(on_entries::find_entry(store, asked.caller, d, k, steps)));
+    }
+    if let Cmd::CRemove { k } = asked.cmd {
+        return Ok(asked.entry(on_entries::remove_entry(store, asked.caller, k, steps)));
+    }
+    let done = carry_out(store, asked, offer)?;
+    Ok(asked.entry(done))
+}

@@ -1,0 +1,243 @@
+ghost use Rattle.std.specs.Prelude.{◌≡◌, ℕ, ◌+◌, ◌*◌, ◌<◌, ◌≤◌, ◌^◌, length, replicate, None, IfOk};
+ghost use Rattle.std.specs.FinMap.{len, empty};
+ghost use Rattle.hd_model.specs.State.{Numbers, start_of, register_of, handle_register_of, static_of, board_of, given_of, last_serial, total_size, with_register, with_handle_register, with_static, with_board};
+ghost use Rattle.hd_store.specs.{Reading.named_in, Reading.IsNamed, Store.IsOverHeap};
+
+use hd_ages::AgeMap;
+use hd_cwt::Cwt;
+use hd_final::Final;
+use hd_heap::Heap;
+use hd_model::limits::{BLOCKS, CALLERS, CLUMPS, HEAP, OLDEST, REGISTERS};
+use hd_model::{Addr, Memory, Slot};
+use hd_seg::Seg;
+use std::alloc::Global;
+use std::marker::Model;
+
+// A caller's registers of either sort, and as many statics and entries of the board.
+const PLACES: usize = REGISTERS as usize;
+
+/// The contents of a store: the state of the machine, with the ages of the clumps. Objects are
+/// referenced by address.
+#[derive(Drop)]
+pub(crate) struct Contents {
+    pub(crate) alloc: Global,
+    pub(crate) heap: Heap,
+    pub(crate) table: Seg,
+    pub(crate) ages: AgeMap,
+    pub(crate) weak: Cwt,
+    pub(crate) queue: Final,
+    // What the object registers of each caller in turn reference, and then the statics.
+    pub(crate) roots: Vec<Option<Addr>>,
+    pub(crate) handle_registers: Vec<[Option<Slot>; PLACES]>,
+    board: [Option<Slot>; PLACES],
+    pub(crate) serials: Vec<u32>,
+}
+
+impl Model for Contents {
+    ghost use Rattle.hd_store.specs.Store.{Machine, machine_of, machine_code};
+    ghost use Rattle.hd_store.specs.{Stored.IsStored, StoreParts.parts};
+
+    ghost Value = { Machine };
+
+    ghost coded = { machine_code };
+
+    ghost view = { λ s. machine_of (parts s) };
+
+    ghost invariant = { λ s. IsStored (parts s) };
+}
+
+// `count` copies of a value.
+fn filled<T: Copy + Drop>(alloc: Global, value: T, count: u32) -> Result<Vec<T>, Memory>
+    ensures { IfOk result (λ items. items.items ≡ replicate count value) }
+{
+    let mut items = Vec::new(alloc);
+    match items.resize(count as usize, value) {
+        Ok(()) => Ok(items),
+        Err(_) => Err(Memory),
+    }
+}
+
+impl Contents {
+    /// The state in which nothing is made yet.
+    pub(crate) fn open(
+        alloc: Global,
+        heap: u32,
+        blocks: u32,
+        callers: u32,
+    ) -> Result<Contents, Memory>
+        requires heap { heap ≤ HEAP }
+        requires blocks { blocks ≤ BLOCKS }
+        requires callers { callers ≤ CALLERS }
+        ensures numbers { let n : Numbers =
+            record { heap = heap; blocks = blocks; callers = callers } in
+            IfOk result (λ s. s.numbers ≡ n) }
+        ensures state { IfOk result (λ s. s.state ≡ start_of s.numbers) }
+        ensures names { IfOk result (λ s. s.names ≡ empty) }
+        ensures ages { IfOk result (λ s. s.ages ≡ replicate (CLUMPS * blocks) OLDEST) }
+    {
+        Ok(Contents {
+            alloc,
+            heap: Heap::open(alloc, heap)?,
+            table: Seg::open(alloc, blocks)?,
+            ages: AgeMap::open(alloc, blocks)?,
+            weak: Cwt::open(alloc, blocks)?,
+            queue: Final::open(alloc)?,
+            roots: filled(alloc, None, REGISTERS * callers + REGISTERS)?,
+            handle_registers: filled(alloc, [None; PLACES], callers)?,
+            board: [None; PLACES],
+            serials: filled(alloc, 0, callers)?,
+        })
+    }
+
+    /// What an object register references.
+    pub(crate) fn register(&self, caller: u32, d: u8) -> Option<Addr>
+        requires caller { caller < self.now.numbers.callers }
+        requires register { d < REGISTERS }
+        ensures value { named_in self.now.names result ≡ register_of self.now.state caller d }
+        ensures named { IsNamed self.now.names result }
+    {
+        self.roots[PLACES * caller as usize + d as usize]
+    }
+
+    /// An object register gets `v`.
+    pub(crate) fn set_register(&mut self, caller: u32, d: u8, v: Option<Addr>)
+        requires caller { caller < self.old.numbers.callers }
+        requires register { d < REGISTERS }
+        requires named { IsNamed self.old.names v }
+        ensures { let after = with_register self.old.state caller d (named_in self.old.names v) in
+            self.new ≡ record self.old { state = after } }
+    {
+        self.roots[PLACES * caller as usize + d as usize] = v;
+    }
+
+    /// What a static references.
+    pub(crate) fn static_at(&self, k: u8) -> Option<Addr>
+        requires { k < REGISTERS }
+        ensures value { named_in self.now.names result ≡ static_of self.now.state k }
+        ensures named { IsNamed self.now.names result }
+    {
+        self.roots[PLACES * self.handle_registers.len() + k as usize]
+    }
+
+    /// A static gets `v`.
+    pub(crate) fn set_static(&mut self, k: u8, v: Option<Addr>)
+        requires known { k < REGISTERS }
+        requires named { IsNamed self.old.names v }
+        ensures { let after = with_static self.old.state k (named_in self.old.names v) in
+            self.new ≡ record self.old { state = after } }
+    {
+        let place = PLACES * self.handle_registers.len() + k as usize;
+        self.roots[place] = v;
+    }
+
+    /// The slot in a handle register.
+    pub(crate) fn handle_register(&self, caller: u32, d: u8) -> Option<Slot>
+        requires caller { caller < self.now.numbers.callers }
+        requires register { d < REGISTERS }
+        ensures { result ≡ handle_register_of self.now.state caller d }
+    {
+        let row = &self.handle_registers[caller as usize];
+        row[d as usize]
+    }
+
+    /// A handle register gets `v`.
+    pub(crate) fn set_handle_register(&mut self, caller: u32, d: u8, v: Option<Slot>)
+        requires caller { caller < self.old.numbers.callers }
+        requires register { d < REGISTERS }
+        ensures { let after = with_handle_register self.old.state caller d v in
+            self.new ≡ record self.old { state = after } }
+    {
+        let row = &mut self.handle_registers[caller as usize];
+        row[d as usize] = v;
+    }
+
+    /// The slot in an entry of the board.
+    pub(crate) fn board_at(&self, k: u8) -> Option<Slot>
+        requires { k < REGISTERS }
+        ensures { result ≡ board_of self.now.state k }
+    {
+        self.board[k as usize]
+    }
+
+    /// An entry of the board gets `v`.
+    pub(crate) fn set_board(&mut self, k: u8, v: Option<Slot>)
+        requires { k < REGISTERS }
+        ensures { self.new ≡ record self.old { state = with_board self.old.state k v } }
+    {
+        self.board[k as usize] = v;
+    }
+
+    /// The number of objects, reachable or not.
+    pub(crate) fn objects(&self) -> u32
+        ensures value { result ≡ len self.now.state.objects }
+        ensures heap { IsOverHeap self.now }
+    {
+        self.heap.count()
+    }
+
+    /// The cells that all objects take together.
+    pub(crate) fn cells(&self) -> u32
+        ensures { result ≡ total_size self.now.state }
+    {
+        self.heap.used()
+    }
+
+    /// The number of objects that are queued for finalization.
+    pub(crate) fn queued(&self) -> u32
+        ensures { result ≡ length self.now.state.queue }
+    {
+        self.queue.len()
+    }
+
+    /// The serial of the last object that a caller made, 0 where it made none.
+    pub(crate) fn last_serial(&self, caller: u32) -> u32
+        requires { caller < self.now.numbers.callers }
+        ensures { result ≡ last_serial self.now.state caller }
+    {
+        self.serials[caller as usize]
+    }
+
+    /// The cells that all objects may take together.
+    pub(crate) fn limit(&self) -> u32
+        ensures { result ≡ self.now.numbers.heap }
+    {
+        self.heap.limit()
+    }
+
+    /// The number of callers.
+    pub(crate) fn callers(&self) -> u32
+        requires { self.now.numbers.callers ≤ CALLERS }
+        ensures { result ≡ self.now.numbers.callers }
+    {
+        self.handle_registers.len() as u32
+    }
+
+    /// The number of blocks that have a use.
+    pub(crate) fn given(&self) -> u32
+        ensures { result ≡ given_of self.now.state }
+    {
+        self.table.given()
+    }
+
+    /// The number of blocks that the table has at most.
+    pub(crate) fn blocks(&self) -> u32
+        ensures value { result ≡ self.now.numbers.blocks }
+        ensures table { result ≡ self.now.table.blocks }
+    {
+        self.ages.blocks()
+    }
+
+    /// The table.
+    pub(crate) fn table(&self) -> &Seg
+        ensures { result.now ≡ self.now.table }
+    {
+        &self.table
+    }
+
+    /// The number of live handles, without the slots that the weak table holds.
+    pub(crate) fn live(&self) -> u32
+        ensures { result ≡ len self.now.state.handles }
+    {
+        self.table.live() - self.weak.held_count()
+    }
+}

@@ -1,0 +1,102 @@
+// What a store does with the entries of the weak table, which are in rows of dependent handles.
+ghost use Rattle.std.specs.Prelude.{◌≡◌, ◌≤◌, Some, None, IsSome, IfSome};
+ghost use Rattle.std.specs.FinMap.{get};
+ghost use Rattle.hd_model.specs.declared.data.Kind.TheVariants as kind;
+ghost use Rattle.hd_model.specs.State.{with_weak, block_of, IsFree};
+ghost use Rattle.hd_model.specs.Command.{slot_of_key, idle_slot, value_at};
+ghost use Rattle.hd_store.specs.Reading.{name_in, named_in, IsNamed};
+ghost use Rattle.hd_store.specs.Entries.{entry_at, MayHaveEntry, HasNoEntry};
+ghost use Rattle.hd_store.specs.Visited.{SearchSteps};
+
+use crate::contents::Contents;
+use hd_model::{Addr, Slot, Steps};
+use hd_seg::{Extra, Row};
+use std::sync::ledger::Ledger;
+
+impl Contents {
+    /// The slot of the weak table with the entry of a key. Each entry that is looked at is a step.
+    pub(crate) fn slot_of_key<L: Ledger>(&self, key: Addr, steps: &mut Steps<L>) -> Option<Slot>
+        requires { IsSome (get self.now.names key.0) }
+        ensures value { result ≡ slot_of_key self.now.state (name_in self.now.names key) }
+        ensures held { IfSome result (λ slot. IsSome (get self.now.state.weak slot.0)) }
+        ensures steps { let id = name_in self.now.names key in
+            SearchSteps self.now.state id steps.old steps.new }
+    {
+        self.weak.find(self.id(key), steps)
+    }
+
+    /// The least slot of the weak table without an entry.
+    pub(crate) fn idle_slot(&self) -> Option<Slot>
+        ensures value { result ≡ idle_slot self.now.state }
+        ensures idle { IfSome result (λ slot. get self.now.state.weak slot.0 ≡ Some None) }
+        ensures within { IfSome result (λ slot.
+            (1 ≤ block_of slot) × (block_of slot ≤ self.now.numbers.blocks)) }
+    {
+        // For the proof: each row is in a block of its kind.
+        let _given = self.table.given();
+        self.weak.idle()
+    }
+
+    /// The value of the entry in a slot of the weak table.
+    pub(crate) fn entry_value(&self, slot: Slot) -> Option<Addr>
+        requires { IsSome (get self.now.state.weak slot.0) }
+        ensures value { named_in self.now.names result ≡ value_at self.now.state slot }
+        ensures named { IsNamed self.now.names result }
+    {
+        let Extra::Secondary(value) = self.table.row(slot).unwrap().extra else {
+            return None;
+        };
+        value
+    }
+
+    /// Puts an entry into a slot of the weak table without one.
+    pub(crate) fn fill_entry(&mut self, slot: Slot, key: Addr, value: Option<Addr>)
+        requires idle { get self.old.state.weak slot.0 ≡ Some None }
+        requires new { HasNoEntry self.old key }
+        requires may { MayHaveEntry self.old slot key value }
+        ensures { let entry = Some (entry_at self.old.names key value) in
+            let after = with_weak self.old.state slot entry in
+            self.new ≡ record self.old { state = after; table = self.new.table } }
+    {
+        let id = self.id(key);
+        // For the proof: a slot that is held is one of the blocks'.
+        let _held = self.weak.held_count();
+        self.table.set_row(slot, Some(key));
+        self.table.set_extra(slot, Extra::Secondary(value));
+        self.weak.add(id, slot);
+    }
+
+    /// Puts an entry into a free slot of a block of dependent handles, which the weak table holds
+    /// from then on.
+    pub(crate) fn hold_entry(&mut self, slot: Slot, key: Addr, value: Option<Addr>)
+        requires free { IsFree self.old.state kind.Dependent slot }
+        requires new { HasNoEntry self.old key }
+        requires may { MayHaveEntry self.old slot key value }
+        ensures { let entry = Some (entry_at self.old.names key value) in
+            let after = with_weak self.old.state slot entry in
+            self.new ≡ record self.old { state = after; table = self.new.table } }
+    {
+        // For the proof: each row is in a block of its kind.
+        let _given = self.table.given();
+        let id = self.id(key);
+        self.table.put_row(
+            slot,
+            Row {
+                target: Some(key),
+                extra: Extra::Secondary(value),
+            },
+        );
+        self.weak.add(id, slot);
+    }
+
+    /// Takes the entry out of its slot, which the weak table holds on.
+    pub(crate) fn clear_entry(&mut self, slot: Slot)
+        requires { IsSome (get self.old.state.weak slot.0) }
+        ensures { let after = with_weak self.old.state slot None in
+            self.new ≡ record self.old { state = after; table = self.new.table } }
+    {
+        self.table.set_row(slot, None);
+        self.table.set_extra(slot, Extra::Secondary(None));
+        self.weak.clear(slot);
+    }
+}

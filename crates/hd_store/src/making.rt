@@ -1,0 +1,153 @@
+// `hnew` and `trim`: handles are made, and blocks come into use and go out of it.
+ghost use Rattle.std.specs.Prelude.{◌≡◌, ℕ, ◌+◌, ◌*◌, ◌<◌, ◌≤◌, Some, None, false, IfOk, IfErr, IfSome, OnErr, OnSome};
+ghost use Rattle.hd_model.specs.declared.command.Cmd.TheVariants as cmds;
+ghost use Rattle.hd_model.specs.{Kinds.kind_of, Kinds.is_paired, Step.blocks_needed, Valid.IsValidMake, WellFormed.HasHandles, WellFormed.HasWeakTable, Aging.lowered_by_new};
+ghost use Rattle.hd_model.specs.State.{given_of, block_of, first_slot, IsFree, IsAllFree};
+ghost use Rattle.hd_store.specs.{Reading.named_in, Reading.IsNamed, Making.IsPlace, Making.IsMadeRow, Offers.IsOffer, declared.done.CallerCommand.CallerCommand};
+ghost use Rattle.hd_store.specs.Commands.{entry_of, done_of, HasRun, IsPlainStep};
+
+use crate::contents::Contents;
+use crate::done::{CallerCommand, Done};
+use crate::on_handles::lower_to;
+use hd_model::limits::{BLOCKS, REGISTERS, ROWS};
+use hd_model::{Addr, Grown, Kind, Make, Refusal, Reply, Slot};
+use hd_seg::{Extra, Full, Row};
+
+// The first slot of a block.
+fn first_slot(block: u32) -> Slot
+    requires { block ≤ BLOCKS }
+    ensures { result ≡ first_slot block }
+{
+    Slot(block * ROWS)
+}
+
+// The first slot of a new block. Where there is no block left, nothing is changed.
+fn new_place(store: &mut Contents, kind: Kind) -> Result<(Slot, Grown), Full>
+    requires handles { HasHandles store.old.numbers store.old.state }
+    requires weak { HasWeakTable store.old.state }
+    ensures place { IfOk result (λ place. IsPlace store.old store.new kind None place.0 place.1) }
+    ensures given { IfErr result (λ full. full.given ≡ given_of store.old.state) }
+    ensures full { OnErr result
+        (store.old.numbers.blocks < given_of store.old.state + blocks_needed kind) }
+    ensures kept { OnErr result (store.new ≡ store.old) }
+{
+    match store.give_blocks(kind) {
+        Ok(Grown::One(block)) => Ok((first_slot(block), Grown::One(block))),
+        Ok(Grown::Two(block, extras)) => Ok((first_slot(block), Grown::Two(block, extras))),
+        Ok(Grown::Zero | Grown::Back(_)) => unreachable!(),
+        Err(full) => Err(full),
+    }
+}
+
+/// The slot of a new handle: the offered one or, without one, the first of a new block.
+pub(crate) fn place(
+    store: &mut Contents,
+    kind: Kind,
+    offer: Option<Slot>,
+) -> Result<(Slot, Grown), Full>
+    requires handles { HasHandles store.old.numbers store.old.state }
+    requires weak { HasWeakTable store.old.state }
+    requires offer { IfSome offer (IsFree store.old.state kind) }
+    ensures place { IfOk result (λ place.
+        IsPlace store.old store.new kind offer place.0 place.1) }
+    ensures given { IfErr result (λ full. full.given ≡ given_of store.old.state) }
+    ensures full { OnErr result
+        (store.old.numbers.blocks < given_of store.old.state + blocks_needed kind) }
+    ensures unoffered { OnErr result (offer ≡ None) }
+    ensures kept { OnErr result (store.new ≡ store.old) }
+{
+    match offer {
+        Some(slot) => Ok((slot, Grown::Zero)),
+        None => new_place(store, kind),
+    }
+}
+
+// What a new handle has beside its target. Without a target a dependent handle has no secondary
+// either.
+fn made_row(store: &Contents, caller: u32, make: Make, t: u8) -> Row
+    requires caller { caller < store.now.numbers.callers }
+    requires register { t < REGISTERS }
+    requires make { IsValidMake make }
+    ensures { IsMadeRow store.now caller make t result }
+{
+    let target = store.register(caller, t);
+    let extra = match make {
+        Make::Short | Make::Long | Make::Strong | Make::Pinned => Extra::Nothing,
+        Make::Variable(strength) => Extra::Strength(strength),
+        Make::Counted => Extra::Count(1),
+        Make::Dependent(r) => {
+            let secondary = store.register(caller, r);
+            Extra::Secondary(target.and(secondary))
+        }
+    };
+    Row { target, extra }
+}
+
+// Lowers the age of a slot's clump for a handle that is made there. A dependent one, which may get
+// any secondary, makes it 0.
+fn lower_for(store: &mut Contents, slot: Slot, make: Make, target: Option<Addr>)
+    requires low { 1 ≤ block_of slot }
+    requires high { block_of slot ≤ store.old.numbers.blocks }
+    requires named { IsNamed store.old.names target }
+    ensures { let named = named_in store.old.names target in
+        let ages = lowered_by_new store.old.state store.old.ages (Some slot) make named in
+        store.new ≡ record store.old { ages = ages } }
+{
+    match make.secondary() {
+        Some(_) => store.lower_age(slot, 0),
+        None => lower_to(store, slot, target),
+    }
+}
+
+/// `hnew hD KIND rT ..`: takes the offered slot or, without one, the first slot of a new block.
+pub(crate) fn new_handle(
+    store: &mut Contents,
+    caller: u32,
+    d: u8,
+    make: Make,
+    t: u8,
+    offer: Option<Slot>,
+) -> Result<Done, Refusal>
+    requires handles { HasHandles store.old.numbers store.old.state }
+    requires weak { HasWeakTable store.old.state }
+    requires caller { caller < store.old.numbers.callers }
+    requires registers { (d < REGISTERS) × (t < REGISTERS) }
+    requires make { IsValidMake make }
+    requires offer { IfSome offer (IsFree store.old.state (kind_of make)) }
+    ensures { let asked : CallerCommand = record { caller = caller; cmd = cmds.HNew d make t } in
+        let e = entry_of asked (done_of result) in
+        HasRun store.old asked offer e (IsPlainStep store.old asked.cmd store.new e) }
+{
+    let row = made_row(store, caller, make, t);
+    let (slot, grown) = match place(store, make.kind(), offer) {
+        Ok(place) => place,
+        Err(full) => return Err(Refusal::TableFull { given: full.given }),
+    };
+    lower_for(store, slot, make, row.target);
+    store.put_row(slot, make.kind(), row);
+    store.set_handle_register(caller, d, Some(slot));
+    Ok(Done {
+        slot: Some(slot),
+        grown,
+        ..Done::of(Reply::Done)
+    })
+}
+
+/// `trim KIND`: gives back the block of the offered slot or, without one, none.
+pub(crate) fn trim(store: &mut Contents, caller: u32, kind: Kind, offer: Option<Slot>) -> Done
+    requires single { is_paired kind ≡ false }
+    requires offer { IsOffer store.old.state caller (cmds.Trim kind) offer }
+    ensures { let asked : CallerCommand = record { caller = caller; cmd = cmds.Trim kind } in
+        let e = entry_of asked result in
+        HasRun store.old asked offer e (IsPlainStep store.old asked.cmd store.new e) }
+{
+    let Some(slot) = offer else {
+        return Done::of(Reply::Value(0));
+    };
+    let block = slot.0 / ROWS;
+    store.take_back(kind, block);
+    Done {
+        grown: Grown::Back(block),
+        ..Done::of(Reply::Value(1))
+    }
+}

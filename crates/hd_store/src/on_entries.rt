@@ -1,0 +1,142 @@
+// The commands on the weak table.
+ghost use Rattle.std.specs.Prelude.{◌≡◌, ◌<◌};
+ghost use Rattle.hd_model.specs.declared.command.Cmd.TheVariants as cmds;
+ghost use Rattle.hd_model.specs.{WellFormed.HasHandles, WellFormed.HasWeakTable, Valid.IsValid};
+ghost use Rattle.hd_store.specs.Commands.{HasRun, IsPlainStep, entry_of, done_of};
+ghost use Rattle.hd_store.specs.{Visited.TakesSteps, Offers.IsOffer, Offers.needs_slot, declared.done.CallerCommand.CallerCommand};
+
+use crate::contents::Contents;
+use crate::done::Done;
+use crate::making::place;
+use crate::on_objects::{load, object_in};
+use hd_model::limits::REGISTERS;
+use hd_model::{Cmd, Kind, Refusal, Reply, Slot, Steps};
+use std::sync::ledger::Ledger;
+
+/// `cadd rK rV`: where no slot of the weak table is idle, it takes the offered slot or, without
+/// one, the first slot of a new block.
+pub(crate) fn add_entry<L: Ledger>(
+    store: &mut Contents,
+    caller: u32,
+    k: u8,
+    v: u8,
+    offer: Option<Slot>,
+    steps: &mut Steps<L>,
+) -> Result<Done, Refusal>
+    requires handles { HasHandles store.old.numbers store.old.state }
+    requires weak { HasWeakTable store.old.state }
+    requires caller { caller < store.old.numbers.callers }
+    requires registers { (k < REGISTERS) × (v < REGISTERS) }
+    requires offer { IsOffer store.old.state caller (cmds.CAdd k v) offer }
+    ensures done { let asked : CallerCommand = record { caller = caller; cmd = cmds.CAdd k v } in
+        let e = entry_of asked (done_of result) in
+        HasRun store.old asked offer e (IsPlainStep store.old asked.cmd store.new e) }
+    ensures steps { let asked : CallerCommand = record { caller = caller; cmd = cmds.CAdd k v } in
+        let e = entry_of asked (done_of result) in
+        TakesSteps store.old.state store.old.ages e steps.old steps.new }
+{
+    let key = object_in(store, caller, k)?;
+    if store.slot_of_key(key, steps).is_some() {
+        return Err(Refusal::Present);
+    }
+    let value = store.register(caller, v);
+    if let Some(slot) = store.idle_slot() {
+        store.lower_age(slot, 0);
+        store.fill_entry(slot, key, value);
+        return Ok(Done {
+            slot: Some(slot),
+            ..Done::of(Reply::Done)
+        });
+    }
+    let (slot, grown) = match place(store, Kind::Dependent, offer) {
+        Ok(place) => place,
+        Err(full) => return Err(Refusal::TableFull { given: full.given }),
+    };
+    store.lower_age(slot, 0);
+    store.hold_entry(slot, key, value);
+    Ok(Done {
+        slot: Some(slot),
+        grown,
+        ..Done::of(Reply::Done)
+    })
+}
+
+/// `cfind rD rK`.
+pub(crate) fn find_entry<L: Ledger>(
+    store: &mut Contents,
+    caller: u32,
+    d: u8,
+    k: u8,
+    steps: &mut Steps<L>,
+) -> Result<Done, Refusal>
+    requires caller { caller < store.old.numbers.callers }
+    requires registers { (d < REGISTERS) × (k < REGISTERS) }
+    ensures done { let asked : CallerCommand = record { caller = caller; cmd = cmds.CFind d k } in
+        let e = entry_of asked (done_of result) in
+        IsPlainStep store.old asked.cmd store.new e }
+    ensures steps { let asked : CallerCommand = record { caller = caller; cmd = cmds.CFind d k } in
+        let e = entry_of asked (done_of result) in
+        TakesSteps store.old.state store.old.ages e steps.old steps.new }
+{
+    let at = object_in(store, caller, k)?;
+    match store.slot_of_key(at, steps) {
+        Some(slot) => {
+            let value = store.entry_value(slot);
+            Ok(load(store, caller, d, value))
+        }
+        None => {
+            store.set_register(caller, d, None);
+            Ok(Done::of(Reply::Absent))
+        }
+    }
+}
+
+/// `cremove rK`.
+pub(crate) fn remove_entry<L: Ledger>(
+    store: &mut Contents,
+    caller: u32,
+    k: u8,
+    steps: &mut Steps<L>,
+) -> Result<Done, Refusal>
+    requires caller { caller < store.old.numbers.callers }
+    requires register { k < REGISTERS }
+    ensures done { let asked : CallerCommand = record { caller = caller; cmd = cmds.CRemove k } in
+        let e = entry_of asked (done_of result) in
+        IsPlainStep store.old asked.cmd store.new e }
+    ensures steps { let asked : CallerCommand = record { caller = caller; cmd = cmds.CRemove k } in
+        let e = entry_of asked (done_of result) in
+        TakesSteps store.old.state store.old.ages e steps.old steps.new }
+{
+    let at = object_in(store, caller, k)?;
+    match store.slot_of_key(at, steps) {
+        Some(slot) => {
+            store.clear_entry(slot);
+            Ok(Done::of(Reply::Done))
+        }
+        None => Ok(Done::of(Reply::Absent)),
+    }
+}
+
+/// Whether a `cadd` needs a slot that the weak table has yet to get.
+pub(crate) fn needs_slot<L: Ledger>(
+    store: &Contents,
+    caller: u32,
+    cmd: Cmd,
+    steps: &mut Steps<L>,
+) -> bool
+    requires caller { caller < store.now.numbers.callers }
+    requires valid { IsValid cmd }
+    ensures { result ≡ needs_slot store.now.state caller cmd }
+{
+    let Cmd::CAdd { k, .. } = cmd else {
+        return false;
+    };
+    let Some(key) = store.register(caller, k) else {
+        return false;
+    };
+    // With an idle slot none is needed, and the key is not searched for.
+    if store.idle_slot().is_some() {
+        return false;
+    }
+    store.slot_of_key(key, steps).is_none()
+}

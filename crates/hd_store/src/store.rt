@@ -1,0 +1,276 @@
+ghost use Rattle.std.specs.Prelude.{◌≡◌, ◌*◌, ◌<◌, ◌≤◌, length, replicate, IsTrue, IfOk, OnErr, MatchResult, option_map};
+ghost use Rattle.std.specs.FinMap.{len};
+ghost use Rattle.hd_model.specs.State.{Numbers, start_of, use_of, block_of, given_of, handle_at, last_serial, register_of, total_size, with_handle_register};
+ghost use Rattle.hd_model.specs.{Valid.IsValid, Valid.takes_memory};
+ghost use Rattle.hd_scan.specs.Gathering.{roots_of as table_roots_of};
+ghost use Rattle.hd_model.specs.RootText.{roots_of};
+ghost use Rattle.hd_store.specs.{Growth.kind_in_use, Info.handle_seen, Visited.TakesSteps, Store.IsOverHeap};
+ghost use Rattle.hd_store.specs.Calls.{HasCalled, IsSound, MayCall, StaysWithin};
+ghost use Rattle.hd_store.specs.Offers.{IsOffer, needs_slot, FitsHeap, RanOut};
+
+use crate::contents::Contents;
+use crate::done::CallerCommand;
+use crate::info::HandleInfo;
+use crate::{commands, on_entries};
+use hd_model::limits::{BLOCKS, CALLERS, CLUMPS, HEAP, OLDEST, REGISTERS};
+use hd_model::{Cmd, Entry, Id, Kind, Memory, RootId, Slot, Steps};
+use hd_scan::Root;
+use hd_seg::Seg;
+use std::alloc::Global;
+use std::marker::{Brand, Model};
+use std::sync::ledger::{Blank, Ledger};
+
+/// A store of objects and handles, seen as its numbers, the state of the machine without pinned
+/// addresses, the identity at each address that has an object, the ages of its clumps, its heap and
+/// its table. Its state is well formed.
+#[derive(Drop)]
+pub struct Store {
+    contents: Contents,
+}
+
+impl Model for Store {
+    ghost use Rattle.hd_store.specs.Store.{Machine, machine_code};
+    ghost use Rattle.hd_store.specs.Calls.{IsSound};
+
+    ghost Value = { Machine };
+
+    ghost coded = { machine_code };
+
+    ghost view = { λ s. s.contents };
+
+    ghost invariant = { λ s. IsSound s.contents };
+}
+
+impl Store {
+    /// The store in which nothing is made yet, over a heap of at most `heap` cells and `blocks`
+    /// blocks, for `callers` callers.
+    pub fn open(alloc: Global, heap: u32, blocks: u32, callers: u32) -> Result<Store, Memory>
+        requires heap { (3 ≤ heap) × (heap ≤ HEAP) }
+        requires blocks { (1 ≤ blocks) × (blocks ≤ BLOCKS) }
+        requires callers { (1 ≤ callers) × (callers ≤ CALLERS) }
+        ensures numbers { let n : Numbers =
+            record { heap = heap; blocks = blocks; callers = callers } in
+            IfOk result (λ s. s.numbers ≡ n) }
+        ensures state { IfOk result (λ s. s.state ≡ start_of s.numbers) }
+        ensures ages { IfOk result (λ s. s.ages ≡ replicate (CLUMPS * blocks) OLDEST) }
+    {
+        let contents = Contents::open(alloc, heap, blocks, callers)?;
+        Ok(Store { contents })
+    }
+
+    /// Does a command of a caller. To `hnew` a free slot of its kind may be offered, to a `cadd`
+    /// for which `needs_slot` is true a free slot of kind dependent, to `trim` the first slot of a
+    /// block of its kind whose slots are all free, and to no other command anything. A `new` asks
+    /// that its caller's last serial can rise by one, and an `hup` that the count can. Out of
+    /// memory changes nothing.
+    pub fn apply<L: Ledger>(
+        &mut self,
+        caller: u32,
+        cmd: Cmd,
+        offer: Option<Slot>,
+        steps: &mut Steps<L>,
+    ) -> Result<Entry, Memory>
+        requires caller { caller < self.old.numbers.callers }
+        requires valid { IsValid cmd }
+        requires offer { IsOffer self.old.state caller cmd offer }
+        requires within { StaysWithin self.old.state caller cmd }
+        ensures done { IfOk result (HasCalled self.old caller cmd offer self.new) }
+        // Only commands that may take memory run out of it. A full heap is reported first.
+        ensures memory { OnErr result (IsTrue (takes_memory cmd)) }
+        ensures fits { OnErr result (FitsHeap self.old.numbers self.old.state cmd) }
+        ensures unchanged { OnErr result (self.new ≡ self.old) }
+        // A collection takes a step for each visit of a due clump, a search of the weak table one
+        // for each entry that it looks at; no other command takes one.
+        ensures steps { let s = self.old.state in let ages = self.old.ages in
+            IfOk result (λ e. TakesSteps s ages e steps.old steps.new) }
+        ensures unstepped { OnErr result (steps.new ≡ steps.old) }
+    {
+        // Read for the proof alone: the state is one over the heap.
+        let _before = self.contents.objects();
+        let entry = commands::run(
+            &mut self.contents,
+            CallerCommand { caller, cmd },
+            offer,
+            steps,
+        )?;
+        let _after = self.contents.objects();
+        Ok(entry)
+    }
+
+    /// Does the same where nobody asks for the steps.
+    pub fn apply_uncounted(
+        &mut self,
+        caller: u32,
+        cmd: Cmd,
+        offer: Option<Slot>,
+    ) -> Result<Entry, Memory>
+        requires { MayCall self.old caller cmd offer }
+        ensures { let n = self.old.numbers in let s = self.old.state in
+            MatchResult result (HasCalled self.old caller cmd offer self.new)
+            (λ _. RanOut n s cmd self.old self.new) }
+    {
+        self.apply_on::<Brand>(caller, cmd, offer, Blank::new(1))
+    }
+
+    // The same, with a counter that nothing reads.
+    fn apply_on<L: Ledger>(
+        &mut self,
+        caller: u32,
+        cmd: Cmd,
+        offer: Option<Slot>,
+        blank: Blank,
+    ) -> Result<Entry, Memory>
+        requires may { MayCall self.old caller cmd offer }
+        requires blank { (L.name ≡ blank.name) × (L.parts ≡ blank.parts) × (0 < blank.parts) }
+        ensures { let n = self.old.numbers in let s = self.old.state in
+            MatchResult result (HasCalled self.old caller cmd offer self.new)
+            (λ _. RanOut n s cmd self.old self.new) }
+    {
+        let mut steps = Steps::<L>::open(blank);
+        match self.apply(caller, cmd, offer, &mut steps) {
+            Ok(entry) => Ok(entry),
+            Err(Memory) => Err(Memory),
+        }
+    }
+
+    /// Puts a slot, or nothing, into a handle register, as `GCHandle.FromIntPtr` makes a handle of
+    /// a number. No command of a script does this, so what comes after is no run of a script.
+    pub fn point(&mut self, caller: u32, h: u8, slot: Option<Slot>)
+        requires caller { caller < self.old.numbers.callers }
+        requires register { h < REGISTERS }
+        ensures { self.new ≡
+            record self.old { state = with_handle_register self.old.state caller h slot } }
+    {
+        self.contents.set_handle_register(caller, h, slot);
+    }
+
+    /// Whether a command needs a slot that the weak table has yet to get: so does a `cadd` that
+    /// meets neither `Null` nor `Present` while no slot of the table is idle, and no other command.
+    pub fn needs_slot(&self, caller: u32, cmd: Cmd) -> bool
+        requires caller { caller < self.now.numbers.callers }
+        requires valid { IsValid cmd }
+        ensures { result ≡ needs_slot self.now.state caller cmd }
+    {
+        self.needs_slot_on::<Brand>(caller, cmd, Blank::new(1))
+    }
+
+    // The same, with a counter that nothing reads.
+    fn needs_slot_on<L: Ledger>(&self, caller: u32, cmd: Cmd, blank: Blank) -> bool
+        requires caller { caller < self.now.numbers.callers }
+        requires valid { IsValid cmd }
+        requires blank { (L.name ≡ blank.name) × (L.parts ≡ blank.parts) × (0 < blank.parts) }
+        ensures { result ≡ needs_slot self.now.state caller cmd }
+    {
+        let mut steps = Steps::<L>::open(blank);
+        on_entries::needs_slot(&self.contents, caller, cmd, &mut steps)
+    }
+
+    /// The kind of the block of a slot, if it has handles. The slot may be any number.
+    pub fn kind_of(&self, slot: Slot) -> Option<Kind>
+        ensures { result ≡ kind_in_use (use_of self.now.state (block_of slot)) }
+    {
+        self.contents.kind_of(slot)
+    }
+
+    /// The handle in a slot, if the slot is live. The slot may be any number.
+    pub fn handle(&self, slot: Slot) -> Option<HandleInfo>
+        ensures { handle_at self.now.state slot ≡ option_map handle_seen result }
+    {
+        let live = self.contents.handle(slot)?;
+        Some(self.contents.info(live))
+    }
+
+    /// What an object register references.
+    pub fn register(&self, caller: u32, d: u8) -> Option<Id>
+        requires caller { caller < self.now.numbers.callers }
+        requires register { d < REGISTERS }
+        ensures { result ≡ register_of self.now.state caller d }
+    {
+        let at = self.contents.register(caller, d)?;
+        Some(self.contents.id(at))
+    }
+
+    /// The serial of the last object that a caller made, 0 where it made none.
+    pub fn last_serial(&self, caller: u32) -> u32
+        requires { caller < self.now.numbers.callers }
+        ensures { result ≡ last_serial self.now.state caller }
+    {
+        self.contents.last_serial(caller)
+    }
+
+    /// The number of objects, reachable or not. The store's state is that of its heap and its
+    /// table, it is well formed, and the numbers are within the limits.
+    pub fn objects(&self) -> u32
+        ensures value { result ≡ len self.now.state.objects }
+        ensures heap { IsOverHeap self.now }
+        ensures sound { IsSound self.now }
+    {
+        self.contents.objects()
+    }
+
+    /// The cells that all objects take together.
+    pub fn cells(&self) -> u32
+        ensures { result ≡ total_size self.now.state }
+    {
+        self.contents.cells()
+    }
+
+    /// The cells that all objects may take together.
+    pub fn cells_limit(&self) -> u32
+        ensures { result ≡ self.now.numbers.heap }
+    {
+        self.contents.limit()
+    }
+
+    /// The number of callers.
+    pub fn callers(&self) -> u32
+        ensures { result ≡ self.now.numbers.callers }
+    {
+        self.contents.callers()
+    }
+
+    /// The number of live handles, without the slots that the weak table holds.
+    pub fn live(&self) -> u32
+        ensures { result ≡ len self.now.state.handles }
+    {
+        self.contents.live()
+    }
+
+    /// The number of blocks that have a use.
+    pub fn blocks_given(&self) -> u32
+        ensures { result ≡ given_of self.now.state }
+    {
+        self.contents.given()
+    }
+
+    /// The number of objects that are queued for finalization.
+    pub fn queued(&self) -> u32
+        ensures { result ≡ length self.now.state.queue }
+    {
+        self.contents.queued()
+    }
+
+    /// The number of blocks that the table has at most.
+    pub fn blocks(&self) -> u32
+        ensures value { result ≡ self.now.numbers.blocks }
+        ensures table { result ≡ self.now.table.blocks }
+    {
+        self.contents.blocks()
+    }
+
+    /// The table.
+    pub fn table(&self) -> &Seg
+        ensures { result.now ≡ self.now.table }
+    {
+        self.contents.table()
+    }
+
+    /// The roots of the table, which are given by address, with their objects by identity. It takes
+    /// memory for them.
+    pub fn named_roots(&self, alloc: Global, roots: &[Root]) -> Result<Vec<RootId>, Memory>
+        requires { roots.now ≡ table_roots_of self.now.table }
+        ensures { IfOk result (λ named. named.items ≡ roots_of self.now.state) }
+    {
+        self.contents.named_roots(alloc, roots)
+    }
+}

@@ -1,8 +1,0 @@
-use Rattle.hd_world.proofs.StoreWords.{◌≡◌, ◌++◌, take, map}
-use Rattle.hd_world.specs.Anchors.{place_of}
-use Rattle.hd_world.proofs.anchors.add_held.Given as goal
-
--- what the roots so far reference
-abbrev pub invariant-loop-root : goal.invariant-loop-root
-invariant-loop-root l =
-    l.anchors.items ≡ l.initial.anchors.items ++ map place_of (take l.root-index l.held)

@@ -1,4 +1,0 @@
-use Rattle.hd_world.proofs.world.World.needs_slot.Given as goal
-
-abbrev pub ghosts-needs_slot_on : goal.ghosts-needs_slot_on
-ghosts-needs_slot_on a = record { name = a.blank.name; parts = a.blank.parts }
