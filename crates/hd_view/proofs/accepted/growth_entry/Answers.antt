@@ -1,0 +1,32 @@
+use Rattle.std.proofs.Common.{Some, arith, subst, sym}
+use Rattle.hd_model.specs.declared.data.Entry.{Entry}
+use Rattle.hd_view.specs.Accepted.{IsGrownOf}
+use Rattle.hd_view.proofs.AcceptedSets.{grown_none, grown_one, grown_two}
+use Rattle.hd_view.proofs.accepted.growth_entry.Goals as goal
+
+pub grown_entry-requires : goal.grown_entry-requires
+grown_entry-requires c =
+    let high = c.in-One.ensures.1.high in
+    omega (arith, high, c.blocks-blocks.ensures.value, c.blocks-blocks.ensures.limit)
+
+pub returns-in-One : goal.returns-in-One
+returns-in-One c =
+    let k = c.args.before.now in
+    subst (λ (e : Entry). IsGrownOf k c.args.kind c.args.caller c.args.cmd (Some e)) (sym c.grown_entry.ensures)
+    (grown_one k c.args.kind c.args.caller c.args.cmd c.in-One.block c.in-One.ensures.0 c.in-One.ensures.1)
+
+pub grown_entry-requires-in-Two : goal.grown_entry-requires-in-Two
+grown_entry-requires-in-Two c =
+    let high = c.in-Two.ensures.1.high in
+    omega (arith, high, c.blocks-blocks.ensures.value, c.blocks-blocks.ensures.limit)
+
+pub returns-in-Two : goal.returns-in-Two
+returns-in-Two c =
+    let k = c.args.before.now in
+    subst (λ (e : Entry). IsGrownOf k c.args.kind c.args.caller c.args.cmd (Some e))
+    (sym c.grown_entry-in-Two.ensures)
+    (grown_two k c.args.kind c.args.caller c.args.cmd c.in-Two.block c.in-Two.other c.in-Two.ensures.0
+    c.in-Two.ensures.1 c.in-Two.ensures.2)
+
+pub returns-in-Zero : goal.returns-in-Zero
+returns-in-Zero c = grown_none c.args.before.now c.args.kind c.args.caller c.args.cmd c.in-Zero.ensures

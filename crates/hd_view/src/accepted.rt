@@ -1,0 +1,360 @@
+// The lines that may come for a command that is due, as a set.
+ghost use Rattle.std.specs.Prelude.{◌≡◌, ℕ, ◌+◌, ◌<◌, ◌≤◌, ◌^◌, ◌↔◌, ◌⊎◌, true, drop, IfOk, IfSome};
+ghost use Rattle.hd_model.specs.declared.limits.TheConstants.{BLOCKS, ROWS};
+ghost use Rattle.hd_model.specs.{Judged.cut_lines, Places.IsFreePlace, Valid.IsValid};
+ghost use Rattle.hd_model.specs.State.{IsAllFree, IsFree};
+ghost use Rattle.hd_model.specs.Step.{blocks_needed};
+ghost use Rattle.hd_audit.specs.Before.{HasExactly, HasOne, has_one_step};
+ghost use Rattle.hd_view.specs.Accepted.{grown_by, meets, AreDue, AreDueTo, AreValid, CoversTo, IsFullOf};
+ghost use Rattle.hd_view.specs.Accepted.{IsEntryOf, IsGrownOf, IsKnownOf, IsNamed, IsSetOf, IsSlotOf};
+ghost use Rattle.hd_view.specs.Accepted.{IsTextOf, IsThatSlot};
+ghost use Rattle.hd_view.specs.Sets.{Has, IsIn};
+
+use crate::sets::{NumberSet, Range, add_range, push};
+use hd_audit::{Before, Entries, PinnedCells, state_after};
+use hd_model::limits::ROWS;
+use hd_model::{Cmd, Entry, Grown, Id, Kind, Memory, Refusal, Reply, Slot};
+use hd_script::Scripts;
+use std::alloc::Global;
+
+/// The lines that may come for a command.
+#[derive(Drop)]
+pub(crate) enum Accepted {
+    /// That of this entry.
+    One(Entry),
+    /// Those with a free slot of a kind, that with the slot and the blocks of a growth, and that of
+    /// a full table.
+    Slots {
+        kind: Kind,
+        free: NumberSet,
+        grown: Option<Entry>,
+        full: Option<Entry>,
+    },
+    /// Those with one of these addresses of an object.
+    Addresses {
+        id: Id,
+        free: NumberSet,
+    },
+    /// That of no block of a kind, and those with one of these.
+    Blocks {
+        kind: Kind,
+        free: NumberSet,
+    },
+}
+
+/// A command that is due, with its number among its caller's, and the lines that may come for it.
+#[derive(Drop)]
+pub(crate) struct Due {
+    pub(crate) caller: u32,
+    pub(crate) number: u32,
+    pub(crate) cmd: Cmd,
+    pub(crate) accepted: Accepted,
+}
+
+/// A text with what it is judged by, and the number of its lines that are right.
+#[derive(Clone, Copy)]
+pub(crate) struct Judgement<'a> {
+    pub(crate) alloc: Global,
+    pub(crate) scripts: &'a Scripts,
+    pub(crate) text: &'a [u8],
+    pub(crate) heap: u32,
+    pub(crate) blocks: u32,
+    pub(crate) count: u32,
+}
+
+impl<'a> Judgement<'a> {
+    /// What is known after the lines that are right.
+    pub(crate) fn before(&self) -> Result<Before<'a>, Memory>
+        requires { IsTextOf self.now }
+        ensures known { IfOk result (IsKnownOf self.now) }
+        ensures rest { IfOk result
+            (λ k. cut_lines k.rest ≡ drop self.now.count (cut_lines self.now.text.now)) }
+    {
+        state_after(
+            self.alloc,
+            self.scripts,
+            self.text,
+            self.heap,
+            self.blocks,
+            self.count,
+        )
+    }
+}
+
+/// Each caller's command that is due, with the lines that may come for it.
+pub(crate) fn all_due(judgement: &Judgement, before: &Before) -> Result<Vec<Due>, Memory>
+    requires text { IsTextOf judgement.now }
+    requires before { IsKnownOf judgement.now before.now }
+    ensures due { IfOk result (λ dues. AreDue before.now dues.items) }
+    ensures valid { IfOk result (λ dues. AreValid dues.items) }
+{
+    let mut dues = Vec::new(judgement.alloc);
+    for caller in 0..before.callers() {
+        add_due(judgement, before, caller, &mut dues)?;
+    }
+    Ok(dues)
+}
+
+// Adds a caller's command that is due, if it has one.
+fn add_due(
+    judgement: &Judgement,
+    before: &Before,
+    caller: u32,
+    dues: &mut Vec<Due>,
+) -> Result<(), Memory>
+    requires text { IsTextOf judgement.now }
+    requires known { IsKnownOf judgement.now before.now }
+    requires caller { caller < before.now.numbers.callers }
+    requires below { AreDueTo before.now caller dues.old.items }
+    ensures { IfOk result (λ _. AreDueTo before.now (caller + 1) dues.new.items) }
+{
+    let Some(cmd) = before.due(caller) else {
+        return Ok(());
+    };
+    let number = before.number(caller);
+    let accepted = lines_for(judgement, before, caller, cmd)?;
+    let due = Due {
+        caller,
+        number,
+        cmd,
+        accepted,
+    };
+    push(dues, due)
+}
+
+// The lines that may come for a command of a caller.
+fn lines_for(
+    judgement: &Judgement,
+    before: &Before,
+    caller: u32,
+    cmd: Cmd,
+) -> Result<Accepted, Memory>
+    requires text { IsTextOf judgement.now }
+    requires before { IsKnownOf judgement.now before.now }
+    requires caller { caller < before.now.numbers.callers }
+    requires valid { IsValid cmd }
+    ensures entries { let k = before.now in
+        IfOk result (λ set. HasExactly k.numbers k.state caller cmd (IsNamed set)) }
+    ensures own { IfOk result (IsSetOf before.now caller cmd) }
+{
+    let alloc = judgement.alloc;
+    match before.entries(caller, cmd) {
+        Entries::OfTheStep => Ok(Accepted::One(stepped(judgement, before, caller, cmd)?)),
+        Entries::One(entry) => Ok(Accepted::One(entry)),
+        Entries::InSlot(kind) => Ok(Accepted::Slots {
+            kind,
+            free: free_slots(alloc, before, kind)?,
+            grown: growth_entry(before, kind, caller, cmd),
+            full: full_entry(before, kind, caller, cmd),
+        }),
+        Entries::AtAddress(id) => Ok(Accepted::Addresses {
+            id,
+            free: free_addresses(alloc, before, id)?,
+        }),
+        Entries::OfBlock(kind) => Ok(Accepted::Blocks {
+            kind,
+            free: free_blocks(alloc, before, kind)?,
+        }),
+    }
+}
+
+// The one entry of a command, by its step from a state that is made once more.
+fn stepped(judgement: &Judgement, before: &Before, caller: u32, cmd: Cmd) -> Result<Entry, Memory>
+    requires text { IsTextOf judgement.now }
+    requires before { IsKnownOf judgement.now before.now }
+    requires caller { caller < before.now.numbers.callers }
+    requires valid { IsValid cmd }
+    requires one { has_one_step cmd ≡ true }
+    ensures { IfOk result (HasOne before.now.numbers before.now.state caller cmd) }
+{
+    let again = judgement.before()?;
+    again.entry(caller, cmd)
+}
+
+// The entry of a command by which the table grows.
+fn growth_entry(before: &Before, kind: Kind, caller: u32, cmd: Cmd) -> Option<Entry>
+    ensures { IsGrownOf before.now kind caller cmd result }
+{
+    // Read for the proof: blocks have small numbers.
+    let _blocks = before.blocks();
+    match before.growth(kind) {
+        Grown::One(block) => Some(grown_entry(caller, cmd, block, Grown::One(block))),
+        Grown::Two(block, other) => {
+            Some(grown_entry(caller, cmd, block, Grown::Two(block, other)))
+        }
+        Grown::Zero => None,
+        Grown::Back(_) => None,
+    }
+}
+
+// The entry of a command that gets the first slot of a new block.
+fn grown_entry(caller: u32, cmd: Cmd, block: u32, grown: Grown) -> Entry
+    requires { block ≤ BLOCKS }
+    ensures { result ≡ grown_by caller cmd block grown }
+{
+    Entry {
+        caller,
+        cmd,
+        slot: Some(Slot(block * ROWS)),
+        grown,
+        reply: Reply::Done,
+    }
+}
+
+// The entry of a command that is refused for a full table.
+fn full_entry(before: &Before, kind: Kind, caller: u32, cmd: Cmd) -> Option<Entry>
+    ensures full { IsFullOf before.now kind caller cmd result }
+    ensures own { IfSome result (IsEntryOf caller cmd) }
+{
+    let given = before.given();
+    let needed = given + needed_blocks(kind);
+    if needed <= before.blocks() {
+        return None;
+    }
+    Some(Entry {
+        caller,
+        cmd,
+        slot: None,
+        grown: Grown::Zero,
+        reply: Reply::Refused(Refusal::TableFull { given }),
+    })
+}
+
+// The number of blocks by which the table grows for a kind.
+fn needed_blocks(kind: Kind) -> u32
+    ensures value { result ≡ blocks_needed kind }
+    ensures few { result ≤ 2 }
+{
+    if kind.paired() { 2 } else { 1 }
+}
+
+// The free slots of a kind.
+fn free_slots(alloc: Global, before: &Before, kind: Kind) -> Result<NumberSet, Memory>
+    ensures { IfOk result
+        (λ set. Has set (λ x. IsFree before.now.state kind (record { 0 = x }))) }
+{
+    let mut set = NumberSet::open(alloc);
+    for block in 0..before.blocks() + 1 {
+        add_block(before, kind, block, &mut set)?;
+    }
+    Ok(set)
+}
+
+// Adds the free slots of a block: where most are free, all its slots, but those that are not free.
+fn add_block(before: &Before, kind: Kind, block: u32, set: &mut NumberSet) -> Result<(), Memory>
+    requires few { block ≤ BLOCKS }
+    requires below { CoversTo before.now.state kind block set.old }
+    ensures { IfOk result (λ _. CoversTo before.now.state kind (block + 1) set.new) }
+{
+    let first = block * ROWS;
+    if count_free(before, kind, first) > ROWS / 2 {
+        add_range(&mut set.within, first, first + ROWS - 1)?;
+        add_slots(before, kind, first, false, &mut set.but)
+    } else {
+        add_slots(before, kind, first, true, &mut set.within)
+    }
+}
+
+// The number of free slots of a block.
+fn count_free(before: &Before, kind: Kind, first: u32) -> u32
+    requires { first + ROWS ≤ 2 ^ 32 }
+    ensures { result ≤ ROWS }
+{
+    let mut count = 0;
+    for row in 0..ROWS {
+        if before.is_free(kind, Slot(first + row)) {
+            count += 1;
+        }
+    }
+    count
+}
+
+// Adds the slots of a block that are free, or those that are not.
+fn add_slots(
+    before: &Before,
+    kind: Kind,
+    first: u32,
+    is_free: bool,
+    ranges: &mut Vec<Range>,
+) -> Result<(), Memory>
+    requires { first + ROWS ≤ 2 ^ 32 }
+    ensures { let s = before.now.state in IfOk result (λ _. (x : ℕ) → IsIn ranges.new.items x
+        ↔ (IsIn ranges.old.items x ⊎ IsSlotOf s kind first is_free x)) }
+{
+    for row in 0..ROWS {
+        add_slot(before, kind, Slot(first + row), is_free, ranges)?;
+    }
+    Ok(())
+}
+
+// Adds a slot, if it is free, or if it is not.
+fn add_slot(
+    before: &Before,
+    kind: Kind,
+    slot: Slot,
+    is_free: bool,
+    ranges: &mut Vec<Range>,
+) -> Result<(), Memory>
+    ensures { let s = before.now.state in IfOk result (λ _. (x : ℕ) → IsIn ranges.new.items x
+        ↔ (IsIn ranges.old.items x ⊎ IsThatSlot s kind slot is_free x)) }
+{
+    if before.is_free(kind, slot) == is_free {
+        add_range(ranges, slot.0, slot.0)
+    } else {
+        Ok(())
+    }
+}
+
+// The blocks of a kind all of whose slots are free.
+fn free_blocks(alloc: Global, before: &Before, kind: Kind) -> Result<NumberSet, Memory>
+    ensures { IfOk result (λ set. Has set (λ x. IsAllFree before.now.state kind x)) }
+{
+    let mut set = NumberSet::open(alloc);
+    for block in 0..before.blocks() + 1 {
+        add_free_block(before, kind, block, &mut set.within)?;
+    }
+    Ok(set)
+}
+
+// Adds a block, if all its slots are free.
+fn add_free_block(
+    before: &Before,
+    kind: Kind,
+    block: u32,
+    ranges: &mut Vec<Range>,
+) -> Result<(), Memory>
+    ensures { IfOk result (λ _. (x : ℕ) → IsIn ranges.new.items x
+        ↔ (IsIn ranges.old.items x ⊎ ((x ≡ block) × IsAllFree before.now.state kind x))) }
+{
+    if before.is_all_free(kind, block) {
+        add_range(ranges, block, block)
+    } else {
+        Ok(())
+    }
+}
+
+// The addresses at which an object shares no cell with one that has a pinned address.
+fn free_addresses(alloc: Global, before: &Before, id: Id) -> Result<NumberSet, Memory>
+    ensures { IfOk result (λ set. Has set (λ x. IsFreePlace before.now.state id x)) }
+{
+    let mut set = NumberSet::open(alloc);
+    add_range(&mut set.within, 0, u32::MAX)?;
+    let size = before.size(id);
+    let pinned = before.pinned_cells(alloc)?;
+    for cells in &pinned {
+        add_meeting(*cells, size, &mut set.but)?;
+    }
+    Ok(set)
+}
+
+// Adds the addresses from which `size` cells meet these.
+fn add_meeting(cells: PinnedCells, size: u32, ranges: &mut Vec<Range>) -> Result<(), Memory>
+    requires some { 0 < cells.count }
+    requires size { 0 < size }
+    ensures { IfOk result (λ _. (x : ℕ) → x < 2 ^ 32 →
+        IsIn ranges.new.items x ↔ (IsIn ranges.old.items x ⊎ meets cells size x)) }
+{
+    let begin = (u64::from(cells.first) + 1).saturating_sub(u64::from(size));
+    let last = u64::from(cells.first) + u64::from(cells.count) - 1;
+    add_range(ranges, begin as u32, last.min(u64::from(u32::MAX)) as u32)
+}
