@@ -24,15 +24,14 @@ const DOUBLINGS: u32 = 8;
 
 // The looks of a caller that newly comes and gives way. They last longer than a caller needs to
 // wake up. After them it tries the gate all the same.
-const COURTEOUS_LOOKS: u32 = 40_000;
+const COURTEOUS_LOOKS: u32 = 20_000;
 
 /// The words beside the table that callers look at and sleep on.
 #[derive(Drop)]
 pub(crate) struct WaitWords {
     // ANY_ASLEEP where a caller may sleep on it, else NONE_ASLEEP.
     nap: AtomicU64,
-    // How many callers that looked for long ask those who newly come to give way. It may be less,
-    // since a caller that gave way in vain sets it to 0, and never stays more.
+    // How many callers that looked for long ask all others to give way, and are not in yet.
     asked: AtomicU64,
 }
 
@@ -59,11 +58,6 @@ impl WaitWords {
             Ordering::SeqCst,
             |count: u64| -> Option<u64> { count.checked_sub(1) },
         );
-    }
-
-    // Who asked asks once more, if it still waits.
-    fn forget_asking(&self) {
-        self.asked.store(0, Ordering::SeqCst);
     }
 
     fn announce_sleep(&self) {
@@ -141,8 +135,7 @@ impl<W: Held> Custody<W> {
         }
     }
 
-    // Until the gate is held or nobody asks. Who asked may not come for long, so that is forgotten
-    // after some looks.
+    // Until the gate is held or nobody asks, or for so long that who asks has no processor now.
     fn look_until_taken(&self) {
         for _look in 0..COURTEOUS_LOOKS {
             if !self.is_free() || !self.waits.is_asked() {
@@ -150,7 +143,6 @@ impl<W: Held> Custody<W> {
             }
             spin_loop();
         }
-        self.waits.forget_asking();
     }
 
     /// Waits after a try that lost, until the next one may win.
@@ -168,7 +160,7 @@ impl<W: Held> Custody<W> {
             if look >= waiter.patience {
                 self.ask(waiter);
             }
-            if self.is_free() {
+            if self.is_free() && self.may_try(waiter) {
                 waiter.looks = look + 1;
                 return true;
             }
@@ -178,9 +170,14 @@ impl<W: Held> Custody<W> {
         false
     }
 
-    // Asks once, and again where that was forgotten.
+    // Whether it is this caller's turn at a free gate: those who ask come before those who do not.
+    fn may_try(&self, waiter: &Waiter) -> bool {
+        waiter.has_asked || !self.waits.is_asked()
+    }
+
+    // Asks, once.
     fn ask(&self, waiter: &mut Waiter) {
-        if !waiter.has_asked || !self.waits.is_asked() {
+        if !waiter.has_asked {
             self.waits.begin_asking();
             waiter.has_asked = true;
         }
