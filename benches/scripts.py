@@ -90,13 +90,14 @@ def churn():
 
 
 def lookups():
-    """Keys in a ring, each with an entry of the one value, that are looked up one after another, 10,000 times."""
+    """Keys in a ring, each with an entry of the one value, that are looked up one after another, 10,000 times. The other script has
+    no line in the place of a look-up, since what a `drop` there costs less than before would be counted against the look-up."""
     for keys in (10, 100, 1000):
         ring = ["new r2 0", "new r1 1", "copy r3 r1", "cadd r1 r2"]
         ring += ["new r0 1", "set r0 0 r1", "cadd r0 r2", "copy r1 r0"] * (keys - 1) + ["set r3 0 r1"]
         before = ["drop r15"] * (5000 - len(ring)) + ring
-        found, without = (before + [line, "get r1 r1 0"] * 10000 for line in ("cfind r4 r1", "drop r4"))
-        yield Row(f"`cfind` among {keys:,} entries", found, without, 10000)
+        found, without = (before + (line + ["get r1 r1 0"]) * 10000 for line in (["cfind r4 r1"], []))
+        yield Row(f"`cfind` among {keys:,} entries, with its line", found, without, 10000)
 
 
 def searched(name, before, often):
