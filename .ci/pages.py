@@ -14,6 +14,9 @@ OUTSIDE = set("""
     .ReRegisterForFinalize AddOrUpdate AddRef ConditionalWeakTable Dictionary Ref_AgeHandles TryAdd GetOrAdd WeakReference
     trackResurrection VHT_ _LONG _PINNED AddrOfPinnedObject arith assumption ground subst doc nice python3 rattle dac8208d650f15bf
     kit-13f logic mutant grep allow-holes fact tidy your GetValue
+    DeleteLocalRef PushLocalFrame NewGlobalRef NewWeakGlobalRef NewLocalRef DeleteGlobalRef DeleteWeakGlobalRef IsSameObject
+    GetPrimitiveArrayCritical ReferenceEquals mono_array_addr mono_gc_collect mono_gchandle_new_v2 mono_gchandle_new_weakref_v2
+    mono_gchandle_get_target_v2 mono_gchandle_set_target mono_gchandle_free_v2 _find
 """.split())
 PATHS_OUTSIDE = {"external/corert", "out/machine"}
 # A register in a form of a command, as in `get rD rO I`.

@@ -21,6 +21,8 @@ mod gate;
 #[cfg(test)]
 mod heap;
 #[cfg(test)]
+mod host;
+#[cfg(test)]
 mod io;
 #[cfg(test)]
 mod leaks;

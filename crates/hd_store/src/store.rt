@@ -63,6 +63,7 @@ impl Store {
     /// block of its kind whose slots are all free, and to no other command anything. A `new` asks
     /// that its caller's last serial can rise by one, and an `hup` that the count can. Out of
     /// memory changes nothing.
+    #[inline(never)]
     pub fn apply<L: Ledger>(
         &mut self,
         caller: u32,

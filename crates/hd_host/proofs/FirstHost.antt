@@ -1,0 +1,38 @@
+-- A host in which nothing is made.
+use Rattle.std.proofs.Common.{List, None, Option, [], ap, get_or, length, refl, replicate, suc, zero, ℕ, ◌*◌, ◌+◌, ◌∙◌, ◌≡◌}
+use Rattle.std.proofs.lemmas.List.{length-replicate}
+use Rattle.std.specs.FinMap as map
+use Rattle.std.specs.FinSet as set
+use Rattle.hd_model.specs.{declared.data.Slot.Slot, Places.with_places}
+use Rattle.hd_model.specs.State.{State, handle_register_of, start_of}
+use Rattle.hd_model.specs.declared.limits.TheConstants.{REGISTERS, ROWS}
+use Rattle.hd_pool.specs.Pool.{FreeSlots}
+use Rattle.hd_slots.proofs.TiedPool.{tied_at_start}
+use Rattle.hd_store.specs.{Offers.HasLimits, Store.Machine}
+use Rattle.hd_host.specs.Inside.{IsHost}
+
+abbrev no_slot : Option Slot
+no_slot = None
+
+nothing_in : (count h : ℕ) → get_or (replicate count no_slot) h no_slot ≡ no_slot
+nothing_in zero h = refl
+nothing_in (suc count) zero = refl
+nothing_in (suc count) (suc h) = nothing_in count h
+
+none_in : (rows count k h : ℕ)
+    → get_or (get_or (replicate rows (replicate count no_slot)) k []) h no_slot ≡ no_slot
+none_in zero count k h = refl
+none_in (suc rows) count zero h = nothing_in count h
+none_in (suc rows) count (suc k) h = none_in rows count k h
+
+pub host_at_first : (m : Machine) (p : FreeSlots) (stamps : List ℕ) → HasLimits m.numbers
+    → m.state ≡ start_of m.numbers
+    → p ≡ record { blocks = m.numbers.blocks; kinds = map.empty; free = set.empty }
+    → stamps ≡ replicate (ROWS * (m.numbers.blocks + 1)) 0 → IsHost m p stamps
+host_at_first m p stamps limits first pool is = record {
+  limits = limits;
+  tied = tied_at_start m.numbers (with_places m.state map.empty) p (ap (λ s. with_places s map.empty) first) pool;
+  empty = λ context h. ap (λ (s : State). handle_register_of s context h) first
+      ∙ none_in m.numbers.callers REGISTERS context h;
+  stamps = ap length is ∙ length-replicate (ROWS * (m.numbers.blocks + 1)) 0;
+}

@@ -1,0 +1,5 @@
+use Rattle.hd_host.specs.Calls.{clears}
+use Rattle.hd_host.proofs.host.Host.local_clear.Goals as goal
+
+pub ask_plainly-requires-clause-plain : goal.ask_plainly-requires-clause-plain
+ask_plainly-requires-clause-plain c = clears c.args.dst c.requires.local

@@ -1,0 +1,12 @@
+use Rattle.std.proofs.Common.{Some, subst, ◌≡◌}
+use Rattle.hd_model.specs.State.{handle_at}
+use Rattle.hd_store.specs.Info.{handle_seen}
+use Rattle.hd_host.specs.View.{HostView}
+use Rattle.hd_host.proofs.NextHandle.{is_next}
+use Rattle.hd_host.proofs.host.Host.next_handle.Goals as goal
+
+pub returns-in-Some : goal.returns-in-Some
+returns-in-Some c =
+    is_next _ c.loop-number.auto.number c.loop-number.invariant
+    (subst (λ (v : HostView). handle_at v.machine.state (record { 0 = c.loop-number.number })
+    ≡ Some (handle_seen c.in-Some.info)) c.self.view_is c.in-Some.ensures) c.handle_in-handle.ensures

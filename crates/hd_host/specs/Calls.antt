@@ -1,0 +1,193 @@
+-- What the calls of a host come to. Each is one command of the machine, from the state in which the first
+-- handle register of its context has the slot of its handle.
+use Rattle.std.specs.Prelude.{◌≡◌, ◌↔◌, ℕ, ◌+◌, ◌<◌, ◌≤◌, ◌^◌, true, false, slice_set, Option, Some, None, Bool, IfSome, ◌⊎◌}
+use Rattle.hd_model.specs.{declared.data.Entry.Entry, declared.data.Kind.Kind, declared.data.Make.Make, declared.data.Refusal.Refusal, declared.data.Reply.Reply, declared.data.Slot.Slot, declared.command.Cmd.Cmd, declared.limits.TheConstants.REGISTERS, Class.class_of, Kinds.is_paired, Aging.is_refused, Run.NoneAllFree, Touched.touched_by, Valid.IsValid, Valid.takes_memory}
+use Rattle.hd_model.specs.declared.class.Class.TheVariants as class
+use Rattle.hd_model.specs.declared.command.Cmd.TheVariants as cmd
+use Rattle.hd_model.specs.declared.data.Reply.TheVariants as reply
+use Rattle.hd_model.specs.declared.data.Refusal.TheVariants as refusal
+use Rattle.hd_model.specs.declared.data.Id.{Id}
+use Rattle.hd_model.specs.State.{Handle as Held, count_of, handle_at, last_serial, total_size}
+use Rattle.hd_store.specs.{Offers.FitsHeap, Calls.StaysWithin, Store.Machine}
+use Rattle.hd_host.specs.declared.fault.Fault.{Fault}
+use Rattle.hd_host.specs.declared.fault.Fault.TheVariants as fault
+use Rattle.hd_host.specs.declared.handle.Handle.{Handle}
+use Rattle.hd_host.specs.declared.stamps.TheConstants.{END}
+use Rattle.hd_host.specs.Handles.{IsOf, IsStale, stamp_of}
+use Rattle.hd_host.specs.Replies.{RepliesTo}
+use Rattle.hd_host.specs.Steps.{HasStepped, pointed}
+use Rattle.hd_host.specs.View.{HostView, state_in}
+
+-- a command may be asked of a host, with a slot in the first handle register of its context, which is the one
+-- that it may write
+pub record MayAsk (v : HostView) (context : ℕ) (slot : Option Slot) (command : Cmd) : Type 0 where
+  pub known : context < v.machine.numbers.callers
+  pub valid : IsValid command
+  pub within : StaysWithin (pointed v.machine context slot).state context command
+  pub first : IfSome (touched_by command).handle_register (λ h. h ≡ 0)
+
+-- a command that neither makes an object nor raises a count
+abbrev pub IsUnbounded : Cmd → Type 0
+IsUnbounded (cmd.New d fields fin) = ⊥
+IsUnbounded (cmd.Set o i v) = Unit {0}
+IsUnbounded (cmd.Get d o i) = Unit {0}
+IsUnbounded (cmd.Val o v) = Unit {0}
+IsUnbounded (cmd.Read o) = Unit {0}
+IsUnbounded (cmd.Copy d s) = Unit {0}
+IsUnbounded (cmd.Clear d) = Unit {0}
+IsUnbounded (cmd.SPut k s) = Unit {0}
+IsUnbounded (cmd.SGet d k) = Unit {0}
+IsUnbounded (cmd.Gen s) = Unit {0}
+IsUnbounded (cmd.Suppress s) = Unit {0}
+IsUnbounded (cmd.Reregister s) = Unit {0}
+IsUnbounded (cmd.Final d) = Unit {0}
+IsUnbounded (cmd.Collect n) = Unit {0}
+IsUnbounded (cmd.HNew d make t) = Unit {0}
+IsUnbounded (cmd.HGet d s) = Unit {0}
+IsUnbounded (cmd.HSet s t) = Unit {0}
+IsUnbounded (cmd.HSec h s) = Unit {0}
+IsUnbounded (cmd.HDep d s) = Unit {0}
+IsUnbounded (cmd.HVar s strength) = Unit {0}
+IsUnbounded (cmd.HFree s) = Unit {0}
+IsUnbounded (cmd.HPut k s) = Unit {0}
+IsUnbounded (cmd.HPick d k) = Unit {0}
+IsUnbounded (cmd.AddrOf s) = Unit {0}
+IsUnbounded (cmd.HUp s) = ⊥
+IsUnbounded (cmd.HDown s) = Unit {0}
+IsUnbounded (cmd.Trim kind) = Unit {0}
+IsUnbounded (cmd.CAdd k v) = Unit {0}
+IsUnbounded (cmd.CFind d k) = Unit {0}
+IsUnbounded (cmd.CRemove k) = Unit {0}
+IsUnbounded (cmd.GcRoot s) = Unit {0}
+
+-- a command that the machine never refuses, and that takes no memory
+pub data IsNeverRefused : Cmd → Type 0 where
+  copies : (d r : ℕ) → (d < REGISTERS) × (r < REGISTERS) → IsNeverRefused (cmd.Copy d r)
+  clears : (d : ℕ) → d < REGISTERS → IsNeverRefused (cmd.Clear d)
+  puts_static : (k r : ℕ) → (k < REGISTERS) × (r < REGISTERS) → IsNeverRefused (cmd.SPut k r)
+  gets_static : (d k : ℕ) → (d < REGISTERS) × (k < REGISTERS) → IsNeverRefused (cmd.SGet d k)
+  takes_queued : (d : ℕ) → d < REGISTERS → IsNeverRefused (cmd.Final d)
+  trims : (given : Kind) → is_paired given ≡ false → IsNeverRefused (cmd.Trim given)
+
+-- a command was done: it was one step, which was not refused, and so its reply is one of the command's; each
+-- stamp is as it was; and what it gave or freed is what `last` says
+pub record HasDone (old : HostView) (context : ℕ) (slot : Option Slot) (command : Cmd) (e : Entry)
+    (new : HostView) : Type 0 where
+  pub stepped : HasStepped old.machine context slot command new.machine e
+  pub done : is_refused e.reply ≡ false
+  pub replies : RepliesTo command e.reply
+  pub stamps : new.stamps ≡ old.stamps
+  pub last : new.last ≡ record { slot = e.slot; grown = e.grown }
+
+-- with a reply
+pub record HasReplied (old : HostView) (context : ℕ) (slot : Option Slot) (command : Cmd) (answer : Reply)
+    (new : HostView) : Type 0 where
+  pub entry : Entry
+  pub done : HasDone old context slot command entry new
+  pub reply : entry.reply ≡ answer
+
+-- the machine refuses a command
+pub record IsRefused (v : HostView) (context : ℕ) (slot : Option Slot) (command : Cmd)
+    (why : Refusal) : Type 0 where
+  pub entry : Entry
+  pub after : Machine
+  pub stepped : HasStepped v.machine context slot command after entry
+  pub reply : entry.reply ≡ reply.Refused why
+
+-- a context whose serials are at their end makes no object, and the heap has no room for it
+pub record IsFullAtEnd (v : HostView) (context : ℕ) (command : Cmd) (used size : ℕ) : Type 0 where
+  pub fields : ℕ
+  pub makes : class_of command ≡ class.MakesObject fields
+  pub at_end : last_serial v.machine.state context + 1 ≡ 2 ^ 32
+  pub used_is : used ≡ total_size v.machine.state
+  pub size_is : size ≡ fields + 3
+  pub full : v.machine.numbers.heap < used + size
+
+-- what is at its end: a context whose serials are makes no object, where the heap has room for it; a count
+-- that is does not rise; and the handle of a slot whose stamp is stays, since no stamp comes after
+pub data IsAtEnd (v : HostView) (context : ℕ) (slot : Option Slot) : Cmd → Type 0 where
+  no_serial : (d fields : ℕ) (fin : Bool) → last_serial v.machine.state context + 1 ≡ 2 ^ 32
+      → total_size v.machine.state + (fields + 3) ≤ v.machine.numbers.heap
+      → IsAtEnd v context slot (cmd.New d fields fin)
+  no_count : (h : ℕ) (at : Slot) (held : Held Id) → slot ≡ Some at → handle_at v.machine.state at ≡ Some held
+      → count_of held.extra + 1 ≡ 2 ^ 32 → IsAtEnd v context slot (cmd.HUp h)
+  no_stamp : (h : ℕ) (at : Slot) → slot ≡ Some at → stamp_of v at ≡ END → IsAtEnd v context slot (cmd.HFree h)
+
+-- memory ran out, for a command that may take some, and for none that has another fault
+pub record RanOutOfMemory (v : HostView) (command : Cmd) : Type 0 where
+  pub memory : takes_memory command ≡ true
+  pub fits : FitsHeap v.machine.numbers v.machine.state command
+
+-- why a command fails, by its fault: the machine refuses it, so where too few blocks are without a use no slot
+-- of the kind is free (`least`), or something is at its end, or memory ran out
+abbrev pub FailsBy : HostView → ℕ → Option Slot → Cmd → Fault → Type 0
+FailsBy v context slot command fault.Stale = IsRefused v context slot command refusal.NotLive
+    ⊎ IsRefused v context slot command refusal.EmptyRegister
+FailsBy v context slot command fault.WrongKind = IsRefused v context slot command refusal.WrongKind
+FailsBy v context slot command fault.CountZero = IsRefused v context slot command refusal.CountZero
+FailsBy v context slot command fault.Null = IsRefused v context slot command refusal.Null
+FailsBy v context slot command fault.NoField = IsRefused v context slot command refusal.BadField
+FailsBy v context slot command fault.Present = IsRefused v context slot command refusal.Present
+FailsBy v context slot command (fault.HeapFull used size) =
+    IsRefused v context slot command (refusal.HeapFull used size) ⊎ IsFullAtEnd v context command used size
+FailsBy v context slot command (fault.TableFull given) =
+    IsRefused v context slot command (refusal.TableFull given)
+FailsBy v context slot command fault.Exhausted = IsAtEnd v context slot command
+FailsBy v context slot command fault.Memory = RanOutOfMemory v command
+
+-- a command by a handle was done with the slot of the handle
+pub record RepliesOf (old : HostView) (context : ℕ) (handle : Handle) (command : Cmd) (answer : Reply)
+    (new : HostView) : Type 0 where
+  pub slot : Slot
+  pub handle_is : IsOf old handle slot
+  pub replied : HasReplied old context (Some slot) command answer new
+
+-- it failed with the slot of the handle, which is live
+abbrev pub FailsWith : HostView → ℕ → Handle → Cmd → Fault → Type 0
+FailsWith v context handle command f =
+    (slot : Slot) × IsOf v handle slot × FailsBy v context (Some slot) command f
+
+-- or it failed: the handle is stale, or it is that of a live slot and the command fails with that
+abbrev pub FailsOf : HostView → ℕ → Handle → Cmd → Fault → Type 0
+FailsOf v context handle command fault.Stale = IsStale v handle
+FailsOf v context handle command fault.WrongKind = FailsWith v context handle command fault.WrongKind
+FailsOf v context handle command fault.CountZero = FailsWith v context handle command fault.CountZero
+FailsOf v context handle command fault.Null = FailsWith v context handle command fault.Null
+FailsOf v context handle command fault.NoField = FailsWith v context handle command fault.NoField
+FailsOf v context handle command fault.Present = FailsWith v context handle command fault.Present
+FailsOf v context handle command (fault.HeapFull used size) =
+    FailsWith v context handle command (fault.HeapFull used size)
+FailsOf v context handle command (fault.TableFull given) =
+    FailsWith v context handle command (fault.TableFull given)
+FailsOf v context handle command fault.Exhausted = FailsWith v context handle command fault.Exhausted
+FailsOf v context handle command fault.Memory = FailsWith v context handle command fault.Memory
+
+-- a handle was made: it is that of its slot
+pub record MakesHandle (old : HostView) (context : ℕ) (make : Make) (t : ℕ) (new : HostView)
+    (handle : Handle) : Type 0 where
+  pub entry : Entry
+  pub done : HasDone old context None (cmd.HNew 0 make t) entry new
+  pub slot : Slot
+  pub slot_is : entry.slot ≡ Some slot
+  pub handle_is : IsOf new handle slot
+
+-- an entry was added to the weak table
+abbrev pub AddsEntry : HostView → ℕ → ℕ → ℕ → HostView → Type 0
+AddsEntry old context key value new = HasReplied old context None (cmd.CAdd key value) reply.Done new
+
+-- a handle was freed: the stamp of its slot rises by one, so that the handle is stale from then on
+pub record FreesHandle (old : HostView) (handle : Handle) (new : HostView) : Type 0 where
+  pub slot : Slot
+  pub handle_is : IsOf old handle slot
+  pub below_end : stamp_of old slot < END
+  pub entry : Entry
+  pub stepped : HasStepped old.machine 0 (Some slot) (cmd.HFree 0) new.machine entry
+  pub reply : entry.reply ≡ reply.Done
+  pub stamps : new.stamps ≡ slice_set old.stamps slot.0 (stamp_of old slot + 1)
+  pub last : new.last ≡ record { slot = entry.slot; grown = entry.grown }
+
+-- `trim` gave back a block, 1, or none, 0, exactly where no block of the kind has all its slots free
+pub record Trims (old : HostView) (kind : Kind) (given : ℕ) (new : HostView) : Type 0 where
+  pub replied : HasReplied old 0 None (cmd.Trim kind) (reply.Value given) new
+  pub at_most_one : given ≤ 1
+  pub none : (given ≡ 0) ↔ NoneAllFree (state_in old.machine) kind

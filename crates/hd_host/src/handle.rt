@@ -1,0 +1,37 @@
+ghost use Rattle.std.specs.Prelude.{◌≡◌, ◌+◌, ◌*◌, ◌/◌, ◌%◌, ◌<◌, ◌^◌};
+ghost use Rattle.hd_host.specs.Handles.{stamped};
+
+use hd_model::Slot;
+
+// The numbers of slots, which are below this one.
+const SLOTS: u64 = 1 << 16;
+
+/// A handle by value: the number of its slot in the low 16 bits, and above them a stamp, by which a
+/// freed handle differs from one that is in its slot later. A handle that a host made is never 0.
+#[derive(Clone, Copy, Debug, PartialEq, Eq)]
+pub struct Handle(pub u64);
+
+impl Handle {
+    // The handle in a slot with a stamp.
+    pub(crate) fn stamped(slot: Slot, stamp: u64) -> Handle
+        requires slot { slot.0 < 2 ^ 16 }
+        requires stamp { stamp < 2 ^ 48 }
+        ensures { result ≡ stamped slot stamp }
+    {
+        Handle(stamp * SLOTS + u64::from(slot.0))
+    }
+
+    // Its slot, which may be any number below 2^16.
+    pub(crate) fn slot(self) -> Slot
+        ensures { result ≡ record { 0 = self.0 % 2 ^ 16 } }
+    {
+        Slot((self.0 % SLOTS) as u32)
+    }
+
+    // Its stamp.
+    pub(crate) fn stamp(self) -> u64
+        ensures { result ≡ self.0 / 2 ^ 16 }
+    {
+        self.0 / SLOTS
+    }
+}

@@ -1,0 +1,232 @@
+// The calls on objects, locals and statics.
+ghost use Rattle.std.specs.Prelude.{◌≡◌, ℕ, ◌+◌, ◌<◌, ◌≤◌, ◌^◌, Bool, None, MatchResult};
+ghost use Rattle.hd_model.specs.declared.command.Cmd.TheVariants as cmd;
+ghost use Rattle.hd_model.specs.declared.data.Reply.TheVariants as reply;
+ghost use Rattle.hd_model.specs.{Command.loaded, State.last_serial};
+ghost use Rattle.hd_host.specs.Calls.{HasReplied, FailsBy, IsNeverRefused};
+ghost use Rattle.hd_host.specs.Replies.{RepliesTo};
+ghost use Rattle.hd_host.specs.View.{IsAsItWas};
+
+use crate::fault::Fault;
+use crate::host::Host;
+use crate::replies::{generation, loaded, made, value};
+use hd_model::limits::{FIELDS, HEADER, REGISTERS};
+use hd_model::{Cmd, Id, Reply};
+
+impl Host {
+    /// Makes an object with null fields and value 0, of generation 0, with `fin` registered for
+    /// finalization; local `dst` references it. A full heap is reported first, then that the
+    /// context has made 2^32 - 1 objects.
+    pub fn object_new(&mut self, context: u32, dst: u8, fields: u8, fin: bool) -> Result<Id, Fault>
+        requires context { context < self.old.machine.numbers.callers }
+        requires local { dst < REGISTERS }
+        requires fields { fields ≤ FIELDS }
+        ensures does { let c = cmd.New dst fields fin in
+            MatchResult result
+            (λ id. HasReplied self.old context None c (reply.Object id) self.new)
+            (λ fault. FailsBy self.old context None c fault × IsAsItWas self.old self.new) }
+        ensures contexts { self.new.machine.numbers.callers ≡ self.old.machine.numbers.callers }
+    {
+        if self.store.last_serial(context) == u32::MAX {
+            return Err(self.no_serial_left(context, fields));
+        }
+        let cmd = Cmd::New {
+            d: dst,
+            fields,
+            fin,
+        };
+        let entry = self.ask_within(context, cmd)?;
+        Ok(made(entry.reply))
+    }
+
+    // Why a context that has made 2^32 - 1 objects makes no other: the heap is full, or else that.
+    fn no_serial_left(&self, context: u32, fields: u8) -> Fault
+        requires context { context < self.now.machine.numbers.callers }
+        requires fields { fields ≤ FIELDS }
+        requires at_end { last_serial self.now.machine.state context + 1 ≡ 2 ^ 32 }
+        ensures { (d : ℕ) (fin : Bool) → FailsBy self.now context None (cmd.New d fields fin) result }
+    {
+        let used = self.store.cells();
+        let size = u32::from(fields) + HEADER;
+        if u64::from(used) + u64::from(size) > u64::from(self.store.cells_limit()) {
+            Fault::HeapFull { used, size }
+        } else {
+            Fault::Exhausted
+        }
+    }
+
+    /// Local `dst` gets what field `i` of the object references, which is returned.
+    pub fn field_get(
+        &mut self,
+        context: u32,
+        dst: u8,
+        object: u8,
+        i: u8,
+    ) -> Result<Option<Id>, Fault>
+        requires context { context < self.old.machine.numbers.callers }
+        requires locals { (dst < REGISTERS) × (object < REGISTERS) }
+        ensures does { let c = cmd.Get dst object i in
+            MatchResult result
+            (λ id. HasReplied self.old context None c (loaded id) self.new)
+            (λ fault. FailsBy self.old context None c fault × IsAsItWas self.old self.new) }
+        ensures contexts { self.new.machine.numbers.callers ≡ self.old.machine.numbers.callers }
+    {
+        let entry = self.ask(
+            context,
+            Cmd::Get {
+                d: dst,
+                o: object,
+                i,
+            },
+        )?;
+        Ok(loaded(entry.reply))
+    }
+
+    /// Field `i` of the object gets what local `src` references. A null `src` stores null.
+    pub fn field_set(&mut self, context: u32, object: u8, i: u8, src: u8) -> Result<(), Fault>
+        requires context { context < self.old.machine.numbers.callers }
+        requires locals { (object < REGISTERS) × (src < REGISTERS) }
+        ensures does { let c = cmd.Set object i src in
+            MatchResult result (λ _. HasReplied self.old context None c reply.Done self.new)
+            (λ fault. FailsBy self.old context None c fault × IsAsItWas self.old self.new) }
+        ensures contexts { self.new.machine.numbers.callers ≡ self.old.machine.numbers.callers }
+    {
+        self.ask(
+            context,
+            Cmd::Set {
+                o: object,
+                i,
+                v: src,
+            },
+        )?;
+        Ok(())
+    }
+
+    /// The value of the object.
+    pub fn value_get(&mut self, context: u32, object: u8) -> Result<u64, Fault>
+        requires context { context < self.old.machine.numbers.callers }
+        requires local { object < REGISTERS }
+        ensures does { let c = cmd.Read object in
+            MatchResult result
+            (λ value. HasReplied self.old context None c (reply.Value value) self.new)
+            (λ fault. FailsBy self.old context None c fault × IsAsItWas self.old self.new) }
+        ensures contexts { self.new.machine.numbers.callers ≡ self.old.machine.numbers.callers }
+    {
+        let entry = self.ask(context, Cmd::Read { o: object })?;
+        Ok(value(entry.reply))
+    }
+
+    /// The value of the object becomes `value`.
+    pub fn value_set(&mut self, context: u32, object: u8, value: u64) -> Result<(), Fault>
+        requires context { context < self.old.machine.numbers.callers }
+        requires local { object < REGISTERS }
+        ensures does { let c = cmd.Val object value in
+            MatchResult result (λ _. HasReplied self.old context None c reply.Done self.new)
+            (λ fault. FailsBy self.old context None c fault × IsAsItWas self.old self.new) }
+        ensures contexts { self.new.machine.numbers.callers ≡ self.old.machine.numbers.callers }
+    {
+        self.ask(
+            context,
+            Cmd::Val {
+                o: object,
+                n: value,
+            },
+        )?;
+        Ok(())
+    }
+
+    /// The generation of the object (GC.GetGeneration).
+    pub fn generation(&mut self, context: u32, object: u8) -> Result<u8, Fault>
+        requires context { context < self.old.machine.numbers.callers }
+        requires local { object < REGISTERS }
+        ensures does { let c = cmd.Gen object in
+            MatchResult result
+            (λ g. HasReplied self.old context None c (reply.Generation g) self.new)
+            (λ fault. FailsBy self.old context None c fault × IsAsItWas self.old self.new) }
+        ensures contexts { self.new.machine.numbers.callers ≡ self.old.machine.numbers.callers }
+    {
+        let entry = self.ask(context, Cmd::Gen { s: object })?;
+        Ok(generation(entry.reply))
+    }
+
+    /// The object is no longer registered for finalization (GC.SuppressFinalize).
+    pub fn suppress(&mut self, context: u32, object: u8) -> Result<(), Fault>
+        requires context { context < self.old.machine.numbers.callers }
+        requires local { object < REGISTERS }
+        ensures does { let c = cmd.Suppress object in
+            MatchResult result (λ _. HasReplied self.old context None c reply.Done self.new)
+            (λ fault. FailsBy self.old context None c fault × IsAsItWas self.old self.new) }
+        ensures contexts { self.new.machine.numbers.callers ≡ self.old.machine.numbers.callers }
+    {
+        self.ask(context, Cmd::Suppress { s: object })?;
+        Ok(())
+    }
+
+    /// The object is registered for finalization (GC.ReRegisterForFinalize).
+    pub fn reregister(&mut self, context: u32, object: u8) -> Result<(), Fault>
+        requires context { context < self.old.machine.numbers.callers }
+        requires local { object < REGISTERS }
+        ensures does { let c = cmd.Reregister object in
+            MatchResult result (λ _. HasReplied self.old context None c reply.Done self.new)
+            (λ fault. FailsBy self.old context None c fault × IsAsItWas self.old self.new) }
+        ensures contexts { self.new.machine.numbers.callers ≡ self.old.machine.numbers.callers }
+    {
+        self.ask(context, Cmd::Reregister { s: object })?;
+        Ok(())
+    }
+
+    /// Local `dst` gets what local `src` references.
+    pub fn local_copy(&mut self, context: u32, dst: u8, src: u8)
+        requires context { context < self.old.machine.numbers.callers }
+        requires locals { (dst < REGISTERS) × (src < REGISTERS) }
+        ensures does { HasReplied self.old context None (cmd.Copy dst src) reply.Done self.new }
+        ensures contexts { self.new.machine.numbers.callers ≡ self.old.machine.numbers.callers }
+    {
+        self.ask_plainly(context, Cmd::Copy { d: dst, s: src });
+    }
+
+    /// Local `dst` becomes null.
+    pub fn local_clear(&mut self, context: u32, dst: u8)
+        requires context { context < self.old.machine.numbers.callers }
+        requires local { dst < REGISTERS }
+        ensures does { HasReplied self.old context None (cmd.Clear dst) reply.Done self.new }
+        ensures contexts { self.new.machine.numbers.callers ≡ self.old.machine.numbers.callers }
+    {
+        self.ask_plainly(context, Cmd::Clear { d: dst });
+    }
+
+    /// Static `k` gets what local `src` references. All contexts have the 16 statics.
+    pub fn static_set(&mut self, context: u32, k: u8, src: u8)
+        requires context { context < self.old.machine.numbers.callers }
+        requires statics { (k < REGISTERS) × (src < REGISTERS) }
+        ensures does { HasReplied self.old context None (cmd.SPut k src) reply.Done self.new }
+        ensures contexts { self.new.machine.numbers.callers ≡ self.old.machine.numbers.callers }
+    {
+        self.ask_plainly(context, Cmd::SPut { k, s: src });
+    }
+
+    /// Local `dst` gets what static `k` references, which is returned.
+    pub fn static_get(&mut self, context: u32, dst: u8, k: u8) -> Option<Id>
+        requires context { context < self.old.machine.numbers.callers }
+        requires statics { (dst < REGISTERS) × (k < REGISTERS) }
+        ensures does { HasReplied self.old context None (cmd.SGet dst k) (loaded result) self.new }
+        ensures contexts { self.new.machine.numbers.callers ≡ self.old.machine.numbers.callers }
+    {
+        let reply = self.ask_plainly(context, Cmd::SGet { d: dst, k });
+        loaded(reply)
+    }
+
+    // Does a command that the machine never refuses, and that takes no memory.
+    pub(crate) fn ask_plainly(&mut self, context: u32, cmd: Cmd) -> Reply
+        requires context { context < self.old.machine.numbers.callers }
+        requires plain { IsNeverRefused cmd }
+        ensures replied { HasReplied self.old context None cmd result self.new }
+        ensures form { RepliesTo cmd result }
+        ensures contexts { self.new.machine.numbers.callers ≡ self.old.machine.numbers.callers }
+    {
+        match self.ask_within(context, cmd) {
+            Ok(entry) => entry.reply,
+            Err(_) => unreachable!(),
+        }
+    }
+}
