@@ -50,8 +50,9 @@ def chain(handles, order):
 
 def of_fields():
     """Objects of two fields."""
-    for generation, often in ((0, 2000), (2, 20)):
+    for generation in (0, 2):
         for objects in (1000, 5000):
+            often = 2000 if generation == 0 else 100_000 // objects
             for name, beside in BESIDE.items():
                 yield collected(f"`collect {generation}`, {objects:,} old, {name}", graph(objects, beside) + AGED,
                                 [f"collect {generation}"], often)
