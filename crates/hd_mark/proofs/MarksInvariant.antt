@@ -68,6 +68,19 @@ module _ {b : Basis} {p : Places} {marks pins : List ℕ} {log : List Addr} {nex
         again marks pins log (next + 1) refl refl t.room_left (let w = next_within in omega arith)
         advance_seen (advance_traced m done known)
 
+    -- and nothing is left to scan: the next place is the end of the log
+    module _ (last : drop 1 m.unscanned ≡ []) (end : ℕ) (whole : end ≡ length log) where
+      passed : next + 1 ≡ end
+      passed =
+          let known = ap length (ap (λ (k : MarksOf). drop 1 k.unscanned) view ∙ last) in
+          omega (arith, whole, next_within, known, length-drop 1 (drop next log), length-drop next log)
+
+      pub last_seen : shown marks pins log end ≡ advanced m
+      last_seen = subst (λ (k : ℕ). shown marks pins log k ≡ advanced m) passed advance_seen
+
+      pub last_kept : AreMarks b p marks pins log end room
+      last_kept = subst (λ (k : ℕ). AreMarks b p marks pins log k room) passed advance_kept
+
   module _ (at : Addr) (object : is_object (objects_of m.basis) at ≡ true) where
     there : is_object (objects_of b) at ≡ true
     there = subst (λ (k : MarksOf). is_object (objects_of k.basis) at ≡ true) (sym view) object

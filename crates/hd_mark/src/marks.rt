@@ -166,6 +166,17 @@ impl<'h> Marks<'h> {
         self.next += 1;
     }
 
+    // The same of the only object to scan.
+    #[inline(always)]
+    fn pass_last(&mut self)
+        requires next { IsNextDone self.old }
+        requires last { drop 1 self.old.unscanned ≡ [] }
+        ensures after { self.new ≡ advanced self.old }
+        ensures traced { IsTraced self.new }
+    {
+        self.next = self.log.len();
+    }
+
     // Promotes an object and what is reached from it, where nothing is left to scan. An object
     // without fields counts as scanned at once.
     #[inline(always)]
@@ -177,7 +188,7 @@ impl<'h> Marks<'h> {
         if self.push_new(at) {
             let bare = self.heap.fields(at) == 0;
             if bare {
-                self.advance();
+                self.pass_last();
                 return;
             }
             self.drain();

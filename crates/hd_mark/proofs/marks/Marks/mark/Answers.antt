@@ -1,4 +1,4 @@
-use Rattle.hd_mark.proofs.Basics.{IsTraced, MarksOf, [], arith, fields_at, nil_from_length, object_at, objects_of, subst, ◌∷◌, ◌≡◌}
+use Rattle.hd_mark.proofs.Basics.{IsTraced, MarksOf, [], ap, arith, drop, fields_at, nil_from_length, object_at, objects_of, subst, ◌∷◌, ◌≡◌}
 use Rattle.hd_mark.proofs.MarkDrain.{bare_done, bare_drained, marked_before, marked_since, one_left}
 use Rattle.hd_mark.proofs.marks.Marks.mark.Goals.{Then-bare}
 use Rattle.hd_mark.proofs.marks.Marks.mark.Goals as goal
@@ -17,16 +17,19 @@ bare c =
     (nil_from_length (fields_at (object_at c.self.inside.heap.now) c.args.at)
     (omega (arith, c.fields-bare.ensures.count, c.if-bare.true)))
 
-pub advance-requires : goal.advance-requires
-advance-requires c =
-    let here = (goal.at.advance-requires c).Then-bare in bare_done (traced here) (one here) (bare here)
+pub pass_last-requires-clause-next : goal.pass_last-requires-clause-next
+pass_last-requires-clause-next c =
+    let here = (goal.at.pass_last-requires-clause-next c).Then-bare in bare_done (traced here) (one here) (bare here)
+
+pub pass_last-requires-clause-last : goal.pass_last-requires-clause-last
+pass_last-requires-clause-last c = ap (drop 1) (one (goal.at.pass_last-requires-clause-last c).Then-bare)
 
 pub returns-then-bare : goal.returns-then-bare
 returns-then-bare c =
     let here = (goal.at.returns-then-bare c).Then-bare in
     marked_since c.args.at c.push_new.ensures.after c.requires.settled
     (c.push_new.ensures.is_new c.if-push_new.true)
-    (bare_drained (traced here) (one here) (bare here) c.advance.ensures.after c.advance.ensures.traced)
+    (bare_drained (traced here) (one here) (bare here) c.pass_last.ensures.after c.pass_last.ensures.traced)
 
 pub returns-else-bare : goal.returns-else-bare
 returns-else-bare c =
