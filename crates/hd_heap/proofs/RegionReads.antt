@@ -1,5 +1,5 @@
 -- Lemmas on a heap that is read from its regions.
-use Rattle.hd_heap.proofs.Basics.{Addr, AreOthersFull, Area, Bool, CARD, CARDS, HasFlags, Heap, IsArea, IsKept, IsObject, IsObjectOf, List, None, Option, Placed, REGION, Region, Some, [], address, ap, area_at, arith, both_ways, card_in, cards_in, cases_lt, cond, contents, deque_capacity, false, fields_in, from_one, generation_in, get-by_place, get_or, get_or-map, get_or-set_other, get_or-set_same, get_or_past, has_object, heap_of, inl, inr, is_in_use, is_set, is_some, length, length-map, length-set, map, map-set, object_at, object_in, objects_in, option_map, placed_at, placed_in, placed_of, refl, region_at, region_generation, region_in, region_of, regions_in, set, subst, suc, sym, tables, true, unwrap_or, used_of, zero, ℕ, ◌%◌, ◌*◌, ◌+◌, ◌-◌, ◌/◌, ◌<◌, ◌∙◌, ◌≡◌, ◌≢◌}
+use Rattle.hd_heap.proofs.Basics.{Addr, AreOthersFull, Area, Bool, CARD, CARDS, HasFlags, Heap, IsArea, IsKept, IsObject, IsObjectOf, List, None, Option, Placed, REGION, Region, Some, [], address, ap, area_at, arith, both_ways, card_in, cards_in, cases_lt, cond, contents, deque_capacity, false, fields_in, from_one, generation_in, get-by_place, get_or, get_or-map, get_or-set_other, get_or-set_same, get_or_past, has_object, heap_of, inl, inr, is_in_use, is_set, is_some, length, length-map, length-set, map, map-set, object_at, object_in, objects_in, option_map, placed_at, placed_in, placed_of, refl, region_at, region_generation, region_in, region_of, regions_in, set, subst, suc, sym, tables, true, unwrap_or, used_of, zero, ℕ, ◌%◌, ◌*◌, ◌+◌, ◌-◌, ◌/◌, ◌<◌, ◌∙◌, ◌≡◌, ◌≢◌, ◌≤◌}
 use Rattle.hd_heap.proofs.{IndexedLists.contains-places_of, IndexedLists.get_or-tables, Areas.object_there, Areas.held_by_object, RegionSums.cells_sum, RegionSums.count_sum}
 use Rattle.std.proofs.Math.ListN.{get_or-map as map_read}
 use Rattle.hd_heap.specs.declared.heap.Heap.TheInside.{Inside}
@@ -174,6 +174,14 @@ module _ {areas : List Area} {spares : List ℕ} {limit capacity cells objects h
       set_at (at.0 / CARD) ∙ (λ i. card_in (area_at areas (number i)) (card i))
       ∙ ap (λ o. card_in o ((at.0 % REGION) / CARD)) p.here
 
+  pub card_there : {r k : ℕ} {a : Area} (j : ℕ) → IsPlace areas r k a → j < CARDS
+      → is_set h (r * CARDS + j) ≡ card_in (Some a) j
+  card_there {r} j p low =
+      let n = r * CARDS + j in
+      let number : n / CARDS ≡ r = omega arith in
+      let card : n % CARDS ≡ j = omega arith in
+      set_at n ∙ (λ i. card_in (area_at areas (number i)) (card i)) ∙ ap (λ o. card_in o j) p.here
+
   -- an object of a region is one of the heap
   pub has_there : (at : Addr) (a : Area) → area_at areas (at.0 / REGION) ≡ Some a
       → has_object h at ≡ is_some (fin.get (contents a).objects (at.0 % REGION))
@@ -191,6 +199,23 @@ module _ {areas : List Area} {spares : List ℕ} {limit capacity cells objects h
         there = ap is_some got;
         region = ap (λ (o : Option Region). unwrap_or o (record { generation = 0; fill = 0 })) got;
       }
+
+  -- a number without a region, one of a free region, and one of a region in use
+  pub none_at_zero : (r : ℕ) → r ≡ 0 → fin.get h.regions r ≡ None
+  none_at_zero r is = ap (fin.get h.regions) is ∙ regions_at 0
+
+  pub none_past : (r k : ℕ) → r ≡ k + 1 → length areas ≤ k → fin.get h.regions r ≡ None
+  none_past r k is past =
+      let number : r ≡ suc k = omega (arith, is) in
+      ap (fin.get h.regions) number ∙ regions_at (suc k)
+      ∙ ap region_in (get_or_past (map Some areas) k None (omega (arith, length-map areas Some, past)))
+
+  pub none_free : {r k : ℕ} {a : Area} → IsPlace areas r k a → a.held ≡ false → fin.get h.regions r ≡ None
+  none_free {r} {a = a} p free = regions_at r ∙ ap region_in p.here ∙ not_in_use a free
+
+  pub some_held : {r k : ℕ} {a : Area} → IsPlace areas r k a → a.held ≡ true
+      → fin.get h.regions r ≡ Some (seen a)
+  some_held {r} {a = a} p held = regions_at r ∙ ap region_in p.here ∙ in_use a held
 
   pub held_at : {r k : ℕ} {a : Area} → IsPlace areas r k a → is_in_use h r ≡ true → IsHeldAt areas h r k a
   held_at {r} {a = a} p is = located_by p (held_of a.held refl)

@@ -7,8 +7,9 @@ use Rattle.hd_model.specs.declared.data.Id.{Id}
 use Rattle.hd_model.specs.declared.data.Addr.{Addr}
 use Rattle.hd_model.specs.Scene.{generation_at, IsField}
 use Rattle.hd_model.specs.Counting.{Counts}
-use Rattle.hd_model.specs.Heap.{Placed, Heap, region_of, card_of, region_at, region_generation, is_in_use, has_object, object_at, placed_at, cells_of, used_of, is_set, is_carded}
+use Rattle.hd_model.specs.Heap.{Placed, Region, Heap, region_of, card_of, region_at, region_generation, is_in_use, has_object, object_at, placed_at, cells_of, used_of, is_set, is_carded}
 use Rattle.hd_heap.specs.declared.area.TheConstants.{CARDS}
+use Rattle.hd_heap.specs.declared.condemned.RegionInfo.{RegionInfo}
 use Rattle.hd_heap.specs.declared.condemned.ObjectHeader.{ObjectHeader}
 use Rattle.hd_heap.specs.declared.condemned.Extent.{Extent}
 use Rattle.hd_heap.specs.declared.fault.NewFault.{NewFault}
@@ -215,3 +216,7 @@ abbrev pub IsFirstIn : Heap → (r from : ℕ) → Option ObjectHeader → Type 
 IsFirstIn h r from answer =
     MatchOption answer ((a : Addr) → has_object h a ≡ true → region_of a ≡ r → a.0 < r * REGION + from)
     (λ o. IsFirstObject h r from o)
+
+-- a region in use, as it is told
+abbrev pub region_told : RegionInfo → Region
+region_told r = record { generation = r.generation; fill = r.fill }

@@ -19,7 +19,7 @@ use hd_model::limits::{CARD, FIELDS, HEADER, OLDEST, REGION};
 use std::boxed::Box;
 
 /// The cards of a region.
-pub(crate) const CARDS: usize = (REGION / CARD) as usize;
+pub const CARDS: usize = (REGION / CARD) as usize;
 
 /// A region of a heap, in use or free: its objects, its generation, whether each of its cards is
 /// set, the number of cells that its objects take, and the number of its objects.

@@ -1,7 +1,9 @@
 // What a collection condemns: how much it is, and its objects region by region, by their headers.
-ghost use Rattle.std.specs.Prelude.{◌≡◌, true, MatchOption};
-ghost use Rattle.hd_model.specs.Heap.{is_in_use, region_generation};
-ghost use Rattle.hd_heap.specs.Calls.{IsExtent, IsFirstIn, IsRegionWalk};
+ghost use Rattle.std.specs.Prelude.{◌≡◌, ◌+◌, ◌*◌, ◌<◌, true, MatchOption, option_map};
+ghost use Rattle.std.specs.FinMap.{get};
+ghost use Rattle.hd_model.specs.Heap.{is_in_use, is_set, region_generation};
+ghost use Rattle.hd_heap.specs.declared.area.TheConstants.{CARDS};
+ghost use Rattle.hd_heap.specs.Calls.{IsExtent, IsFirstIn, IsRegionWalk, region_told};
 ghost use Rattle.hd_heap.specs.Walks.{end_in};
 ghost use Rattle.hd_heap.specs.Sound.{IsSound};
 
@@ -29,6 +31,14 @@ pub struct Extent {
     pub cells: u32,
     pub regions: u32,
     pub end: u32,
+}
+
+/// A region in use: its generation, and its allocation pointer, the offset of the first cell after
+/// its last object.
+#[derive(Clone, Copy, Debug, PartialEq, Eq)]
+pub struct RegionInfo {
+    pub generation: u8,
+    pub fill: u32,
 }
 
 impl Heap {
@@ -75,6 +85,38 @@ impl Heap {
         ensures { result ≡ region_generation self.now region }
     {
         self.areas[place_of(region)].generation
+    }
+
+    /// A region in use, by its number; none where there is none in use of that number.
+    pub fn region(&self, region: u32) -> Option<RegionInfo>
+        ensures { option_map region_told result ≡ get self.now.regions region }
+    {
+        // Read first for the proof: it gives the invariant where the call returns early.
+        let regions = self.areas.len();
+        if region == 0 {
+            return None;
+        }
+        let place = place_of(region);
+        if place >= regions {
+            return None;
+        }
+        let area = &self.areas[place];
+        if !area.held {
+            return None;
+        }
+        Some(RegionInfo {
+            generation: area.generation,
+            fill: area.region.fill(),
+        })
+    }
+
+    /// Whether a card of a region in use is set, by its number in the region.
+    pub fn has_set_card(&self, region: u32, card: u32) -> bool
+        requires region { is_in_use self.now region ≡ true }
+        requires card { card < CARDS }
+        ensures { result ≡ is_set self.now (region * CARDS + card) }
+    {
+        self.areas[place_of(region)].cards[card as usize]
     }
 
     /// A walk over the objects of a region in use.

@@ -10,7 +10,8 @@ mod forwarding;
 mod heap;
 mod moves;
 
-pub use condemned::{Extent, ObjectHeader, RegionObjects};
+pub use area::CARDS;
+pub use condemned::{Extent, ObjectHeader, RegionInfo, RegionObjects};
 pub use fault::NewFault;
 pub use fields::ObjectFields;
 pub use heap::Heap;
