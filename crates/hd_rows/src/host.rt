@@ -271,17 +271,36 @@ fn a_freed_handle_stays_stale(rt: HostRuntime) -> Result<(), Fail> {
     same(&rt, handle_free(&mut host, first), Err(Fault::Stale));
     same(&rt, handle_get(&mut host, 0, second, 1), Ok(Some(Id(1))));
     same(&rt, handle_free(&mut host, second), Ok(()));
-    // Over a trim and a change of kind.
+    Ok(())
+}
+
+#[test]
+fn a_freed_handle_stays_stale_over_a_trim(rt: HostRuntime) -> Result<(), Fail> {
+    let mut host = open(&rt, 1_000, 1)?;
+    same(&rt, object_new(&mut host, 0, 0, 0, false), Ok(Id(1)));
+    let Ok(first) = handle_new(&mut host, 0, Make::Strong, 0) else {
+        panic!(rt; "no handle");
+    };
+    same(&rt, trim(&mut host, Kind::Strong), 0);
+    same(&rt, handle_free(&mut host, first), Ok(()));
     same(&rt, trim(&mut host, Kind::Strong), 1);
     same(&rt, host.last().grown, Grown::Back(1));
     same(&rt, trim(&mut host, Kind::Strong), 0);
-    let Ok(third) = handle_new(&mut host, 0, Make::Short, 0) else {
+    // The same slot, of another kind.
+    let Ok(second) = handle_new(&mut host, 0, Make::Short, 0) else {
         panic!(rt; "no handle");
     };
+    same(&rt, host.last().slot, Some(Slot(64)));
     same(&rt, handle_get(&mut host, 0, first, 1), Err(Fault::Stale));
-    same(&rt, handle_get(&mut host, 0, second, 1), Err(Fault::Stale));
-    same(&rt, host.handle_kind(third), Ok(Kind::Short));
-    // Numbers that no handle has.
+    same(&rt, host.handle_kind(second), Ok(Kind::Short));
+    Ok(())
+}
+
+#[test]
+fn numbers_that_no_handle_has_are_stale(rt: HostRuntime) -> Result<(), Fail> {
+    let mut host = open(&rt, 1_000, 1)?;
+    same(&rt, object_new(&mut host, 0, 0, 0, false), Ok(Id(1)));
+    same(&rt, handle_new(&mut host, 0, Make::Strong, 0).is_ok(), true);
     same(
         &rt,
         handle_get(&mut host, 0, Handle(0), 1),
@@ -322,6 +341,14 @@ fn refusals_leave_a_host_as_it_was(rt: HostRuntime) -> Result<(), Fail> {
     same(&rt, field_get(&mut host, 0, 1, 0, 1), Ok(Some(Id(1))));
     same(&rt, value_set(&mut host, 0, 0, 7), Ok(()));
     same(&rt, value_get(&mut host, 0, 1), Ok(7));
+    same(&rt, host.stats().cells, 10);
+    Ok(())
+}
+
+#[test]
+fn refused_handles_leave_a_host_as_it_was(rt: HostRuntime) -> Result<(), Fail> {
+    let mut host = open(&rt, 10, 2)?;
+    same(&rt, object_new(&mut host, 0, 0, 2, false), Ok(Id(1)));
     let Ok(counted) = handle_new(&mut host, 0, Make::Counted, 0) else {
         panic!(rt; "no handle");
     };
@@ -346,8 +373,8 @@ fn refusals_leave_a_host_as_it_was(rt: HostRuntime) -> Result<(), Fail> {
     same(&rt, table_find(&mut host, 0, 2, 0), Ok(Found::Absent));
     same(&rt, table_remove(&mut host, 0, 0), Ok(false));
     let stats = Stats {
-        objects: 2,
-        cells: 10,
+        objects: 1,
+        cells: 5,
         handles: 1,
         blocks: 2,
         queued: 0,
@@ -357,7 +384,7 @@ fn refusals_leave_a_host_as_it_was(rt: HostRuntime) -> Result<(), Fail> {
 }
 
 #[test]
-fn a_host_has_a_weak_table_and_statics(rt: HostRuntime) -> Result<(), Fail> {
+fn a_host_has_a_weak_table(rt: HostRuntime) -> Result<(), Fail> {
     let mut host = open(&rt, 1_000, 4)?;
     same(&rt, object_new(&mut host, 0, 0, 1, false), Ok(Id(1)));
     same(&rt, object_new(&mut host, 0, 1, 0, false), Ok(Id(2)));
@@ -383,13 +410,6 @@ fn a_host_has_a_weak_table_and_statics(rt: HostRuntime) -> Result<(), Fail> {
         secondary_get(&mut host, 0, dependent, 3),
         Ok(Some(Id(2))),
     );
-    static_set(&mut host, 0, 3, 0);
-    same(&rt, static_get(&mut host, 1, 5, 3), Some(Id(1)));
-    let root = Root {
-        from: Id(1),
-        arrows: 0,
-    };
-    same(&rt, root_of(&mut host, 1, 5), Ok(Some(root)));
     let Some(listed) = host.next_handle(0) else {
         panic!(rt; "no handle is listed");
     };
@@ -398,5 +418,19 @@ fn a_host_has_a_weak_table_and_statics(rt: HostRuntime) -> Result<(), Fail> {
     same(&rt, host.next_handle(66).is_none(), true);
     same(&rt, table_remove(&mut host, 0, 0), Ok(true));
     same(&rt, table_remove(&mut host, 0, 0), Ok(false));
+    Ok(())
+}
+
+#[test]
+fn a_static_keeps_its_object(rt: HostRuntime) -> Result<(), Fail> {
+    let mut host = open(&rt, 1_000, 4)?;
+    same(&rt, object_new(&mut host, 0, 0, 1, false), Ok(Id(1)));
+    static_set(&mut host, 0, 3, 0);
+    same(&rt, static_get(&mut host, 1, 5, 3), Some(Id(1)));
+    let root = Root {
+        from: Id(1),
+        arrows: 0,
+    };
+    same(&rt, root_of(&mut host, 1, 5), Ok(Some(root)));
     Ok(())
 }
