@@ -1,5 +1,5 @@
 // What a host shows of itself. These calls change nothing.
-ghost use Rattle.std.specs.Prelude.{◌≡◌, ◌<◌, length, MatchResult, MatchOption, Some, option_map};
+ghost use Rattle.std.specs.Prelude.{◌≡◌, ◌<◌, ◌^◌, length, IfSome, MatchResult, MatchOption, Some, option_map};
 ghost use Rattle.std.specs.FinMap.{len};
 ghost use Rattle.hd_model.specs.declared.data.Slot.{Slot};
 ghost use Rattle.hd_model.specs.State.{given_of, handle_at, register_of, total_size};
@@ -95,7 +95,8 @@ impl Host {
 
     /// The live handle with the least slot from a number on.
     pub fn next_handle(&self, from: u32) -> Option<Listed>
-        ensures { MatchOption result (HasNoneFrom self.now from) (IsNextFrom self.now from) }
+        ensures next { MatchOption result (HasNoneFrom self.now from) (IsNextFrom self.now from) }
+        ensures few { IfSome result (λ l. l.slot.0 < 2 ^ 16) }
     {
         let end = (self.store.blocks() + 1) * ROWS;
         for number in from..end {
