@@ -19,4 +19,6 @@ pub use generated::generate;
 pub use laws::{faults_come_first, lines_make_the_bytes, lists_follow_the_lines, words_decide};
 pub use load::loads_have_their_line;
 pub use parsing::parse;
+pub use reading::{Reading, read_line};
 pub use scripts::Scripts;
+pub use text::next_word;

@@ -18,7 +18,7 @@ const MOST_FIELDS: u8 = FIELDS as u8;
 
 /// The reading of a line.
 #[derive(Clone, Copy)]
-pub(crate) enum Reading {
+pub enum Reading {
     /// It has no words.
     Blank,
     /// The commands of this caller follow.
@@ -27,7 +27,7 @@ pub(crate) enum Reading {
 }
 
 /// The reading of the first line, and the bytes after it. None where the line has no reading.
-pub(crate) fn read_line(bytes: &[u8]) -> Option<(Reading, &[u8])>
+pub fn read_line(bytes: &[u8]) -> Option<(Reading, &[u8])>
     ensures exact { option_map reading_in result ≡ grammar.reading_of (words_at bytes.now) }
     ensures valid { IfSome result (λ read. IsValidReading read.0) }
     ensures line { IfSome result (λ read. read.1.now ≡ line_after bytes.now) }

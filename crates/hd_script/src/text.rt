@@ -25,7 +25,7 @@ fn line_end(bytes: &[u8]) -> Option<usize>
 }
 
 /// The first word of the first line, and the bytes after it.
-pub(crate) fn next_word(bytes: &[u8]) -> Option<(&[u8], &[u8])>
+pub fn next_word(bytes: &[u8]) -> Option<(&[u8], &[u8])>
     ensures words { MatchOption result (words_at bytes.now ≡ [])
         (λ found. words_at bytes.now ≡ found.0.now ∷ words_at found.1.now) }
     ensures line { IfSome result (λ found. line_after found.1.now ≡ line_after bytes.now) }
