@@ -1,6 +1,6 @@
 pub mod StoreWords
-mod EntryMaps
-mod IdentityReadings
+pub mod EntryMaps
+pub mod IdentityReadings
 mod NameAgreement
 mod EntryReadings
 mod EntrySweep
@@ -33,3 +33,5 @@ mod EntrySearch
 mod HeldRoom
 pub mod SoundCalls
 pub mod OfferPlaces
+mod HeldEntries
+mod QueuePlaces

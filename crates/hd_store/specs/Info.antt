@@ -1,7 +1,8 @@
--- A handle as callers of a store see it, in the words of the machine.
+-- A handle, and an entry of the weak table, as callers of a store see them, in the words of the machine.
 use Rattle.hd_model.specs.declared.data.Id.{Id}
-use Rattle.hd_model.specs.State.{Extra, nothing, strength, secondary, count, Handle}
+use Rattle.hd_model.specs.State.{Extra, nothing, strength, secondary, count, Handle, WeakEntry}
 use Rattle.hd_store.specs.{declared.info.HandleInfo.HandleInfo, declared.info.ExtraInfo.ExtraInfo}
+use Rattle.hd_store.specs.declared.info.EntryInfo.{EntryInfo}
 use Rattle.hd_store.specs.declared.info.ExtraInfo.TheVariants.{Nothing, Strength, Secondary, Count}
 
 -- what the handle has beside its target
@@ -14,3 +15,7 @@ extra_seen (Count c) = count c
 -- the handle
 abbrev pub handle_seen : HandleInfo → Handle Id
 handle_seen info = record { kind = info.kind; target = info.target; extra = extra_seen info.extra }
+
+-- the entry
+abbrev pub entry_seen : EntryInfo → WeakEntry Id
+entry_seen info = record { key = info.key; value = info.value }

@@ -1,7 +1,10 @@
-ghost use Rattle.std.specs.Prelude.{◌≡◌, ℕ, ◌+◌, ◌*◌, ◌<◌, ◌≤◌, ◌^◌, length, replicate, None, IfOk};
+ghost use Rattle.std.specs.Prelude.{◌≡◌, ℕ, ◌+◌, ◌*◌, ◌<◌, ◌≤◌, ◌^◌, length, replicate, true, None, IfOk};
 ghost use Rattle.std.specs.FinMap.{len, empty};
 ghost use Rattle.hd_model.specs.State.{Numbers, start_of, register_of, handle_register_of, static_of, board_of, given_of, last_serial, total_size, with_register, with_handle_register, with_static, with_board};
-ghost use Rattle.hd_store.specs.{Reading.named_in, Reading.IsNamed, Store.IsOverHeap};
+ghost use Rattle.hd_model.specs.Heap.{has_object, object_at};
+ghost use Rattle.hd_model.specs.{Scene.IsField, declared.data.Addr.Addr};
+ghost use Rattle.hd_plan.specs.Plan.{HasNoEmptyRegion};
+ghost use Rattle.hd_store.specs.{Reading.named_in, Reading.IsNamed, Store.IsOverHeap, Store.without_spare};
 
 use hd_ages::AgeMap;
 use hd_cwt::Cwt;
@@ -232,6 +235,24 @@ impl Contents {
         ensures { result.now ≡ self.now.table }
     {
         &self.table
+    }
+
+    /// The heap. Each of its references is to an object, and each region in use has one.
+    pub(crate) fn heap(&self) -> &Heap
+        ensures value { without_spare result.now ≡ self.now.heap }
+        ensures whole { (x y : Addr) → IsField (object_at result.now) x y
+            → has_object result.now y ≡ true }
+        ensures full { HasNoEmptyRegion result.now }
+    {
+        &self.heap
+    }
+
+    /// The ages of the clumps.
+    pub(crate) fn ages(&self) -> &AgeMap
+        ensures value { result.now ≡ self.now.ages }
+        ensures clumps { CLUMPS * self.now.numbers.blocks ≡ length self.now.ages }
+    {
+        &self.ages
     }
 
     /// The number of live handles, without the slots that the weak table holds.

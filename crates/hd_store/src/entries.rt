@@ -1,14 +1,15 @@
 // What a store does with the entries of the weak table, which are in rows of dependent handles.
-ghost use Rattle.std.specs.Prelude.{◌≡◌, ◌≤◌, Some, None, IsSome, IfSome};
+ghost use Rattle.std.specs.Prelude.{◌≡◌, ◌≤◌, Some, None, IsSome, IfSome, option_map};
 ghost use Rattle.std.specs.FinMap.{get};
 ghost use Rattle.hd_model.specs.declared.data.Kind.TheVariants as kind;
 ghost use Rattle.hd_model.specs.State.{with_weak, block_of, IsFree};
 ghost use Rattle.hd_model.specs.Command.{slot_of_key, idle_slot, value_at};
 ghost use Rattle.hd_store.specs.Reading.{name_in, named_in, IsNamed};
 ghost use Rattle.hd_store.specs.Entries.{entry_at, MayHaveEntry, HasNoEntry};
-ghost use Rattle.hd_store.specs.Visited.{SearchSteps};
+ghost use Rattle.hd_store.specs.{Info.entry_seen, Visited.SearchSteps};
 
 use crate::contents::Contents;
+use crate::info::EntryInfo;
 use hd_model::{Addr, Slot, Steps};
 use hd_seg::{Extra, Row};
 use std::sync::ledger::Ledger;
@@ -47,6 +48,31 @@ impl Contents {
             return None;
         };
         value
+    }
+
+    /// What the weak table has in a slot, if it holds the slot: an entry, or none where the slot is
+    /// idle. The slot may be any number.
+    pub(crate) fn entry(&self, slot: Slot) -> Option<Option<EntryInfo>>
+        ensures { get self.now.state.weak slot.0 ≡ option_map (option_map entry_seen) result }
+    {
+        if !self.weak.held(slot) {
+            return None;
+        }
+        Some(self.held_entry(slot))
+    }
+
+    // The entry in a slot that the weak table holds, if the slot is not idle.
+    fn held_entry(&self, slot: Slot) -> Option<EntryInfo>
+        requires { IsSome (get self.now.state.weak slot.0) }
+        ensures { get self.now.state.weak slot.0 ≡ Some (option_map entry_seen result) }
+    {
+        let row = self.table.row(slot).unwrap();
+        let key = row.target?;
+        let value = self.entry_value(slot);
+        Some(EntryInfo {
+            key: self.id(key),
+            value: self.named(value),
+        })
     }
 
     /// Puts an entry into a slot of the weak table without one.

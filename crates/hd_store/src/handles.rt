@@ -77,8 +77,8 @@ impl Contents {
         }
     }
 
-    // The identity of an object, or null.
-    fn named(&self, referenced: Option<Addr>) -> Option<Id>
+    /// The identity of an object, or null.
+    pub(crate) fn named(&self, referenced: Option<Addr>) -> Option<Id>
         requires { IsNamed self.now.names referenced }
         ensures { result ≡ named_in self.now.names referenced }
     {

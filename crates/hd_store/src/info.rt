@@ -1,4 +1,4 @@
-// A handle as callers of a store see it.
+// A handle, and an entry of the weak table, as callers of a store see them.
 
 use hd_model::{Id, Kind, Strength};
 
@@ -18,4 +18,11 @@ pub enum ExtraInfo {
     Strength(Strength),
     Secondary(Option<Id>),
     Count(u32),
+}
+
+/// An entry of the weak table: its key, and the value attached to it, or null.
+#[derive(Clone, Copy, Debug, PartialEq, Eq)]
+pub struct EntryInfo {
+    pub key: Id,
+    pub value: Option<Id>,
 }

@@ -20,5 +20,5 @@ mod places;
 mod rooting;
 mod store;
 
-pub use info::{ExtraInfo, HandleInfo};
+pub use info::{EntryInfo, ExtraInfo, HandleInfo};
 pub use store::Store;

@@ -1,10 +1,10 @@
 // What a store does with objects.
-ghost use Rattle.std.specs.Prelude.{◌≡◌, ◌≢◌, ℕ, ◌+◌, ◌<◌, ◌≤◌, ◌^◌, length, slice_set, Some, None, IsSome, IfOk, IfErr, OnOk, MatchResult, MatchOption, max, ◌⊎◌, [], ◌∷◌};
+ghost use Rattle.std.specs.Prelude.{◌≡◌, ◌≢◌, ℕ, ◌+◌, ◌<◌, ◌≤◌, ◌^◌, length, slice_index_or, slice_set, Some, None, IsSome, IfOk, IfErr, OnOk, MatchResult, MatchOption, max, ◌⊎◌, [], ◌∷◌};
 ghost use Rattle.std.specs.FinMap.{get, insert, len};
 ghost use Rattle.hd_heap.specs.Calls.{IsMade, new_object, IsRefused as IsRefusedBy};
 ghost use Rattle.hd_model.specs.State.{object_by_id, field_of, last_serial, identity_of, total_size, with_object, with_serial, with_queue};
 ghost use Rattle.hd_store.specs.Reading.{name_in, named_in, IsNamed};
-ghost use Rattle.hd_model.specs.Command.{fresh_object};
+ghost use Rattle.hd_model.specs.{Command.fresh_object, declared.data.Id.Id};
 ghost use Rattle.hd_store.specs.{Objects.object_named, Objects.IsObjectRefused, Places.KeepsNames};
 
 use crate::contents::Contents;
@@ -183,6 +183,16 @@ impl Contents {
             }
             Err(fault) => Err(fault),
         }
+    }
+
+    /// The object at position `i` of the finalization queue, from 0.
+    pub(crate) fn queued_at(&self, i: u32) -> Addr
+        requires { i < length self.now.state.queue }
+        ensures value { (d : Id) → name_in self.now.names result ≡
+            slice_index_or self.now.state.queue i d }
+        ensures known { IsSome (get self.now.names result.0) }
+    {
+        self.queue.at(i)
     }
 
     /// Takes the first object out of the finalization queue.

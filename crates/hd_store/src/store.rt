@@ -1,17 +1,21 @@
-ghost use Rattle.std.specs.Prelude.{◌≡◌, ◌*◌, ◌<◌, ◌≤◌, length, replicate, IsTrue, IfOk, OnErr, MatchResult, option_map};
-ghost use Rattle.std.specs.FinMap.{len};
-ghost use Rattle.hd_model.specs.State.{Numbers, start_of, use_of, block_of, given_of, handle_at, last_serial, register_of, total_size, with_handle_register};
-ghost use Rattle.hd_model.specs.{Valid.IsValid, Valid.takes_memory};
+ghost use Rattle.std.specs.Prelude.{◌≡◌, ◌*◌, ◌<◌, ◌≤◌, length, replicate, slice_index_or, true, IsTrue, IfOk, OnErr, MatchResult, option_map};
+ghost use Rattle.std.specs.FinMap.{get, len};
+ghost use Rattle.hd_model.specs.State.{Numbers, start_of, use_of, block_of, given_of, handle_at, last_serial, register_of, handle_register_of, static_of, board_of, total_size, with_handle_register};
+ghost use Rattle.hd_model.specs.{Valid.IsValid, Valid.takes_memory, Heap.has_object, Heap.object_at, Scene.IsField};
+ghost use Rattle.hd_model.specs.declared.data.{Addr.Addr, Id.Id};
+ghost use Rattle.hd_plan.specs.Plan.{HasNoEmptyRegion};
 ghost use Rattle.hd_scan.specs.Gathering.{roots_of as table_roots_of};
 ghost use Rattle.hd_model.specs.RootText.{roots_of};
-ghost use Rattle.hd_store.specs.{Growth.kind_in_use, Info.handle_seen, Visited.TakesSteps, Store.IsOverHeap};
+ghost use Rattle.hd_store.specs.{Growth.kind_in_use, Info.entry_seen, Info.handle_seen, Visited.TakesSteps, Store.IsOverHeap, Store.without_spare};
 ghost use Rattle.hd_store.specs.Calls.{HasCalled, IsSound, MayCall, StaysWithin};
 ghost use Rattle.hd_store.specs.Offers.{IsOffer, needs_slot, FitsHeap, RanOut};
 
 use crate::contents::Contents;
 use crate::done::CallerCommand;
-use crate::info::HandleInfo;
+use crate::info::{EntryInfo, HandleInfo};
 use crate::{commands, on_entries};
+use hd_ages::AgeMap;
+use hd_heap::Heap;
 use hd_model::limits::{BLOCKS, CALLERS, CLUMPS, HEAP, OLDEST, REGISTERS};
 use hd_model::{Cmd, Entry, Id, Kind, Memory, RootId, Slot, Steps};
 use hd_scan::Root;
@@ -181,6 +185,14 @@ impl Store {
         Some(self.contents.info(live))
     }
 
+    /// What the weak table has in a slot, if it holds the slot: an entry, or none where the slot is
+    /// idle. The slot may be any number.
+    pub fn entry(&self, slot: Slot) -> Option<Option<EntryInfo>>
+        ensures { get self.now.state.weak slot.0 ≡ option_map (option_map entry_seen) result }
+    {
+        self.contents.entry(slot)
+    }
+
     /// What an object register references.
     pub fn register(&self, caller: u32, d: u8) -> Option<Id>
         requires caller { caller < self.now.numbers.callers }
@@ -189,6 +201,32 @@ impl Store {
     {
         let at = self.contents.register(caller, d)?;
         Some(self.contents.id(at))
+    }
+
+    /// The slot in a handle register.
+    pub fn handle_register(&self, caller: u32, h: u8) -> Option<Slot>
+        requires caller { caller < self.now.numbers.callers }
+        requires register { h < REGISTERS }
+        ensures { result ≡ handle_register_of self.now.state caller h }
+    {
+        self.contents.handle_register(caller, h)
+    }
+
+    /// What a static references.
+    pub fn static_at(&self, k: u8) -> Option<Id>
+        requires { k < REGISTERS }
+        ensures { result ≡ static_of self.now.state k }
+    {
+        let at = self.contents.static_at(k)?;
+        Some(self.contents.id(at))
+    }
+
+    /// The slot in an entry of the board.
+    pub fn board_at(&self, k: u8) -> Option<Slot>
+        requires { k < REGISTERS }
+        ensures { result ≡ board_of self.now.state k }
+    {
+        self.contents.board_at(k)
     }
 
     /// The serial of the last object that a caller made, 0 where it made none.
@@ -251,6 +289,14 @@ impl Store {
         self.contents.queued()
     }
 
+    /// The object at position `i` of the finalization queue, from 0.
+    pub fn queued_at(&self, i: u32) -> Id
+        requires { i < length self.now.state.queue }
+        ensures { (d : Id) → result ≡ slice_index_or self.now.state.queue i d }
+    {
+        self.contents.id(self.contents.queued_at(i))
+    }
+
     /// The number of blocks that the table has at most.
     pub fn blocks(&self) -> u32
         ensures value { result ≡ self.now.numbers.blocks }
@@ -264,6 +310,25 @@ impl Store {
         ensures { result.now ≡ self.now.table }
     {
         self.contents.table()
+    }
+
+    /// The heap, of which the store's value leaves out the free regions. Each of its references is
+    /// to an object, and each region in use has one.
+    pub fn heap(&self) -> &Heap
+        ensures value { without_spare result.now ≡ self.now.heap }
+        ensures whole { (x y : Addr) → IsField (object_at result.now) x y
+            → has_object result.now y ≡ true }
+        ensures full { HasNoEmptyRegion result.now }
+    {
+        self.contents.heap()
+    }
+
+    /// The ages of the clumps of the table.
+    pub fn ages(&self) -> &AgeMap
+        ensures value { result.now ≡ self.now.ages }
+        ensures clumps { CLUMPS * self.now.numbers.blocks ≡ length self.now.ages }
+    {
+        self.contents.ages()
     }
 
     /// The roots of the table, which are given by address, with their objects by identity. It takes
