@@ -1,7 +1,7 @@
 ghost use Rattle.std.specs.Prelude.{◌≡◌, ◌+◌, ◌<◌, ◌≤◌, ◌^◌, [], length, IsTrue, IfOk, OnErr, MatchResult};
 ghost use Rattle.std.specs.FinMap.{len};
 ghost use Rattle.hd_model.specs.State.{Numbers, start_of, use_of, block_of};
-ghost use Rattle.hd_model.specs.{Run.Run, Valid.IsValid, Valid.takes_memory, RootText.roots_of, Text.collections_of, Text.is_collect};
+ghost use Rattle.hd_model.specs.{Places.with_places, Run.Run, Valid.IsValid, Valid.takes_memory, RootText.roots_of, Text.collections_of, Text.is_collect};
 ghost use Rattle.hd_store.specs.{Growth.kind_in_use, Visited.TakesSteps};
 ghost use Rattle.hd_store.specs.Offers.{HasLimits, IsOffer, needs_slot, FitsHeap, RanOut};
 ghost use Rattle.hd_world.specs.{Placed.Placed, Placed.Placed-prop, Applied.Applied, StateHeap.IsOfJournal, World.MayApply};
@@ -173,6 +173,17 @@ impl World {
         // Read for the proof alone: the store is one over its heap.
         let _objects = self.store.objects();
         &self.journal
+    }
+
+    /// The store. It has the world's state but for the pinned addresses.
+    pub fn store(&self) -> &Store
+        ensures numbers { result.now.numbers ≡ self.now.numbers }
+        ensures state { with_places result.now.state self.now.state.places ≡ self.now.state }
+        ensures ages { result.now.ages ≡ self.now.ages }
+        ensures heap { result.now.heap ≡ self.now.heap }
+        ensures table { result.now.table ≡ self.now.table }
+    {
+        &self.store
     }
 
     /// For how many more entries the journal has room.
