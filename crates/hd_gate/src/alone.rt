@@ -68,6 +68,13 @@ impl Alone {
         Ok(entry.reply)
     }
 
+    /// The world.
+    pub fn world(&self) -> &World
+        ensures { result.now ≡ self.now }
+    {
+        &self.world
+    }
+
     /// Ends with the world.
     pub fn finish(self) -> World
         ensures { result ≡ self }
