@@ -35,3 +35,4 @@ pub mod SoundCalls
 pub mod OfferPlaces
 mod HeldEntries
 mod QueuePlaces
+mod TargetLoads

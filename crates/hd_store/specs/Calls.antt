@@ -1,9 +1,9 @@
 -- What a call of a store takes, and what it comes to.
-use Rattle.std.specs.Prelude.{◌≡◌, ℕ, ◌+◌, ◌<◌, ◌^◌, Bool, Option}
+use Rattle.std.specs.Prelude.{◌≡◌, ℕ, ◌+◌, ◌<◌, ◌^◌, Bool, Option, None}
 use Rattle.std.specs.{Option.ForSome, FinMap.empty}
-use Rattle.hd_model.specs.{declared.data.Entry.Entry, declared.data.Slot.Slot, declared.command.Cmd.Cmd, Places.with_places, Valid.IsValid, WellFormed.IsWellFormed}
+use Rattle.hd_model.specs.{declared.data.Entry.Entry, declared.data.Id.Id, declared.data.Slot.Slot, declared.data.Grown.TheVariants.Zero, declared.command.Cmd.Cmd, Command.loaded, Places.with_places, Valid.IsValid, WellFormed.IsWellFormed}
 use Rattle.hd_model.specs.declared.command.Cmd.TheVariants as cmd
-use Rattle.hd_model.specs.State.{State, last_serial}
+use Rattle.hd_model.specs.State.{State, last_serial, with_handle_register}
 use Rattle.hd_store.specs.{Counts.MayCountUp, Places.KeepsPlaces, StateHeap.KeepsStored, Store.Machine}
 use Rattle.hd_store.specs.Offers.{HasLimits, IsOffer, GrowsUnoffered, Takes}
 
@@ -16,6 +16,20 @@ pub record IsSound (m : Machine) : Type 0 where
 pub record StaysWithin (s : State) (caller : ℕ) (c : Cmd) : Type 0 where
   pub serial : (d fields : ℕ) (fin : Bool) → c ≡ cmd.New d fields fin → last_serial s caller + 1 < 2 ^ 32
   pub count : (h : ℕ) → c ≡ cmd.HUp h → MayCountUp s caller h
+
+-- a store with a slot, or nothing, in the first handle register of a caller
+abbrev pub pointed : Machine → ℕ → Option Slot → Machine
+pointed m caller slot = record m { state = with_handle_register m.state caller 0 slot }
+
+-- the entry of an `hget` by that register that found a target, or null
+abbrev pub load_entry : ℕ → ℕ → Option Id → Entry
+load_entry caller d target = record {
+  caller = caller;
+  cmd = cmd.HGet d 0;
+  slot = None;
+  grown = Zero;
+  reply = loaded target;
+}
 
 -- what a command of a caller asks of a store
 pub record MayCall (m : Machine) (number : ℕ) (c : Cmd) (offered : Option Slot) : Type 0 where

@@ -2,7 +2,8 @@
 ghost use Rattle.std.specs.Prelude.{◌≡◌, ℕ, ◌+◌, ◌*◌, ◌/◌, ◌<◌, ◌≤◌, false, Some, None, IsSome, IfOk, IfErr, OnOk, OnErr, OnSome, IfSome, option_map};
 ghost use Rattle.hd_seg.specs.Row.{extra_of};
 ghost use Rattle.hd_store.specs.{Info.extra_seen, Info.handle_seen, Reading.name_in, Reading.named_in, Reading.IsNamed};
-ghost use Rattle.hd_model.specs.State.{rename_extra, secondary_of, handle_at, use_of, given_of, without_handle, without_use, with_handle, block_of, IsFree, IsAllFree};
+ghost use Rattle.hd_model.specs.declared.data.Id.{Id};
+ghost use Rattle.hd_model.specs.State.{Handle, rename_extra, secondary_of, handle_at, use_of, given_of, without_handle, without_use, with_handle, block_of, IsFree, IsAllFree};
 ghost use Rattle.hd_model.specs.{Kinds.is_paired, Step.blocks_needed, Step.with_growth, Ages.lowered};
 ghost use Rattle.hd_store.specs.{Handles.handle_named, Handles.MayBeStored, Growth.GrowsBy, Growth.kind_in_use};
 
@@ -49,6 +50,16 @@ impl Contents {
         let row = self.table.row(slot)?;
         let kind = self.kind_of(slot)?;
         Some(Live { kind, row })
+    }
+
+    /// The target of the handle in a slot, if the slot is live and not one that the weak table holds.
+    pub(crate) fn target_in(&self, slot: Slot) -> Option<Option<Addr>>
+        ensures value { option_map (λ (h : Handle Id). h.target) (handle_at self.now.state slot)
+            ≡ option_map (named_in self.now.names) result }
+        ensures named { IfSome result (IsNamed self.now.names) }
+    {
+        let live = self.handle(slot)?;
+        Some(live.row.target)
     }
 
     /// The handle of a row, as callers see it.

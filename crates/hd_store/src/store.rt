@@ -1,13 +1,14 @@
-ghost use Rattle.std.specs.Prelude.{◌≡◌, ◌*◌, ◌<◌, ◌≤◌, length, replicate, slice_index_or, true, IsTrue, IfOk, OnErr, MatchResult, option_map};
+ghost use Rattle.std.specs.Prelude.{◌≡◌, ◌*◌, ◌<◌, ◌≤◌, length, replicate, slice_index_or, true, IsTrue, IfOk, IfNone, IfSome, None, OnErr, MatchResult, Some, option_map};
 ghost use Rattle.std.specs.FinMap.{get, len};
-ghost use Rattle.hd_model.specs.State.{Numbers, start_of, use_of, block_of, given_of, handle_at, last_serial, register_of, handle_register_of, static_of, board_of, total_size, with_handle_register};
+ghost use Rattle.hd_model.specs.declared.command.Cmd.TheVariants as cmd;
+ghost use Rattle.hd_model.specs.State.{Handle, Numbers, start_of, use_of, block_of, given_of, handle_at, last_serial, register_of, handle_register_of, static_of, board_of, total_size, with_register, with_handle_register};
 ghost use Rattle.hd_model.specs.{Valid.IsValid, Valid.takes_memory, Heap.has_object, Heap.object_at, Scene.IsField};
 ghost use Rattle.hd_model.specs.declared.data.{Addr.Addr, Id.Id};
 ghost use Rattle.hd_plan.specs.Plan.{HasNoEmptyRegion};
 ghost use Rattle.hd_scan.specs.Gathering.{roots_of as table_roots_of};
 ghost use Rattle.hd_model.specs.RootText.{roots_of};
 ghost use Rattle.hd_store.specs.{Growth.kind_in_use, Info.entry_seen, Info.handle_seen, Visited.TakesSteps, Store.IsOverHeap, Store.without_spare};
-ghost use Rattle.hd_store.specs.Calls.{HasCalled, IsSound, MayCall, StaysWithin};
+ghost use Rattle.hd_store.specs.Calls.{HasCalled, IsSound, MayCall, StaysWithin, load_entry, pointed};
 ghost use Rattle.hd_store.specs.Offers.{IsOffer, needs_slot, FitsHeap, RanOut};
 
 use crate::contents::Contents;
@@ -147,6 +148,29 @@ impl Store {
             record self.old { state = with_handle_register self.old.state caller h slot } }
     {
         self.contents.set_handle_register(caller, h, slot);
+    }
+
+    /// Gives an object register the target of the live handle in a slot, and returns it: what an
+    /// `hget` does by a handle register that has the slot. Where the slot is not live nothing
+    /// changes, and none is returned. The slot may be any number.
+    pub fn load_target(&mut self, caller: u32, d: u8, slot: Slot) -> Option<Option<Id>>
+        requires caller { caller < self.old.numbers.callers }
+        requires register { d < REGISTERS }
+        ensures found { result ≡
+            option_map (λ (h : Handle Id). h.target) (handle_at self.old.state slot) }
+        ensures stays { IfNone result (self.new ≡ self.old) }
+        ensures loads { IfSome result (λ id. let after = with_register self.old.state caller d id in
+            self.new ≡ record self.old { state = after }) }
+        ensures called { IfSome result (λ id. let named = Some slot in
+            HasCalled (pointed self.old caller named) caller (cmd.HGet d 0) None
+            (pointed self.new caller named) (load_entry caller d id)) }
+    {
+        // Read for the proof alone: the state is one over the heap.
+        let _before = self.contents.objects();
+        let target = self.contents.target_in(slot)?;
+        let id = self.contents.named(target);
+        self.contents.set_register(caller, d, target);
+        Some(id)
     }
 
     /// Whether a command needs a slot that the weak table has yet to get: so does a `cadd` that
