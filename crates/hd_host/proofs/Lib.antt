@@ -17,3 +17,4 @@ mod SameHost
 mod CountedHandle
 mod FreedHandle
 mod NextHandle
+mod TargetLoads

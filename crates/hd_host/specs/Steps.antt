@@ -1,14 +1,11 @@
 -- One command of a context, with a slot in its first handle register.
 use Rattle.std.specs.Prelude.{◌≡◌, ℕ, Option, None}
 use Rattle.hd_model.specs.{declared.data.Entry.Entry, declared.data.Slot.Slot, declared.command.Cmd.Cmd}
-use Rattle.hd_model.specs.State.{State, handle_register_of, with_handle_register}
+use Rattle.hd_model.specs.State.{State, handle_register_of}
 use Rattle.hd_model.specs.Run.{TakesLeast}
+pub use Rattle.hd_store.specs.Calls.{pointed}
 use Rattle.hd_store.specs.{Calls.HasCalled, Places.KeepsPlaces, StateHeap.KeepsStored, Store.Machine}
 use Rattle.hd_host.specs.View.{state_in}
-
--- a store with a slot, or nothing, in the first handle register of a context
-abbrev pub pointed : Machine → ℕ → Option Slot → Machine
-pointed m context slot = record m { state = with_handle_register m.state context 0 slot }
 
 -- the first handle register of a context has no slot
 abbrev pub HasNoSlot : State → ℕ → Type 0

@@ -9,13 +9,14 @@ ghost use Rattle.hd_host.specs.declared.stamps.TheConstants.{END as end_stamp};
 ghost use Rattle.hd_store.specs.Info.{extra_seen};
 ghost use Rattle.hd_host.specs.{Handles.IsOf, Handles.handle_of, Handles.stamp_of, View.IsAsItWas};
 
+use crate::change::Change;
 use crate::fault::Fault;
 use crate::handle::Handle;
 use crate::host::Host;
 use crate::replies::{loaded, place, value};
 use crate::stamps::END;
 use hd_model::limits::REGISTERS;
-use hd_model::{Cmd, Id, Make, Slot, Strength};
+use hd_model::{Cmd, Grown, Id, Make, Slot, Strength};
 use hd_store::ExtraInfo;
 
 impl Host {
@@ -69,8 +70,17 @@ impl Host {
             (λ fault. FailsOf self.old context handle c fault × IsAsItWas self.old self.new) }
         ensures contexts { self.new.machine.numbers.callers ≡ self.old.machine.numbers.callers }
     {
-        let entry = self.ask_of(context, handle, Cmd::HGet { d: dst, s: 0 })?;
-        Ok(loaded(entry.reply))
+        let Some(slot) = self.slot_of(handle) else {
+            return Err(Fault::Stale);
+        };
+        let Some(target) = self.store.load_target(context, dst, slot) else {
+            return Err(Fault::Stale);
+        };
+        self.last = Change {
+            slot: None,
+            grown: Grown::Zero,
+        };
+        Ok(target)
     }
 
     /// The target becomes what the local references. A dependent handle may get null alone, and

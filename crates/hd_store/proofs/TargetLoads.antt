@@ -79,16 +79,20 @@ module _ (m : Machine) (caller d : ℕ) (slot : Slot) (target : Option Id) (soun
   outcome : get_target asking.state caller d 0
       ≡ reply_with (loaded target) (with_register asking.state caller d target)
   outcome =
-      ap (λ o. option_map_or (λ at. option_map_or (act at) (handle_at m.state at) (refuses refusal.NotLive asking.state)) o
+      ap (λ o. option_map_or (λ at. option_map_or (act at) (handle_at m.state at) not_live) o
       (refuses refusal.EmptyRegister asking.state)) named
-      ∙ ap (λ o. option_map_or (act slot) o (refuses refusal.NotLive asking.state)) found.1
+      ∙ ap (λ o. option_map_or (act slot) o not_live) found.1
       ∙ ap (λ t. reply_with (loaded t) (with_register asking.state caller d t)) found.2
     where
+      not_live : Outcome
+      not_live = refuses refusal.NotLive asking.state
+
       act : Slot → Handle Id → Outcome
       act at h = reply_with (loaded h.target) (with_register asking.state caller d h.target)
 
   may : MayRun asking asked None
-  may = may-run asking asked None (sound-pointed m caller 0 (Some slot) sound known) known (low, omega arith) tt
+  may =
+      may-run asking asked None (sound-pointed m caller 0 (Some slot) sound known) known (low, omega arith) tt
       (record { serial = λ x fields fin same. absurd (cc same); count = λ h same. absurd (cc same) })
 
   -- a load leaves the ages
