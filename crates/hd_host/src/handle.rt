@@ -22,6 +22,7 @@ impl Handle {
     }
 
     // Its slot, which may be any number below 2^16.
+    #[inline(always)]
     pub(crate) fn slot(self) -> Slot
         ensures { result ≡ record { 0 = self.0 % 2 ^ 16 } }
     {
@@ -29,6 +30,7 @@ impl Handle {
     }
 
     // Its stamp.
+    #[inline(always)]
     pub(crate) fn stamp(self) -> u64
         ensures { result ≡ self.0 / 2 ^ 16 }
     {

@@ -62,6 +62,7 @@ impl Host {
     }
 
     /// Local `dst` gets the target, which is null where it was never set or is cleared.
+    #[inline(always)]
     pub fn handle_get(&mut self, context: u32, handle: Handle, dst: u8) -> Result<Option<Id>, Fault>
         requires context { context < self.old.machine.numbers.callers }
         requires local { dst < REGISTERS }
@@ -70,10 +71,10 @@ impl Host {
             (λ fault. FailsOf self.old context handle c fault × IsAsItWas self.old self.new) }
         ensures contexts { self.new.machine.numbers.callers ≡ self.old.machine.numbers.callers }
     {
-        let Some(slot) = self.slot_of(handle) else {
+        if !self.has_stamp(handle) {
             return Err(Fault::Stale);
-        };
-        let Some(target) = self.store.load_target(context, dst, slot) else {
+        }
+        let Some(target) = self.store.load_target(context, dst, handle.slot()) else {
             return Err(Fault::Stale);
         };
         self.last = Change {

@@ -1,4 +1,4 @@
-ghost use Rattle.std.specs.Prelude.{◌≡◌, ◌<◌, ◌≤◌, ◌^◌, ◌*◌, ◌+◌, replicate, None, Some, IfOk, IfSome, OnErr, MatchOption, MatchResult};
+ghost use Rattle.std.specs.Prelude.{◌≡◌, true, false, ◌<◌, ◌≤◌, ◌^◌, ◌%◌, ◌*◌, ◌+◌, replicate, None, Some, IfOk, IfSome, OnErr, MatchOption, MatchResult};
 ghost use Rattle.hd_model.specs.{declared.data.Slot.Slot, declared.data.Refusal.Refusal, Touched.touched_by, Valid.IsValid};
 ghost use Rattle.hd_model.specs.declared.data.Grown.TheVariants.{Zero};
 ghost use Rattle.hd_model.specs.declared.data.Reply.TheVariants as reply;
@@ -91,6 +91,7 @@ impl Host {
     }
 
     /// The number of contexts, at least one.
+    #[inline(always)]
     pub fn contexts(&self) -> u32
         ensures value { result ≡ self.now.machine.numbers.callers }
         ensures some { 1 ≤ result }
@@ -121,6 +122,16 @@ impl Host {
             }
             None => None,
         }
+    }
+
+    // Whether the stamp of a handle is that of its slot. Whether the slot is live is not looked at.
+    #[inline(always)]
+    pub(crate) fn has_stamp(&self, handle: Handle) -> bool
+        ensures own { result ≡ true →
+            handle ≡ handle_of self.now (record { 0 = handle.0 % 2 ^ 16 }) }
+        ensures stale { result ≡ false → IsStale self.now handle }
+    {
+        self.stamps.is(handle.slot(), handle.stamp())
     }
 
     // Does a command of a context, with a slot in its first handle register while it is done. What

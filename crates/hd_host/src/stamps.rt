@@ -1,5 +1,5 @@
 // The stamps of slots: how often the handle in each was freed.
-ghost use Rattle.std.specs.Prelude.{◌≡◌, ◌+◌, ◌*◌, ◌<◌, ◌≤◌, length, replicate, slice_get, slice_index, slice_set, IfOk};
+ghost use Rattle.std.specs.Prelude.{◌≡◌, ◌≢◌, true, false, Some, IfSome, ◌+◌, ◌*◌, ◌<◌, ◌≤◌, length, replicate, slice_get, slice_index, slice_set, IfOk};
 ghost use Rattle.hd_host.specs.declared.stamps.TheConstants.{END};
 
 use hd_model::limits::{BLOCKS, ROWS};
@@ -50,6 +50,18 @@ impl Stamps {
         match self.stamps.get(slot.0 as usize) {
             Some(stamp) => Some(*stamp),
             None => None,
+        }
+    }
+
+    /// Whether a stamp is that of a slot, which may be any number.
+    #[inline(always)]
+    pub(crate) fn is(&self, slot: Slot, stamp: u64) -> bool
+        ensures own { result ≡ true → slice_get self.now slot.0 ≡ Some stamp }
+        ensures other { result ≡ false → IfSome (slice_get self.now slot.0) (λ last. last ≢ stamp) }
+    {
+        match self.stamps.get(slot.0 as usize) {
+            Some(last) => *last == stamp,
+            None => false,
         }
     }
 

@@ -1,5 +1,5 @@
 -- The handle in a slot of a store, as commands find it.
-use Rattle.hd_store.proofs.StoreWords.{Addr, Handle, IfSome, IsNamed, IsStored, IsTable, Kind, Machine, MayBeStored, None, Option, Parts, Row, Slot, Some, age_of, ap, block_of, extra_of, fits, generation_at, get, handle_at, handle_named, handle_of, id_at, is_object, kind_in_use, machine_of, object_at, object_named, option_map, refl, rename_handle, same_Some, secondary_of, subst, sym, true, use_of, ◌∙◌, ◌≡◌, ◌≤◌}
+use Rattle.hd_store.proofs.StoreWords.{Addr, Handle, Id, IfSome, IsNamed, IsStored, IsTable, Kind, Machine, MayBeStored, None, Option, Parts, Row, Slot, Some, age_of, ap, block_of, extra_of, fits, generation_at, get, handle_at, handle_named, handle_of, id_at, is_object, kind_in_use, machine_of, named_in, object_at, object_named, option_map, refl, rename_handle, same_Some, secondary_of, subst, sym, true, use_of, ◌∙◌, ◌≡◌, ◌≤◌}
 use Rattle.hd_seg.specs.Row.{row_of}
 use Rattle.hd_seg.proofs.RowRewrite.{extra_again}
 use Rattle.hd_store.proofs.{IdentityReadings.no_some, IdentityReadings.names-are, NamedAddresses.objects_named, NamedAddresses.generation-is, StoreRows.row-read}
@@ -98,3 +98,11 @@ module _ (f : Parts) (m : Machine) (view : machine_of f ≡ m) (stored : IsStore
           secondary_age = aged (secondary_of (extra_of row.extra)) second
               (λ x e. stored.ages.secondaries slot.0 h x at.is_stored (sym second_is ∙ e));
         }
+
+  -- what it has for a target, whatever its kind
+  pub target-is : option_map (λ (h : Handle Id). h.target) (handle_at m.state slot)
+      ≡ Some (named_in m.names row.target)
+  target-is = ap (option_map (λ (h : Handle Id). h.target)) (handle-is at.handle.kind (sym kind_use))
+
+  pub target-named : IsNamed m.names row.target
+  target-named = (handle-may at.handle.kind (sym kind_use)).target

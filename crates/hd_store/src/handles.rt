@@ -53,13 +53,17 @@ impl Contents {
     }
 
     /// The target of the handle in a slot, if the slot is live and not one that the weak table holds.
+    #[inline(always)]
     pub(crate) fn target_in(&self, slot: Slot) -> Option<Option<Addr>>
         ensures value { option_map (λ (h : Handle Id). h.target) (handle_at self.now.state slot)
             ≡ option_map (named_in self.now.names) result }
         ensures named { IfSome result (IsNamed self.now.names) }
     {
-        let live = self.handle(slot)?;
-        Some(live.row.target)
+        if self.weak.held(slot) {
+            return None;
+        }
+        let row = self.table.row(slot)?;
+        Some(row.target)
     }
 
     /// The handle of a row, as callers see it.

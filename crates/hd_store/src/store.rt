@@ -153,6 +153,7 @@ impl Store {
     /// Gives an object register the target of the live handle in a slot, and returns it: what an
     /// `hget` does by a handle register that has the slot. Where the slot is not live nothing
     /// changes, and none is returned. The slot may be any number.
+    #[inline(always)]
     pub fn load_target(&mut self, caller: u32, d: u8, slot: Slot) -> Option<Option<Id>>
         requires caller { caller < self.old.numbers.callers }
         requires register { d < REGISTERS }
