@@ -61,6 +61,8 @@ mod script;
 #[cfg(test)]
 mod seg;
 #[cfg(test)]
+mod show;
+#[cfg(test)]
 mod state;
 #[cfg(test)]
 mod table;

@@ -1,0 +1,11 @@
+pub mod Blanks
+pub mod Cells
+pub mod Tables
+pub mod FilteredSums
+pub mod RangeSteps
+pub mod RegionSteps
+pub mod ShownHandles
+pub mod KindSums
+pub mod ObjectSums
+pub mod GenerationSums
+pub mod RangeNumbers

@@ -1,0 +1,9 @@
+use Rattle.std.proofs.Common.{take, ℕ, ◌≡◌}
+use Rattle.std.specs.Prelude.{sum_by}
+use Rattle.hd_show.specs.Heaps.{cells_seen_in}
+use Rattle.hd_show.specs.Tally.{tally_at}
+use Rattle.hd_show.proofs.sums.sum_cells.Given as goal
+
+abbrev pub invariant-loop-object : goal.invariant-loop-object
+invariant-loop-object l =
+    (k : ℕ) → tally_at l.tally k ≡ sum_by (cells_seen_in k) (take l.object-index l.objects)

@@ -1,0 +1,12 @@
+pub mod Columns
+pub mod Lists
+pub mod Handles
+pub mod Tally
+pub mod Ranges
+pub mod Blocks
+pub mod Kinds
+pub mod Pins
+pub mod Heaps
+pub mod Registers
+pub mod Show
+pub mod Laws
