@@ -1,0 +1,161 @@
+/* hdt.h: a .NET-style GC handle table over a generational, compacting heap, for C hosts.
+ *
+ *   #include "hdt.h"
+ *   hdt_host host = HDT_CLOSED_HOST;
+ *   hdt_limits limits = { 100000, 64, 1 };                                   // cells, blocks, contexts
+ *   hdt_open(&host, &limits);
+ *   hdt_handle weak; hdt_report report; hdt_id target;
+ *   hdt_object_new(&host, 0, HDT_LOCAL(0), 2, HDT_FINALIZABLE, &target);   // local 0 of context 0 references it
+ *   hdt_handle_new(&host, 0, HDT_WEAK_LONG, HDT_LOCAL(0), 0, &weak);
+ *   hdt_local_clear(&host, 0, HDT_LOCAL(0));
+ *   hdt_collect(&host, 0, &report);                                       // report.revived == 1
+ *   hdt_handle_get(&host, 0, weak, HDT_LOCAL(1), &target);                // a weak long handle outlives it: target != 0
+ *   hdt_close(&host);
+ *
+ * Link: cc host.c libhdt_c.a liblibc_c.a        (both archives are in the release; malloc, realloc and free are the program's)
+ *
+ * WHAT IS PROVED of each function, given the duties below: it returns; it reads and writes no memory but the host's, its own and
+ * the out parameters; and its effect and its status are exactly those of one step of the machine of docs/machine.md. Where the
+ * status is not HDT_OK no out parameter is written, and the host is as it was; but where hdt_final_next and hdt_table_find say
+ * HDT_NONE, the local is null.
+ *
+ * DUTIES of the caller, which nothing checks:
+ *  1. `host` is not null, and points to an hdt_host that is HDT_CLOSED_HOST or that these functions wrote. It may be moved
+ *     (copied, and the old one never used again), but not copied: one copy owns the memory, as with a pthread_mutex_t. Its
+ *     field is private.
+ *  2. Out parameters are not null, are aligned, and do not overlap the host or one another. An array has room for its count.
+ *  3. Threads: there is no lock inside. Calls with one host may come from any thread, one at a time, each ordered after the one
+ *     before by a lock, a join or a sequentially consistent atomic. Calls with two hosts are independent. No call from a signal
+ *     handler, or from the forked child of a process with threads.
+ *  4. malloc, realloc and free are of one allocator and align to 16.
+ * Everything else is checked: numbers out of range, stale handles, wrong kinds, a closed host, and each failed allocation.
+ */
+#ifndef HDT_H
+#define HDT_H
+#include <stdbool.h>
+#include <stddef.h>
+#include <stdint.h>
+#ifdef __cplusplus
+extern "C" {
+#endif
+
+#define HDT_ABI 1 /* hdt_abi() returns it */
+
+/* A world of objects and handles. All bytes 0: closed. */
+typedef struct { void *hdt_private; } hdt_host;
+#define HDT_CLOSED_HOST { 0 }
+
+/* A handle, opaque; 0 is none. It has the number of its slot and a stamp, so that the use of a freed one is refused (HDT_STALE)
+ * also where its slot is in use again. It stays valid over collections, until hdt_handle_free. After 2^48 - 1 handles in a slot
+ * the next one there is not freed (HDT_EXHAUSTED). */
+typedef uint64_t hdt_handle;
+
+/* The identity of an object, 0 for null. No two objects of a host have one. It is a name and no reference: it keeps nothing. */
+typedef uint64_t hdt_id;
+
+/* Local references: each context has 16, and what they reference is kept (JNI guarantees 16 too). A host gives each of its
+ * threads, or each nested scope, a context. The functions that load say which local gets the result. */
+typedef uint32_t hdt_context; /* 0 to 15 */
+typedef uint32_t hdt_local;   /* 0 to 15 */
+#define HDT_LOCAL(n) ((hdt_local)(n))
+
+typedef uint32_t hdt_status;
+enum {
+    HDT_OK = 0,
+    HDT_CLOSED = 1,      /* the host is closed */
+    HDT_IS_OPEN = 2,     /* hdt_open: it is open already */
+    HDT_ARGUMENT = 3,    /* a context, local, kind, generation or limit out of range */
+    HDT_NO_MEMORY = 4,   /* malloc or realloc returned null */
+    HDT_EXHAUSTED = 5,   /* the context has made 2^32 - 1 objects; or the count, or the stamp of the slot, is at its end */
+    /* the refusals of the machine, in the order in which they are found */
+    HDT_STALE = 6,       /* no such handle: never made, or freed */
+    HDT_WRONG_KIND = 7,
+    HDT_COUNT_ZERO = 8,
+    HDT_NULL = 9,        /* the local, or the target of the handle, is null */
+    HDT_NO_FIELD = 10,
+    HDT_PRESENT = 11,    /* hdt_table_add: the key has an entry */
+    HDT_HEAP_FULL = 12,  /* collect; hdt_stats has the sizes */
+    HDT_TABLE_FULL = 13, /* hdt_trim, or free handles */
+    /* answers that are no failures */
+    HDT_NONE = 14        /* hdt_final_next: the queue is empty; hdt_table_find, _remove: no entry; hdt_root_of: unrooted */
+};
+
+typedef uint32_t hdt_kind;
+enum {
+    HDT_WEAK_SHORT = 0, /* GCHandleType.Weak: null before finalization */
+    HDT_WEAK_LONG = 1,  /* WeakTrackResurrection */
+    HDT_STRONG = 2,     /* Normal */
+    HDT_PINNED = 3,     /* Pinned: the object does not move */
+    HDT_VARIABLE = 4,   /* its extra is one of the four above, and hdt_strength_set changes it */
+    HDT_COUNTED = 5,    /* strong while its count is above 0, else weak long; made with count 1 */
+    HDT_DEPENDENT = 6   /* DependentHandle: its extra is the local with the secondary */
+};
+
+enum { HDT_FINALIZABLE = 1 }; /* flags of hdt_object_new */
+
+typedef struct { uint32_t cells, blocks, contexts; } hdt_limits; /* 3 to 1000000 cells; 1 to 256 blocks of 64 slots; 1 to 16 */
+typedef struct { uint32_t kept, removed, cleared_short, cleared_long, cleared_dependent, revived; } hdt_report;
+typedef struct { uint32_t objects, cells, handles, blocks, queued; } hdt_stats_out;
+typedef struct { hdt_handle handle; hdt_id target; hdt_kind kind; uint32_t extra; } hdt_handle_info; /* strength or count */
+typedef struct { hdt_id from; uint32_t arrows; } hdt_root;
+typedef struct { uint32_t slot, block, data_block, given_back; } hdt_change; /* each 0 for none */
+
+/* ---- the host */
+uint32_t hdt_abi(void);
+hdt_status hdt_open(hdt_host *host, const hdt_limits *limits); /* takes that of the table; objects and collections take more */
+void hdt_close(hdt_host *host);                                /* frees all of it; a closed host stays closed */
+hdt_status hdt_stats(hdt_host *host, hdt_stats_out *out);
+/* Of the last call that was done and no observer: the slot that it gave or freed (the low 16 bits of its handle), the block by
+ * which the table grew and the one for its extra data, and the block that was given back. For those who judge a host. */
+hdt_status hdt_last(hdt_host *host, hdt_change *out);
+
+/* ---- objects; fields are numbered from 0, at most 61; a new object has null fields, value 0 and generation 0 */
+hdt_status hdt_object_new(hdt_host *host, hdt_context c, hdt_local dst, uint32_t fields, uint32_t flags, hdt_id *id);
+hdt_status hdt_field_get(hdt_host *host, hdt_context c, hdt_local dst, hdt_local object, uint32_t i, hdt_id *id);
+hdt_status hdt_field_set(hdt_host *host, hdt_context c, hdt_local object, uint32_t i, hdt_local src); /* a null src stores null */
+hdt_status hdt_value_get(hdt_host *host, hdt_context c, hdt_local object, uint64_t *value);
+hdt_status hdt_value_set(hdt_host *host, hdt_context c, hdt_local object, uint64_t value);
+hdt_status hdt_generation(hdt_host *host, hdt_context c, hdt_local object, uint32_t *generation);
+hdt_status hdt_suppress(hdt_host *host, hdt_context c, hdt_local object);   /* GC.SuppressFinalize */
+hdt_status hdt_reregister(hdt_host *host, hdt_context c, hdt_local object); /* GC.ReRegisterForFinalize */
+
+/* ---- local references and statics */
+hdt_status hdt_local_id(hdt_host *host, hdt_context c, hdt_local src, hdt_id *id);
+hdt_status hdt_local_copy(hdt_host *host, hdt_context c, hdt_local dst, hdt_local src);
+hdt_status hdt_local_clear(hdt_host *host, hdt_context c, hdt_local dst);
+hdt_status hdt_static_get(hdt_host *host, hdt_context c, hdt_local dst, uint32_t k, hdt_id *id); /* 16, for all contexts */
+hdt_status hdt_static_set(hdt_host *host, hdt_context c, uint32_t k, hdt_local src);
+
+/* ---- handles; any context may use each. `extra`: a variable one's strength, the local of a dependent one's secondary, else 0 */
+hdt_status hdt_handle_new(hdt_host *host, hdt_context c, hdt_kind kind, hdt_local target, uint32_t extra, hdt_handle *out);
+hdt_status hdt_handle_free(hdt_host *host, hdt_handle handle);
+hdt_status hdt_handle_get(hdt_host *host, hdt_context c, hdt_handle handle, hdt_local dst, hdt_id *id); /* null: OK, *id 0 */
+hdt_status hdt_handle_set(hdt_host *host, hdt_context c, hdt_handle handle, hdt_local src); /* of a dependent one: null alone */
+hdt_status hdt_handle_kind(hdt_host *host, hdt_handle handle, hdt_kind *kind);
+hdt_status hdt_secondary_get(hdt_host *host, hdt_context c, hdt_handle handle, hdt_local dst, hdt_id *id);
+hdt_status hdt_secondary_set(hdt_host *host, hdt_context c, hdt_handle handle, hdt_local src);
+hdt_status hdt_strength_set(hdt_host *host, hdt_handle handle, hdt_kind strength);
+hdt_status hdt_count_up(hdt_host *host, hdt_handle handle, uint64_t *count);
+hdt_status hdt_count_down(hdt_host *host, hdt_handle handle, uint64_t *count);
+hdt_status hdt_address(hdt_host *host, hdt_handle handle, uint32_t *cell); /* of what it pins; stays while it is pinned */
+
+/* ---- the weak table (ConditionalWeakTable) */
+hdt_status hdt_table_add(hdt_host *host, hdt_context c, hdt_local key, hdt_local value);
+hdt_status hdt_table_find(hdt_host *host, hdt_context c, hdt_local dst, hdt_local key, hdt_id *id);
+hdt_status hdt_table_remove(hdt_host *host, hdt_context c, hdt_local key);
+
+/* ---- collection and finalization: nothing but these two collects or finalizes, and there are no callbacks */
+hdt_status hdt_collect(hdt_host *host, uint32_t generation, hdt_report *report); /* generations 0 to `generation` */
+hdt_status hdt_final_next(hdt_host *host, hdt_context c, hdt_local dst, hdt_id *id); /* the first of the queue; else HDT_NONE */
+hdt_status hdt_trim(hdt_host *host, hdt_kind kind, uint32_t *given); /* gives back one empty block of the kind, if there is one */
+
+/* ---- why an object lives, and which handles there are */
+hdt_status hdt_root_of(hdt_host *host, hdt_context c, hdt_local object, hdt_root *root);
+/* The live handles from a place on, by rising slot: at most `room` into `out`; *count is how many; *next is where to go on, or 0
+ * at the end. Begin with `from` 0. A collection or a free between two calls does no harm. */
+hdt_status hdt_handles(hdt_host *host, uint32_t from, hdt_handle_info *out, size_t room, size_t *count, uint32_t *next);
+
+#ifdef __cplusplus
+} /* a C++ host wraps hdt_host in a move-only class, whose destructor calls hdt_close */
+#endif
+#endif

@@ -1,0 +1,5 @@
+pub mod Comings
+pub mod Listings
+pub mod Makes
+pub mod LooseBoxes
+pub mod HeldBoxes

@@ -1,0 +1,11 @@
+use Rattle.std.proofs.Common.{refl}
+use Rattle.hdt_c.specs.Exports.{does}
+use Rattle.hdt_c.proofs.Comings.{failed}
+use Rattle.hdt_c.proofs.on_handles.address.Goals as goal
+
+pub returns-in-Ok : goal.returns-in-Ok
+returns-in-Ok c = does c.args.host.now _ _ tt (c.in-Ok.ensures.does, refl)
+
+pub returns-in-Err : goal.returns-in-Err
+returns-in-Err c = failed c.in-Err.fault tt c.in-Err.ensures.does.0 c.in-Err.ensures.does.1 refl
+    c.status_of.ensures

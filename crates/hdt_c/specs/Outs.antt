@@ -1,0 +1,104 @@
+-- What lies at out parameters after an export.
+use Rattle.std.specs.Prelude.{[], ◌∷◌, ◌≡◌, ℕ, ◌+◌, ◌*◌, ◌≤◌, ◌⊎◌, List, ◌++◌, drop, length, map, replicate, Option, Some, None, IsSome}
+use Rattle.std.specs.FinMap.{len}
+use Rattle.hd_model.specs.{Kinds.kind_number, declared.data.Id.Id, declared.data.Report.Report as Collected, declared.data.Slot.Slot}
+use Rattle.hd_model.specs.declared.data.Grown.TheVariants.{Zero}
+use Rattle.hd_model.specs.declared.limits.TheConstants.{CLUMPS, OLDEST, ROWS}
+use Rattle.hd_model.specs.State.{Numbers, given_of, handle_at, start_of, total_size}
+use Rattle.hd_store.specs.Offers.{HasLimits}
+use Rattle.hd_host.specs.{Handles.IsNextFrom, View.HostView}
+use Rattle.hd_host.specs.declared.collecting.Root.{Root as HostRoot}
+use Rattle.hd_host.specs.declared.observing.Listed.{Listed}
+use Rattle.hd_host.specs.declared.weak.Found.{Found}
+use Rattle.hd_host.specs.declared.weak.Found.TheVariants as found
+use Rattle.hdt_c.specs.Arguments.{extra_number, number_of}
+use Rattle.hdt_c.specs.declared.parts.{Info.Info, Limits.Limits, Report.Report, Root.Root, Stats.Stats}
+use Rattle.hdt_c.specs.declared.status.TheConstants.{OK, IS_OPEN, ARGUMENT, NO_MEMORY, NONE}
+
+-- the limits of a host
+abbrev pub numbers_in : Limits → Numbers
+numbers_in l = record { heap = l.cells; blocks = l.blocks; callers = l.contexts }
+
+-- a host has them, and nothing was done to it: nothing is made, all clumps have the oldest age, and each slot
+-- has the first stamp
+pub record IsOpened (limits : Limits) (v : HostView) : Type 0 where
+  pub numbers : v.machine.numbers ≡ numbers_in limits
+  pub state : v.machine.state ≡ start_of v.machine.numbers
+  pub ages : v.machine.ages ≡ replicate (CLUMPS * limits.blocks) OLDEST
+  pub stamps : v.stamps ≡ replicate (ROWS * (limits.blocks + 1)) 0
+  pub last : v.last ≡ record { slot = None; grown = Zero }
+
+-- none is opened: a limit is out of range, or memory ran out
+abbrev pub Refuses : Limits → ℕ → Type 0
+Refuses limits status =
+    ((HasLimits (numbers_in limits) → ⊥) × (status ≡ ARGUMENT))
+    ⊎ (HasLimits (numbers_in limits) × (status ≡ NO_MEMORY))
+
+-- a host is opened, or not: it is open, or none is opened
+pub data Opens (limits : Limits) : Option HostView → Option HostView → ℕ → Type 0 where
+  is_open : (v : HostView) → Opens limits (Some v) (Some v) IS_OPEN
+  refuses : (status : ℕ) → Refuses limits status → Opens limits None None status
+  opens : (v : HostView) → IsOpened limits v → Opens limits None (Some v) OK
+
+-- what is found in the weak table; where it has no entry, nothing is written
+abbrev pub IsFound : Found → (old new status : ℕ) → Type 0
+IsFound (found.Value o) old new status = (new ≡ number_of o) × (status ≡ OK)
+IsFound found.Absent old new status = (new ≡ old) × (status ≡ NONE)
+
+-- what was first in the queue; where it is empty, nothing is written
+abbrev pub IsFirst : Option Id → (old new status : ℕ) → Type 0
+IsFirst None old new status = (new ≡ old) × (status ≡ NONE)
+IsFirst (Some id) old new status = (new ≡ id.0) × (status ≡ OK)
+
+-- where a shortest chain begins; where none leads there, nothing is written
+abbrev pub IsRoot : Option HostRoot → (old new : Root) → ℕ → Type 0
+IsRoot None old new status = (new ≡ old) × (status ≡ NONE)
+IsRoot (Some root) old new status =
+    (new ≡ record { from = root.from.0; arrows = root.arrows }) × (status ≡ OK)
+
+-- a report as a host returns it
+abbrev pub report_in : Report → Collected
+report_in r = record {
+  kept = r.kept;
+  removed = r.removed;
+  short = r.cleared_short;
+  long = r.cleared_long;
+  dep = r.cleared_dependent;
+  revived = r.revived;
+}
+
+-- the numbers of a host
+abbrev pub stats_of : HostView → Stats
+stats_of v = record {
+  objects = len v.machine.state.objects;
+  cells = total_size v.machine.state;
+  handles = len v.machine.state.handles;
+  blocks = given_of v.machine.state;
+  queued = length v.machine.state.queue;
+}
+
+-- a handle of a list
+abbrev pub info_of : Listed → Info
+info_of l = record {
+  handle = l.handle.0;
+  target = number_of l.info.target;
+  kind = kind_number l.info.kind;
+  extra = extra_number l.info.extra;
+}
+
+-- live handles from a slot on, by rising slot: each is the next one from the one before; and where to go on
+pub data ListsFrom (v : HostView) : ℕ → List Listed → ℕ → Type 0 where
+  nothing_left : (from : ℕ) → ((slot : Slot) → from ≤ slot.0 → IsSome (handle_at v.machine.state slot) → ⊥)
+      → ListsFrom v from [] 0
+  no_room : (from : ℕ) (next : Listed) → IsNextFrom v from next → ListsFrom v from [] next.slot.0
+  listed : (from : ℕ) (l : Listed) (ls : List Listed) (next : ℕ) → IsNextFrom v from l
+      → ListsFrom v (l.slot.0 + 1) ls next → ListsFrom v from (l ∷ ls) next
+
+-- an array has them first, as many as are left or as have room, and is as it was behind them
+pub record AreListed (v : HostView) (from : ℕ) (old new : List Info) (count next : ℕ) : Type 0 where
+  pub listed : List Listed
+  pub lists : ListsFrom v from listed next
+  pub count_is : count ≡ length listed
+  pub room : count ≤ length old
+  pub full : (next ≡ 0 → ⊥) → count ≡ length old
+  pub items : new ≡ map info_of listed ++ drop count old

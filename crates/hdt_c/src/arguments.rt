@@ -1,0 +1,165 @@
+// What C passes, as a host takes it, and what a host returns, as C gets it.
+ghost use Rattle.std.specs.Prelude.{◌≡◌, ◌<◌, ◌≤◌, MatchOption, IfSome};
+ghost use Rattle.hd_model.specs.declared.data.Make.{Make};
+ghost use Rattle.hd_model.specs.Kinds.{kind_number};
+ghost use Rattle.hd_model.specs.Valid.{IsValidMake};
+ghost use Rattle.hdt_c.specs.Arguments.{IsMake, change_out, extra_number, field_number, number_of, strength_number};
+
+use crate::parts::Change;
+use hd_host::ExtraInfo;
+use hd_model::limits::{FIELDS, OLDEST, REGISTERS};
+use hd_model::{Grown, Id, Kind, Make, Strength};
+
+/// The number of a local, of a static, or of a register of a secondary.
+pub(crate) fn local(number: u32) -> Option<u8>
+    ensures { MatchOption result (REGISTERS ≤ number) (λ d. (d ≡ number) × (d < REGISTERS)) }
+{
+    if number < REGISTERS {
+        Some(number as u8)
+    } else {
+        None
+    }
+}
+
+/// A number of fields.
+pub(crate) fn count_of_fields(number: u32) -> Option<u8>
+    ensures { MatchOption result (FIELDS < number) (λ d. (d ≡ number) × (d ≤ FIELDS)) }
+{
+    if number <= FIELDS {
+        Some(number as u8)
+    } else {
+        None
+    }
+}
+
+/// The number of a field. No object has one of a number above 255, so each of these serves for all.
+pub(crate) fn field(number: u32) -> u8
+    ensures { result ≡ field_number number }
+{
+    if number < 256 { number as u8 } else { 255 }
+}
+
+/// A generation.
+pub(crate) fn generation_of(number: u32) -> Option<u8>
+    ensures { MatchOption result (OLDEST < number) (λ n. (n ≡ number) × (n ≤ OLDEST)) }
+{
+    if number <= u32::from(OLDEST) {
+        Some(number as u8)
+    } else {
+        None
+    }
+}
+
+/// A kind.
+pub(crate) fn kind_of(number: u32) -> Option<Kind>
+    ensures { MatchOption result (6 < number) (λ k. kind_number k ≡ number) }
+{
+    match number {
+        0 => Some(Kind::Short),
+        1 => Some(Kind::Long),
+        2 => Some(Kind::Strong),
+        3 => Some(Kind::Pinned),
+        4 => Some(Kind::Variable),
+        5 => Some(Kind::Counted),
+        6 => Some(Kind::Dependent),
+        _ => None,
+    }
+}
+
+/// The number of a kind.
+pub(crate) fn number_of_kind(kind: Kind) -> u32
+    ensures { result ≡ kind_number kind }
+{
+    kind.number()
+}
+
+/// A strength.
+pub(crate) fn strength_of(number: u32) -> Option<Strength>
+    ensures { MatchOption result (3 < number) (λ s. strength_number s ≡ number) }
+{
+    match number {
+        0 => Some(Strength::Short),
+        1 => Some(Strength::Long),
+        2 => Some(Strength::Strong),
+        3 => Some(Strength::Pinned),
+        _ => None,
+    }
+}
+
+// The number of a strength.
+fn number_of_strength(strength: Strength) -> u32
+    ensures { result ≡ strength_number strength }
+{
+    match strength {
+        Strength::Short => 0,
+        Strength::Long => 1,
+        Strength::Strong => 2,
+        Strength::Pinned => 3,
+    }
+}
+
+/// What is made of a kind with an extra.
+pub(crate) fn make(number: u32, extra: u32) -> Option<Make>
+    ensures made { MatchOption result ((made : Make) → IsMake made number extra → ⊥)
+        (λ made. IsMake made number extra) }
+    ensures valid { IfSome result IsValidMake }
+{
+    match kind_of(number)? {
+        Kind::Variable => Some(Make::Variable(strength_of(extra)?)),
+        Kind::Dependent => Some(Make::Dependent(local(extra)?)),
+        Kind::Short => without_extra(Make::Short, extra),
+        Kind::Long => without_extra(Make::Long, extra),
+        Kind::Strong => without_extra(Make::Strong, extra),
+        Kind::Pinned => without_extra(Make::Pinned, extra),
+        Kind::Counted => without_extra(Make::Counted, extra),
+    }
+}
+
+// What is made where the extra is 0.
+fn without_extra(make: Make, extra: u32) -> Option<Make>
+    ensures { MatchOption result (extra ≡ 0 → ⊥) (λ made. (made ≡ make) × (extra ≡ 0)) }
+{
+    if extra == 0 { Some(make) } else { None }
+}
+
+/// An identity as C gets it, 0 for null.
+pub(crate) fn number_of(id: Option<Id>) -> u64
+    ensures { result ≡ number_of id }
+{
+    match id {
+        Some(id) => id.0,
+        None => 0,
+    }
+}
+
+/// An extra as C gets it: a strength, or a count.
+pub(crate) fn number_of_extra(extra: ExtraInfo) -> u32
+    ensures { result ≡ extra_number extra }
+{
+    match extra {
+        ExtraInfo::Strength(strength) => number_of_strength(strength),
+        ExtraInfo::Count(count) => count,
+        ExtraInfo::Nothing | ExtraInfo::Secondary(_) => 0,
+    }
+}
+
+/// A change as C gets it, 0 for nothing.
+pub(crate) fn change(change: hd_host::Change) -> Change
+    ensures { result ≡ change_out change }
+{
+    let (block, data_block, given_back) = match change.grown {
+        Grown::Zero => (0, 0, 0),
+        Grown::One(block) => (block, 0, 0),
+        Grown::Two(block, data_block) => (block, data_block, 0),
+        Grown::Back(block) => (0, 0, block),
+    };
+    Change {
+        slot: match change.slot {
+            Some(slot) => slot.0,
+            None => 0,
+        },
+        block,
+        data_block,
+        given_back,
+    }
+}

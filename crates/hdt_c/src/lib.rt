@@ -1,0 +1,13 @@
+//! The handle table and heap of `hd_host` for C: an export for each function of `hdt.h`.
+#![tactic(auto)]
+
+mod arguments;
+mod held;
+mod loose;
+mod on_entries;
+mod on_handles;
+mod on_host;
+mod on_locals;
+mod on_objects;
+mod parts;
+mod status;
