@@ -9,7 +9,7 @@ namespace {
 
 const char* const USAGE =
     "usage: coreclr answers [--compact] [--slots] [--threads] [--heap CELLS] < SCRIPT | collections COUNT < SCRIPT |\n"
-    "       pairs THREADS BATCH | load ROUNDS\n";
+    "       pairs THREADS BATCH | load ROUNDS | calls CALL N\n";
 
 std::string input() { return std::string(std::istreambuf_iterator<char>(std::cin), std::istreambuf_iterator<char>()); }
 
@@ -40,5 +40,6 @@ int main(int count, char** words) {
     if (mode == "collections" && count == 3) return race_collections(input(), atoi(words[2]), true);
     if (mode == "pairs" && count == 4) return race_pairs(atoi(words[2]), atoi(words[3]));
     if (mode == "load" && count == 3) return race_load(atoi(words[2]));
+    if (mode == "calls" && count == 4) return race_calls(words[2], strtoull(words[3], nullptr, 10));
     return usage();
 }

@@ -1,0 +1,216 @@
+/* The C library where memory is refused, and over many calls. It is linked with -Wl,--wrap=malloc,--wrap=realloc,--wrap=free.
+ *
+ *   host_memory refuse      each request for memory refused in turn: the call says HDT_NO_MEMORY and changes nothing, and done
+ *                           again, the program goes on to its end and comes to the same
+ *   host_memory long N      N calls; the most memory that is held is that of the first 10,000, and none is held after the close
+ */
+#define _GNU_SOURCE
+#include "hdt.h"
+#include <malloc.h>
+#include <stdio.h>
+#include <stdlib.h>
+#include <string.h>
+
+void *__real_malloc(size_t size);
+void *__real_realloc(void *at, size_t size);
+void __real_free(void *at);
+
+static unsigned long requests, refused; /* `refused` is the number of the request that is refused, 0 for none */
+static size_t held, most;
+
+static void *taken(void *at) {
+    if (at) held += malloc_usable_size(at);
+    if (held > most) most = held;
+    return at;
+}
+
+void *__wrap_malloc(size_t size) { return ++requests == refused ? NULL : taken(__real_malloc(size)); }
+
+void *__wrap_realloc(void *at, size_t size) {
+    if (++requests == refused) return NULL;
+    if (at) held -= malloc_usable_size(at);
+    void *to = __real_realloc(at, size);
+    return to ? taken(to) : (taken(at), NULL);
+}
+
+void __wrap_free(void *at) {
+    if (at) held -= malloc_usable_size(at);
+    __real_free(at);
+}
+
+static hdt_host host = HDT_CLOSED_HOST;
+static unsigned long number; /* of the call */
+
+static void fail(const char *why, hdt_status status) {
+    fprintf(stderr, "host_memory: call %lu, request %lu refused: %s (%u)\n", number, refused, why, (unsigned)status);
+    exit(1);
+}
+
+/* ---- what a host shows */
+
+struct shown {
+    hdt_stats_out stats;
+    hdt_change last;
+    hdt_id locals[2][16];
+    hdt_handle_info handles[512];
+    size_t count;
+};
+
+static void show(struct shown *all) {
+    memset(all, 0, sizeof *all);
+    uint32_t next;
+    if (hdt_stats(&host, &all->stats) != HDT_OK) return;
+    hdt_last(&host, &all->last);
+    for (hdt_context c = 0; c < 2; c++)
+        for (hdt_local i = 0; i < 16; i++) hdt_local_id(&host, c, i, &all->locals[c][i]);
+    hdt_handles(&host, 0, all->handles, 512, &all->count, &next);
+}
+
+/* ---- the calls */
+
+static uint64_t digest;
+static void note(uint64_t value) { digest = (digest ^ value) * 1099511628211u; }
+
+static hdt_handle kept[64];
+static size_t kept_count;
+static uint64_t seed = 1;
+static uint32_t any(uint32_t below) {
+    seed = seed * 6364136223846793005u + 1442695040888963407u;
+    return (uint32_t)(seed >> 33) % below;
+}
+
+/* What call i is, so that it can be made again. */
+struct call {
+    unsigned what;
+    uint32_t a, b, c, d;
+};
+
+static struct call next_call(void) {
+    struct call call = { any(12), any(2), any(16), any(16), any(64) };
+    return call;
+}
+
+static hdt_status make_call(const struct call *call) {
+    hdt_id id = 0;
+    hdt_report report;
+    hdt_handle handle = kept_count ? kept[call->d % kept_count] : 0;
+    hdt_status status;
+    uint32_t given = 0;
+    hdt_root root;
+    switch (call->what) {
+    case 0:
+    case 1:
+        status = hdt_object_new(&host, call->a, call->b, call->c, call->d & 1, &id);
+        if (status == HDT_OK) note(id);
+        return status;
+    case 2:
+        if (kept_count == 64) return HDT_OK;
+        status = hdt_handle_new(&host, call->a, call->d % 4, call->b, 0, &handle);
+        if (status == HDT_OK) note(kept[kept_count++] = handle);
+        return status;
+    case 3:
+        status = hdt_handle_free(&host, handle);
+        if (status == HDT_OK) {
+            size_t at = call->d % kept_count;
+            kept[at] = kept[--kept_count];
+        }
+        return status;
+    case 4:
+        status = hdt_handle_get(&host, call->a, handle, call->b, &id);
+        note(id);
+        return status;
+    case 5: return hdt_handle_set(&host, call->a, handle, call->b);
+    case 6: return hdt_field_set(&host, call->a, call->b, call->d % 4, call->c);
+    case 7: return hdt_table_add(&host, call->a, call->b, call->c);
+    case 8:
+        status = hdt_table_find(&host, call->a, call->c, call->b, &id);
+        note(id);
+        return status;
+    case 9:
+        if (call->d % 8 != 0) return hdt_local_clear(&host, call->a, call->b);
+        status = hdt_collect(&host, call->c % 3, &report);
+        if (status == HDT_OK) note(report.kept * 65536u + report.removed);
+        return status;
+    case 10:
+        status = hdt_root_of(&host, call->a, call->b, &root);
+        if (status == HDT_OK) note(root.from + root.arrows);
+        return status;
+    default:
+        status = hdt_trim(&host, call->d % 4, &given);
+        note(given);
+        return status;
+    }
+}
+
+static const hdt_limits limits = { 20000, 64, 2 };
+
+static void begin(void) {
+    digest = 14695981039346656037u;
+    seed = 1;
+    kept_count = 0;
+    requests = 0;
+    number = 0;
+}
+
+/* The same program; a call that finds no memory is made again. */
+static void run(unsigned long calls) {
+    static struct shown before, after;
+    begin();
+    hdt_status status = hdt_open(&host, &limits);
+    if (status == HDT_NO_MEMORY && refused) {
+        if (hdt_local_clear(&host, 0, 0) != HDT_CLOSED || held != 0) fail("the host is not closed", status);
+        status = hdt_open(&host, &limits);
+    }
+    if (status != HDT_OK) fail("not opened", status);
+    for (number = 1; number <= calls; number++) {
+        struct call call = next_call();
+        if (refused) show(&before);
+        status = make_call(&call);
+        if (status == HDT_NO_MEMORY) {
+            if (!refused) fail("no memory", status);
+            show(&after);
+            if (memcmp(&before, &after, sizeof before) != 0) fail("the host is not as it was", status);
+            status = make_call(&call);
+            if (status == HDT_NO_MEMORY) fail("again no memory", status);
+        }
+        if (status == HDT_CLOSED || status == HDT_ARGUMENT) fail("a call that is not one", status);
+        note(status);
+    }
+    hdt_close(&host);
+    if (held != 0) fail("memory is held after the close", 0);
+}
+
+int main(int count, char **words) {
+    if (count == 2 && strcmp(words[1], "refuse") == 0) {
+        run(3000);
+        unsigned long all = requests;
+        uint64_t wanted = digest;
+        for (refused = 1; refused <= all; refused++) {
+            run(3000);
+            if (digest != wanted) fail("it came to something else", 0);
+        }
+        printf("%lu requests, each refused in turn\n", all);
+        return 0;
+    }
+    if (count == 3 && strcmp(words[1], "long") == 0) {
+        unsigned long calls = strtoul(words[2], NULL, 10);
+        size_t early = 0;
+        begin();
+        if (hdt_open(&host, &limits) != HDT_OK) fail("not opened", 0);
+        for (number = 1; number <= calls; number++) {
+            struct call call = next_call();
+            hdt_status status = make_call(&call);
+            if (status == HDT_HEAP_FULL) {
+                hdt_report report;
+                for (hdt_local i = 0; i < 16; i++) hdt_local_clear(&host, number & 1, i);
+                if (hdt_collect(&host, 2, &report) != HDT_OK) fail("not collected", 0);
+            }
+            if (number == 10000) early = most;
+        }
+        hdt_close(&host);
+        printf("%lu calls: %zu bytes at most after 10,000, %zu at the end, %zu after the close\n", calls, early, most, held);
+        return early == most && held == 0 ? 0 : 1;
+    }
+    fprintf(stderr, "usage: host_memory refuse | host_memory long N\n");
+    return 2;
+}
