@@ -2,7 +2,8 @@
  *
  *   host_memory refuse      each request for memory refused in turn: the call says HDT_NO_MEMORY and changes nothing, and done
  *                           again, the program goes on to its end and comes to the same
- *   host_memory long N      N calls; the most memory that is held is that of the first 10,000, and none is held after the close
+ *   host_memory long N      N calls, which begin by filling heap and table; the most memory that is held is that of the first
+ *                           10,000, and none is held after the close
  */
 #define _GNU_SOURCE
 #include "hdt.h"
@@ -86,7 +87,7 @@ struct call {
 };
 
 static struct call next_call(void) {
-    struct call call = { any(12), any(2), any(16), any(16), any(64) };
+    struct call call = { any(13), any(2), any(16), any(16), any(64) };
     return call;
 }
 
@@ -135,6 +136,10 @@ static hdt_status make_call(const struct call *call) {
         status = hdt_root_of(&host, call->a, call->b, &root);
         if (status == HDT_OK) note(root.from + root.arrows);
         return status;
+    case 11:
+        status = hdt_final_next(&host, call->a, call->b, &id);
+        note(id);
+        return status;
     default:
         status = hdt_trim(&host, call->d % 4, &given);
         note(given);
@@ -142,7 +147,14 @@ static hdt_status make_call(const struct call *call) {
     }
 }
 
-static const hdt_limits limits = { 20000, 64, 2 };
+static const hdt_limits limits = { 3000, 8, 2 };
+
+/* Whether a call of this kind may take memory: those that make an object, collect, or look for what keeps one. */
+static bool takes_memory(const struct call *call) { return call->what <= 1 || call->what == 9 || call->what == 10; }
+
+/* The calls of a run, and how many requests there had been before each, where none is refused. */
+enum { CALLS = 3000 };
+static unsigned long before_call[CALLS + 2];
 
 static void begin(void) {
     digest = 14695981039346656037u;
@@ -153,7 +165,7 @@ static void begin(void) {
 }
 
 /* The same program; a call that finds no memory is made again. */
-static void run(unsigned long calls) {
+static void run(void) {
     static struct shown before, after;
     begin();
     hdt_status status = hdt_open(&host, &limits);
@@ -162,12 +174,15 @@ static void run(unsigned long calls) {
         status = hdt_open(&host, &limits);
     }
     if (status != HDT_OK) fail("not opened", status);
-    for (number = 1; number <= calls; number++) {
+    for (number = 1; number <= CALLS; number++) {
         struct call call = next_call();
-        if (refused) show(&before);
+        bool is_refused = refused > before_call[number] && refused <= before_call[number + 1];
+        if (is_refused) show(&before);
+        if (!refused) before_call[number] = requests;
         status = make_call(&call);
-        if (status == HDT_NO_MEMORY) {
-            if (!refused) fail("no memory", status);
+        if (is_refused != (status == HDT_NO_MEMORY)) fail("another call was refused memory", status);
+        if (is_refused) {
+            if (!takes_memory(&call)) fail("a call takes memory that is to take none", status);
             show(&after);
             if (memcmp(&before, &after, sizeof before) != 0) fail("the host is not as it was", status);
             status = make_call(&call);
@@ -176,41 +191,91 @@ static void run(unsigned long calls) {
         if (status == HDT_CLOSED || status == HDT_ARGUMENT) fail("a call that is not one", status);
         note(status);
     }
+    if (!refused) before_call[CALLS + 1] = requests;
     hdt_close(&host);
     if (held != 0) fail("memory is held after the close", 0);
 }
 
+/* ---- a long run */
+
+/* A list in local 0, until the heap is full; local 2 has its last object. Each object gets a handle that pins it, or an entry of
+ * the table, or a handle with a second object, as long as there is room, where `handles` has room for them. */
+static size_t fill(hdt_handle *handles) {
+    size_t count = 0;
+    hdt_id id;
+    hdt_local_clear(&host, 0, 0);
+    while (hdt_object_new(&host, 0, 1, 1, handles ? HDT_FINALIZABLE : 0, &id) == HDT_OK) {
+        if (hdt_field_set(&host, 0, 1, 0, 0) != HDT_OK || hdt_local_copy(&host, 0, 0, 1) != HDT_OK) fail("no list", 0);
+        if (!handles) continue;
+        if (count == 0) hdt_local_copy(&host, 0, 2, 1);
+        if (id % 16 == 0) count += hdt_handle_new(&host, 0, HDT_PINNED, 1, 0, &handles[count]) == HDT_OK;
+        else if (id % 4 == 1) hdt_table_add(&host, 0, 1, 0);
+        else count += hdt_handle_new(&host, 0, HDT_DEPENDENT, 1, 0, &handles[count]) == HDT_OK;
+    }
+    return count;
+}
+
+/* Takes all objects from the queue, and lets go what the locals lead to. */
+static void let_go(void) {
+    hdt_id id;
+    while (hdt_final_next(&host, 0, 0, &id) == HDT_OK) {}
+    for (hdt_local i = 0; i < 32; i++) hdt_local_clear(&host, i & 1, i / 2);
+}
+
+static void collect(uint32_t generation) {
+    hdt_report report;
+    if (hdt_collect(&host, generation, &report) != HDT_OK) fail("not collected", 0);
+}
+
+/* The most that a host can take: collections and a search where all is alive, then all of it queued, and then a full heap between
+ * objects that do not move. Some 7,000 calls. */
+static void fill_all(void) {
+    static hdt_handle handles[8 * 64];
+    hdt_root root;
+    size_t count = fill(handles);
+    for (uint32_t generation = 0; generation < 3; generation++) collect(generation);
+    if (hdt_static_set(&host, 0, 0, 0) != HDT_OK || hdt_root_of(&host, 0, 2, &root) != HDT_OK) fail("no root", 0);
+    hdt_static_set(&host, 0, 0, 3);
+    let_go();
+    collect(2);
+    let_go();
+    collect(2);
+    fill(NULL);
+    collect(2);
+    while (count) hdt_handle_free(&host, handles[--count]);
+    let_go();
+}
+
+static int run_long(unsigned long calls) {
+    size_t early = 0; /* the most when 10,000 calls were made; filling makes some 7,000 */
+    begin();
+    if (hdt_open(&host, &limits) != HDT_OK) fail("not opened", 0);
+    fill_all();
+    for (number = 1; number <= calls; number++) {
+        struct call call = next_call();
+        if (number == 3000) early = most;
+        if (make_call(&call) != HDT_HEAP_FULL) continue;
+        let_go();
+        collect(2);
+    }
+    hdt_close(&host);
+    printf("%lu calls: %zu bytes at most in the first 10,000, %zu in all, %zu after the close\n", calls, early, most, held);
+    return early == most && held == 0 ? 0 : 1;
+}
+
 int main(int count, char **words) {
     if (count == 2 && strcmp(words[1], "refuse") == 0) {
-        run(3000);
+        run();
         unsigned long all = requests;
         uint64_t wanted = digest;
         for (refused = 1; refused <= all; refused++) {
-            run(3000);
+            run();
             if (digest != wanted) fail("it came to something else", 0);
         }
         printf("%lu requests, each refused in turn\n", all);
         return 0;
     }
-    if (count == 3 && strcmp(words[1], "long") == 0) {
-        unsigned long calls = strtoul(words[2], NULL, 10);
-        size_t early = 0;
-        begin();
-        if (hdt_open(&host, &limits) != HDT_OK) fail("not opened", 0);
-        for (number = 1; number <= calls; number++) {
-            struct call call = next_call();
-            hdt_status status = make_call(&call);
-            if (status == HDT_HEAP_FULL) {
-                hdt_report report;
-                for (hdt_local i = 0; i < 16; i++) hdt_local_clear(&host, number & 1, i);
-                if (hdt_collect(&host, 2, &report) != HDT_OK) fail("not collected", 0);
-            }
-            if (number == 10000) early = most;
-        }
-        hdt_close(&host);
-        printf("%lu calls: %zu bytes at most after 10,000, %zu at the end, %zu after the close\n", calls, early, most, held);
-        return early == most && held == 0 ? 0 : 1;
-    }
+    if (count == 3 && strcmp(words[1], "long") == 0) return run_long(strtoul(words[2], NULL, 10));
     fprintf(stderr, "usage: host_memory refuse | host_memory long N\n");
     return 2;
 }
