@@ -17,7 +17,7 @@ import time
 HERE = os.path.dirname(os.path.abspath(__file__))
 CALLS = ["handle_get", "handle_new", "object_new", "field_set"]
 COUNTED = 1_000_000
-TIMED = 20_000_000
+TIMED = 5_000_000
 RUNS = 5
 ASKED = {"handle_get": 60}
 

@@ -228,7 +228,9 @@ static void collect(uint32_t generation) {
 }
 
 /* The most that a host can take: collections and a search where all is alive, then all of it queued, and then a full heap between
- * objects that do not move. Some 7,000 calls. */
+ * objects that do not move. */
+enum { FILLING = 3400 }; /* calls at most */
+
 static void fill_all(void) {
     static hdt_handle handles[8 * 64];
     hdt_root root;
@@ -247,13 +249,13 @@ static void fill_all(void) {
 }
 
 static int run_long(unsigned long calls) {
-    size_t early = 0; /* the most when 10,000 calls were made; filling makes some 7,000 */
+    size_t early = 0;
     begin();
     if (hdt_open(&host, &limits) != HDT_OK) fail("not opened", 0);
     fill_all();
     for (number = 1; number <= calls; number++) {
         struct call call = next_call();
-        if (number == 3000) early = most;
+        if (number == 10000 - FILLING) early = most;
         if (make_call(&call) != HDT_HEAP_FULL) continue;
         let_go();
         collect(2);
