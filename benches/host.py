@@ -1,9 +1,9 @@
 #!/usr/bin/env python3
 """host.py [--coreclr PROGRAM] [--mono PROGRAM] LIBRARY..: what calls of the C library cost, one thread: instructions a call
-(callgrind of a million calls less a million of `hdt_abi`) and nanoseconds a call, beside those of CoreCLR's machine and of mono's
-embedding API, in turn. LIBRARY is what the program is linked with, in this order: libhdt_c.a liblibc_c.a. PROGRAM is what
-conformance/coreclr/machine/build made, or benches/host_mono.c built. It needs cc and valgrind. The status is 1 where `handle_get`
-takes more than what is asked."""
+(callgrind of a million calls less a million of `hdt_abi`) and nanoseconds a call that the processor gave the thread, beside those
+of CoreCLR's machine and of mono's embedding API, in turn. LIBRARY is what the program is linked with, in this order: libhdt_c.a
+liblibc_c.a. PROGRAM is what conformance/coreclr/machine/build made, or benches/host_mono.c built. It needs cc and valgrind. The
+status is 1 where `handle_get` takes more than what is asked."""
 import argparse
 import collections
 import os
@@ -12,7 +12,6 @@ import statistics
 import subprocess
 import sys
 import tempfile
-import time
 
 HERE = os.path.dirname(os.path.abspath(__file__))
 CALLS = ["handle_get", "handle_new", "object_new", "field_set"]
@@ -32,12 +31,6 @@ def instructions(program, call):
     return int(re.search(r"Collected : (\d+)", done.stderr).group(1))
 
 
-def seconds(program, call):
-    start = time.monotonic()
-    subprocess.run([program, call, str(TIMED)], check=True)
-    return time.monotonic() - start
-
-
 def others_of(options):
     """Who else makes the calls, with the words that have it make them."""
     found = [("CoreCLR", [options.coreclr, "calls"])] if options.coreclr else []
@@ -55,15 +48,13 @@ def main(options):
         words = ["cc", "-O2", "-std=c11", "-Wall", "-Wextra", "-Werror", f"-I{HERE}/../crates/hdt_c", f"{HERE}/host.c"]
         subprocess.run(words + [*options.libraries, "-o", program], check=True)
         base = instructions(program, "abi")
-        idle = statistics.median(seconds(program, "abi") for _ in range(RUNS))
         names = ["call", "instructions", "asked", "ns"] + [f"ns, {name}" for name, _ in others]
         print(f"| {' | '.join(names)} |\n|{'---|' * len(names)}")
         for call in CALLS:
             each = (instructions(program, call) - base) / COUNTED
             times = collections.defaultdict(list)
             for _ in range(RUNS):
-                times["hdt"].append((seconds(program, call) - idle) / TIMED * 1e9)
-                for name, words in others:
+                for name, words in [("hdt", [program]), *others]:
                     times[name].append(nanoseconds(words, call))
             asked = ASKED.get(call)
             failed |= asked is not None and each > asked

@@ -19,7 +19,7 @@ volatile uint64_t read_name;
 
 double now() {
     timespec time;
-    clock_gettime(CLOCK_MONOTONIC, &time);
+    clock_gettime(CLOCK_THREAD_CPUTIME_ID, &time);
     return time.tv_sec + time.tv_nsec / 1e9;
 }
 
