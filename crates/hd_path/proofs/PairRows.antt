@@ -1,0 +1,134 @@
+-- Rows that are cut from pairs in the order of their nodes.
+use Rattle.std.proofs.Common.{All, Contains, List, ap, arith, get_or, length, map, slice_index, subst, sym, ℕ, ⊎_elim, ◌++◌, ◌+◌, ◌<◌, ◌∙◌, ◌∷◌, ◌≡◌, ◌≤◌, []}
+use Rattle.std.specs.List.Sorted.{IsPermutation}
+use Rattle.std.proofs.lemmas.Bool.{cases_lt}
+use Rattle.std.proofs.lemmas.List.{get_or-map, get_or_append_left, get_or_default, get_or_past, get_or_push, length-map, length_push}
+use Rattle.std.proofs.lemmas.List.Elements.{All-contains, Contains-get_or}
+use Rattle.std.proofs.lemmas.List.Sorted.{All-permutation, Contains-permutation, IsPermutation-sym}
+use Rattle.hd_path.specs.Pairs.{ArePlaces, AreRowsOf, IsCut}
+use Rattle.hd_path.specs.Rows.{AreRows, LeadsTo}
+
+-- a place more
+module _ (pairs : List (ℕ × ℕ)) (places after : List ℕ) (node place : ℕ) (count : length places ≡ node)
+    (cuts : (x : ℕ) → x < node → IsCut pairs x (slice_index places x))
+    (pushed : after ≡ places ++ place ∷ []) where
+  pub more_count : length after ≡ node + 1
+  more_count = ap length pushed ∙ length_push places place ∙ ap (λ n. n + 1) count
+
+  early : (x : ℕ) → x < node → slice_index after x ≡ slice_index places x
+  early x low = ap (λ (l : List ℕ). slice_index l x) pushed
+      ∙ get_or_append_left places (place ∷ []) 0 x (omega (arith, low, count))
+
+  pub last_place : slice_index after node ≡ place
+  last_place = ap (λ (l : List ℕ). slice_index l node) pushed ∙ get_or_push places place 0 node count
+
+  pub early_cuts : (x : ℕ) → x < node → IsCut pairs x (slice_index after x)
+  early_cuts x low = subst (λ p. IsCut pairs x p) (sym (early x low)) (cuts x low)
+
+  pub more_cuts : IsCut pairs node place → (x : ℕ) → x < node + 1 → IsCut pairs x (slice_index after x)
+  more_cuts here x low =
+      ⊎_elim (λ less. early_cuts x less)
+      (λ ge.
+      let same : x ≡ node = omega (arith, ge, low) in
+      subst (λ m. IsCut pairs m (slice_index after m)) (sym same)
+      (subst (λ p. IsCut pairs node p) (sym last_place) here)) (cases_lt x node)
+
+module _ (pairs : List (ℕ × ℕ)) (nodes : ℕ) (places targets : List ℕ) (are : ArePlaces pairs nodes places)
+    (second : targets ≡ map (λ (p : ℕ × ℕ). p.1) pairs)
+    (inside : (p : ℕ × ℕ) → Contains pairs p → (p.0 < nodes) × (p.1 < nodes)) where
+  long : length targets ≡ length pairs
+  long = ap length second ∙ length-map pairs (λ (p : ℕ × ℕ). p.1)
+
+  node_at : ℕ → ℕ
+  node_at k = (get_or pairs k (0, 0)).0
+
+  target_at : (k : ℕ) → k < length pairs → slice_index targets k ≡ (get_or pairs k (0, 0)).1
+  target_at k low = ap (λ (l : List ℕ). slice_index l k) second
+      ∙ get_or-map (λ (p : ℕ × ℕ). p.1) pairs k (0, 0) 0 low
+
+  -- the cut at any node, the end among them
+  cut : (x : ℕ) → x ≤ nodes → IsCut pairs x (slice_index places x)
+  cut x le =
+      ⊎_elim (λ less. are.cuts x less)
+      (λ ge.
+      let same : x ≡ nodes = omega (arith, ge, le) in
+      subst (λ m. IsCut pairs m (slice_index places m)) (sym same)
+      (subst (λ p. IsCut pairs nodes p) (sym are.end) (record {
+        within = omega arith;
+        low = λ k d low. subst (λ (p : ℕ × ℕ). p.0 < nodes) (get_or_default pairs k (0, 0) d low)
+            ((inside (get_or pairs k (0, 0)) (Contains-get_or pairs k (0, 0) low)).0);
+        high = λ k d above low. absurd (omega (arith, above, low));
+      }))) (cases_lt x nodes)
+
+  pub leads_pair : (x y : ℕ) → LeadsTo places targets x y → Contains pairs (x, y)
+  leads_pair x y to =
+      ⊎_elim
+      (λ less.
+      let here = cut x (omega (arith, less)) in
+      let next = cut (x + 1) (omega (arith, less)) in
+      let within : to.at < length pairs = omega (arith, to.high, next.within) in
+      let above = here.high to.at (0, 0) to.low within in
+      let below = next.low to.at (0, 0) to.high in
+      let first : (get_or pairs to.at (0, 0)).0 ≡ x = omega (arith, above, below) in
+      let last : (get_or pairs to.at (0, 0)).1 ≡ y = sym (target_at to.at within) ∙ to.target in
+      let same : get_or pairs to.at (0, 0) ≡ (x, y) = λ i. (first i, last i) in
+      subst (λ p. Contains pairs p) same (Contains-get_or pairs to.at (0, 0) within))
+      (λ ge.
+      let past = get_or_past places (x + 1) 0 (omega (arith, ge, are.count)) in
+      absurd (omega (arith, to.high, past))) (cases_lt x nodes)
+
+  pub pair_leads : (x y : ℕ) → Contains pairs (x, y) → LeadsTo places targets x y
+  pair_leads x y has =
+      let within = has.1 in
+      let at : get_or pairs has.0 (0, 0) ≡ (x, y) = get_or_default pairs has.0 (0, 0) (x, y) within ∙ has.2 in
+      let known = (inside (x, y) has).0 in
+      let first : (get_or pairs has.0 (0, 0)).0 ≡ x = ap (λ (p : ℕ × ℕ). p.0) at in
+      let here = cut x (omega (arith, known)) in
+      let next = cut (x + 1) (omega (arith, known)) in record {
+        at = has.0;
+        low = ⊎_elim (λ less. let below = here.low has.0 (0, 0) less in absurd (omega (arith, below, first)))
+            (λ ge. ge) (cases_lt has.0 (slice_index places x));
+        high = ⊎_elim (λ less. less)
+            (λ ge. let above = next.high has.0 (0, 0) ge within in absurd (omega (arith, above, first)))
+            (cases_lt has.0 (slice_index places (x + 1)));
+        target = target_at has.0 within ∙ ap (λ (p : ℕ × ℕ). p.1) at;
+      }
+
+  pub cut_rows : AreRows places targets nodes
+  cut_rows = record {
+    count = are.count;
+    rising = λ x low.
+        let here = cut x (omega (arith, low)) in
+        let next = cut (x + 1) (omega (arith, low)) in
+        ⊎_elim
+        (λ less.
+        let under = here.low (slice_index places (x + 1)) (0, 0) less in
+        let over = next.high (slice_index places (x + 1)) (0, 0) (omega arith)
+        (omega (arith, less, here.within)) in
+        absurd (omega (arith, under, over)))
+        (λ ge. ge) (cases_lt (slice_index places (x + 1)) (slice_index places x));
+    within = λ x low. let next = cut (x + 1) (omega (arith, low)) in omega (arith, next.within, long);
+    inside = λ k low.
+        let within : k < length pairs = omega (arith, low, long) in
+        subst (λ m. m < nodes) (sym (target_at k within))
+        ((inside (get_or pairs k (0, 0)) (Contains-get_or pairs k (0, 0) within)).1);
+  }
+
+-- the rows that are cut from the sorted pairs have the pairs as they came
+pub rows_are : (pairs sorted : List (ℕ × ℕ)) (nodes : ℕ) (places targets : List ℕ)
+    → All (λ (p : ℕ × ℕ). (p.0 < nodes) × (p.1 < nodes)) pairs → IsPermutation pairs sorted
+    → ArePlaces sorted nodes places → targets ≡ map (λ (p : ℕ × ℕ). p.1) sorted
+    → AreRowsOf pairs nodes places targets
+rows_are pairs sorted nodes places targets all moved are second = record {
+  rows = cut_rows sorted nodes places targets are second inside;
+  only = λ x y to.
+      Contains-permutation sorted pairs (x, y) (IsPermutation-sym pairs sorted moved)
+      (leads_pair sorted nodes places targets are second inside x y to);
+  all = λ x y has.
+      pair_leads sorted nodes places targets are second inside x y
+      (Contains-permutation pairs sorted (x, y) moved has);
+}
+  where
+    inside : (p : ℕ × ℕ) → Contains sorted p → (p.0 < nodes) × (p.1 < nodes)
+    inside p has = All-contains (λ (q : ℕ × ℕ). (q.0 < nodes) × (q.1 < nodes)) sorted p
+        (All-permutation (λ (q : ℕ × ℕ). (q.0 < nodes) × (q.1 < nodes)) pairs sorted moved all) has

@@ -1,0 +1,13 @@
+pub mod Chains
+pub mod Rows
+pub mod Nodes
+pub mod Pairs
+pub mod Links
+pub mod Names
+pub mod Starts
+pub mod Graphs
+pub mod Lines
+pub mod Paths
+pub mod Searches
+pub mod PathLaws
+pub mod Words
