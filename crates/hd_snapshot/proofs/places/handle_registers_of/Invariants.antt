@@ -1,0 +1,12 @@
+use Rattle.std.proofs.Common.{get_or, length, None, ◌<◌, ◌≡◌, ℕ, []}
+use Rattle.std.specs.Prelude.{slice_index_or}
+use Rattle.hd_seen.specs.declared.TheConstants.{PLACES}
+use Rattle.hd_snapshot.proofs.places.handle_registers_of.Given as goal
+
+-- those that were read
+abbrev pub invariant-loop-h : goal.invariant-loop-h
+invariant-loop-h l = record {
+  long : length l.row ≡ PLACES;
+  same : (k : ℕ) → k < l.h
+      → get_or l.row k None ≡ slice_index_or (slice_index_or l.store.state.handle_registers l.caller []) k None;
+}
