@@ -1,0 +1,11 @@
+use Rattle.std.proofs.Common.{take, ◌++◌, ◌≡◌}
+use Rattle.std.specs.Prelude.{flat_map}
+use Rattle.std.specs.List.{enumerate_from}
+use Rattle.hd_graph.specs.Graph.{marked_text}
+use Rattle.hd_graph.proofs.objects.push_objects.Given as goal
+
+abbrev pub invariant-loop-i : goal.invariant-loop-i
+invariant-loop-i l =
+    l.text.items
+    ≡ l.fn.text.items
+    ++ flat_map (marked_text l.clusters l.pinned l.kept) (enumerate_from 0 (take l.i l.objects))

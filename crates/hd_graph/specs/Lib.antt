@@ -1,0 +1,4 @@
+pub mod Graph
+pub mod Kept
+pub mod Links
+pub mod Marks

@@ -1,0 +1,4 @@
+pub mod FirstLines
+pub mod Exchanges
+pub mod LineSteps
+pub mod Talks

@@ -1,0 +1,90 @@
+// The words that a dialogue has beside the commands of a script.
+ghost use Rattle.std.specs.Prelude.{◌≡◌, bytes_eq, is_some};
+ghost use Rattle.hd_script.specs.Words.{words_at};
+ghost use Rattle.hd_step.specs.Dialogue.{is_own};
+
+use hd_model::Memory;
+use hd_script::next_word;
+use std::alloc::Global;
+
+/// A word that a dialogue has beside the commands of a script.
+#[derive(Clone, Copy, Debug, PartialEq, Eq)]
+pub enum Own {
+    /// The state, as tables.
+    Show,
+    /// Why the object with the identity of the next word lives.
+    Path,
+    /// What is in the slot with the number of the next word.
+    Slot,
+}
+
+/// What is written for such a word.
+#[derive(Drop)]
+pub enum Answer {
+    /// To the output.
+    Text(Vec<u8>),
+    /// Its operand is at fault: why goes to the errors.
+    Fault(Vec<u8>),
+}
+
+/// Who answers a dialogue's own words, and explains lines that are left out. It only looks at the
+/// machine.
+pub trait Words<M> {
+    /// The answer to a word, with the operand that follows it, if it has one.
+    fn answer(
+        &self,
+        alloc: Global,
+        machine: &M,
+        number: u32,
+        own: Own,
+        line: &[u8],
+    ) -> Result<Answer, Memory>;
+
+    /// Why the line with this number is left out, as a line of text.
+    fn fault(
+        &self,
+        alloc: Global,
+        machine: &M,
+        number: u32,
+        line: &[u8],
+    ) -> Result<Vec<u8>, Memory>;
+}
+
+/// What a line asks for by such a word.
+pub(crate) fn asked_by(line: &[u8]) -> Option<Own>
+    ensures { is_some result ≡ is_own (words_at line.now) }
+{
+    let (first, rest) = next_word(line)?;
+    let Some((_second, rest)) = next_word(rest) else {
+        return if spells(first, "show") {
+            Some(Own::Show)
+        } else {
+            None
+        };
+    };
+    if next_word(rest).is_some() {
+        None
+    } else if spells(first, "path") {
+        Some(Own::Path)
+    } else if spells(first, "slot") {
+        Some(Own::Slot)
+    } else {
+        None
+    }
+}
+
+// Whether a word is this text.
+fn spells(word: &[u8], text: &str) -> bool
+    ensures { result ≡ bytes_eq word.now text.now }
+{
+    let letters = text.as_bytes();
+    if word.len() != letters.len() {
+        return false;
+    }
+    'letters: for i in 0..letters.len() {
+        if word[i] != letters[i] {
+            return false;
+        }
+    }
+    true
+}
