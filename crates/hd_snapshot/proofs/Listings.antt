@@ -31,16 +31,19 @@ either_way a b = same_from_decides (a == b) (b == a) (Decides-eqb a b)
 once_moved : (xs ys : List ℕ) → IsPermutation xs ys → AllPairs (λ x y. x ≢ y) xs → AllPairs (λ x y. x ≢ y) ys
 once_moved xs ys moves once =
     AllPairs-from_IsDistinct Decides-eqb ys
-    (IsDistinct-IsPermutation (λ a b. a == b) either_way xs ys moves (IsDistinct-from_AllPairs Decides-eqb xs once))
+    (IsDistinct-IsPermutation (λ a b. a == b) either_way xs ys moves
+    (IsDistinct-from_AllPairs Decides-eqb xs once))
 
 -- the same objects, sorted by their identities
 pub listed_by : (h : Heap) (xs ys : List Located) → AreLocated h xs → IsPermutation xs ys
     → IsNonDecreasingBy number_of ys → IsListing h ys
 listed_by h xs ys are moves up =
-    let once = once_moved (map number_of xs) (map number_of ys) (IsPermutation-map number_of xs ys moves) are.once in
+    let once = once_moved (map number_of xs) (map number_of ys)
+    (IsPermutation-map number_of xs ys moves) are.once in
     record {
       located = record {
-        objects = λ o among. are.objects o (Contains-permutation ys xs o (IsPermutation-sym xs ys moves) among);
+        objects = λ o among. are.objects o
+            (Contains-permutation ys xs o (IsPermutation-sym xs ys moves) among);
         all = λ a is. Contains-permutation xs ys (record { id = id_at h a; at = a }) moves (are.all a is);
         once = once;
       };
@@ -78,7 +81,8 @@ sorted_entries : (h : Heap) (os : List Located) → AllPairs (λ x y. x < y) (ma
 sorted_entries h [] rising = tt
 sorted_entries h (o ∷ os) rising =
     both (below_all nat_cmp (number_of o) (map (entry_at h) os)) (is_sorted nat_cmp (map (entry_at h) os))
-    (below_each h (number_of o) os (λ p among. pairs_first (λ x y. x < y) (number_of o) (map number_of os) rising
+    (below_each h (number_of o) os
+    (λ p among. pairs_first (λ x y. x < y) (number_of o) (map number_of os) rising
     (number_of p) (mapped_in number_of os p among)))
     (sorted_entries h os (pairs_rest (λ x y. x < y) (number_of o) (map number_of os) rising))
 
@@ -134,7 +138,8 @@ module _ (h : Heap) (identities : HasIdentities h) (os : List Located) (listing 
       by : (t : Bool) → (e.1.id.0 == x) ≡ t
           → (Contains xs (a, p)
           → option_map_or (λ (f : ℕ × Placed). f.0) (find_in (λ (f : ℕ × Placed). f.1.id.0 == x) xs) 0 ≡ a)
-          → option_map_or (λ (f : ℕ × Placed). f.0) (find_in (λ (f : ℕ × Placed). f.1.id.0 == x) (e ∷ xs)) 0 ≡ a
+          → option_map_or (λ (f : ℕ × Placed). f.0)
+          (find_in (λ (f : ℕ × Placed). f.1.id.0 == x) (e ∷ xs)) 0 ≡ a
       by true is rest = rw is (only e.0 e.1 (first_in e xs) (eqb-true e.1.id.0 x is))
       by false is rest =
           rw is (rest (⊎_elim (λ same. absurd (false≢true (sym is ∙ eq-eqb e.1.id.0 x
@@ -166,5 +171,6 @@ module _ (h : Heap) (identities : HasIdentities h) (os : List Located) (listing 
       ∷ all_shown xs (λ p among. within p (later_in o xs p among)) i
 
   -- the list is that of the objects by identity
-  pub listing-shown : map (λ (o : Located). shown_at h o.at) os ≡ map (object_seen h) (entries (objects_by_id h))
+  pub listing-shown : map (λ (o : Located). shown_at h o.at) os ≡ map (object_seen h)
+      (entries (objects_by_id h))
   listing-shown = sym (all_shown os (λ o among. among)) ∙ ap (map (object_seen h)) (sym entries_are)

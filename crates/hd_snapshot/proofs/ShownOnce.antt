@@ -40,7 +40,8 @@ module _ {X : Type 0} (k : ℕ) where
       ∙ elim (cases_eq k e.0) [
         | inl same ↦
             let none : count_by is_key es ≡ 0 =
-            none-counted es (λ g among. let above = below e.0 es parts.0 g among in omega (arith, above, same)) in
+            none-counted es (λ g among. let above = below e.0 es parts.0 g among in omega
+            (arith, above, same)) in
             ap (λ b. cond b 1 0 + count_by is_key es) (eq-eqb e.0 k (sym same)) ∙ ap (λ n. 1 + n) none
             ∙ ap (λ o. cond (is_some o) 1 0) (sym (found_first k e.0 e.1 (find nat_cmp k es) same))
         | inr apart ↦

@@ -96,7 +96,8 @@ module _ {h : Heap} {after : Option Addr} {listed : List Located} (walking : IsW
           (λ i j d l h. absurd (omega (arith, l, h))) apart);
     }
       where
-        by : (a : Addr) → has_object h a ≡ true → a.0 < past (Some at) → (a.0 < past after) ⊎ (past after ≤ a.0)
+        by : (a : Addr) → has_object h a ≡ true → a.0 < past (Some at) → (a.0 < past after) ⊎
+            (past after ≤ a.0)
             → Contains (listed ++ found ∷ []) (record { id = id_at h a; at = a })
         by a is low (inl old) = Contains-append_left listed (found ∷ []) _ (walking.all a is old)
         by a is low (inr new) =

@@ -82,8 +82,8 @@ fn all_seen(alloc: Global, heap: &Heap, located: &[Located]) -> Result<Vec<SeenO
     requires objects { (o : LocatedValue) → Contains located.now o →
         has_object heap.now o.at ≡ true }
     requires whole { IsWholeHeap heap.now }
-    ensures { IfOk result (λ seen.
-        map object_shown seen.items ≡ map (λ (o : LocatedValue). shown_at heap.now o.at) located.now) }
+    ensures { let h = heap.now in IfOk result (λ seen.
+        map object_shown seen.items ≡ map (λ (o : LocatedValue). shown_at h o.at) located.now) }
 {
     let mut seen = Vec::new(alloc);
     for object in located {

@@ -45,8 +45,8 @@ pub(crate) fn entries(alloc: Global, store: &Store) -> Result<Vec<SeenEntry>, Al
 
 // The handle in a slot, if the slot is live.
 fn handle_in(store: &Store, slot: Slot) -> Option<SeenHandle>
-    ensures { let ages = store.now.ages in
-        result ≡ option_map (λ h. handle_seen ages (slot.0, h)) (get store.now.state.handles slot.0) }
+    ensures { let ages = store.now.ages in let handles = store.now.state.handles in
+        result ≡ option_map (λ h. handle_seen ages (slot.0, h)) (get handles slot.0) }
 {
     // For the proof: a live handle is in a block of the table.
     let _objects = store.objects();
@@ -56,8 +56,8 @@ fn handle_in(store: &Store, slot: Slot) -> Option<SeenHandle>
 
 // What the weak table has in a slot, if it holds the slot.
 fn entry_in(store: &Store, slot: Slot) -> Option<SeenEntry>
-    ensures { let ages = store.now.ages in
-        result ≡ option_map (λ e. entry_seen ages (slot.0, e)) (get store.now.state.weak slot.0) }
+    ensures { let ages = store.now.ages in let weak = store.now.state.weak in
+        result ≡ option_map (λ e. entry_seen ages (slot.0, e)) (get weak slot.0) }
 {
     // For the proof: a slot that is held is in a block of the table.
     let _objects = store.objects();

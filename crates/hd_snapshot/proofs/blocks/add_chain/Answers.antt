@@ -11,7 +11,8 @@ loop-place-preserved c =
     let chain = chain_of c.args.table.now c.args.kind in
     c.in_ok-push.ensures.items
     ∙ ap (λ l. l ++ block c.in-Some.number ∷ []) c.loop-place.invariant
-    ∙ append_assoc c.args.seen.now.items (map block (take c.loop-place.place chain)) (block c.in-Some.number ∷ [])
+    ∙ append_assoc c.args.seen.now.items (map block (take c.loop-place.place chain))
+    (block c.in-Some.number ∷ [])
     ∙ ap (λ l. c.args.seen.now.items ++ l)
     (sym (chain-more block chain c.loop-place.place c.in-Some.number (sym c.in-Some.ensures.value)))
 

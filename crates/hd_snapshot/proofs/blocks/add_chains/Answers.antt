@@ -14,4 +14,5 @@ loop-kind-preserved c =
     ∙ ap (λ l. l ++ seen (slice_index_or all_kinds i kind.Short)) c.loop-kind.invariant
     ∙ append_assoc c.args.seen.now.items (flat_map seen (take i all_kinds))
     (seen (slice_index_or all_kinds i kind.Short))
-    ∙ ap (λ l. c.args.seen.now.items ++ l) (sym (lists-more seen all_kinds i kind.Short c.loop-kind-test.true))
+    ∙ ap (λ l. c.args.seen.now.items ++ l)
+    (sym (lists-more seen all_kinds i kind.Short c.loop-kind-test.true))

@@ -7,4 +7,5 @@ use Rattle.hd_snapshot.proofs.objects.all_seen.Given as goal
 -- those so far
 abbrev pub invariant-loop-object : goal.invariant-loop-object
 invariant-loop-object l =
-    map object_shown l.seen.items ≡ map (λ (o : Located). shown_at l.heap o.at) (take l.object-index l.located)
+    map object_shown l.seen.items ≡ map (λ (o : Located). shown_at l.heap o.at)
+    (take l.object-index l.located)

@@ -8,14 +8,18 @@ use Rattle.hd_snapshot.proofs.places.handle_registers_of.Goals as goal
 pub loop-h-preserved : goal.loop-h-preserved
 loop-h-preserved c = record {
   long = length-set c.loop-h.row c.loop-h.h c.handle_register.result ∙ c.loop-h.invariant.long;
-  same = place-more c.loop-h.row (slice_index_or c.args.store.now.state.handle_registers c.args.caller []) c.loop-h.h
-      c.handle_register.result (omega (arith, c.loop-h.invariant.long, c.loop-h-test.true)) c.loop-h.invariant.same
+  same = place-more c.loop-h.row
+      (slice_index_or c.args.store.now.state.handle_registers c.args.caller []) c.loop-h.h
+      c.handle_register.result
+      (omega (arith, c.loop-h.invariant.long, c.loop-h-test.true)) c.loop-h.invariant.same
       c.handle_register.ensures;
 }
 
 pub returns : goal.returns
 returns c =
-    place-all c.loop-h.row (slice_index_or c.args.store.now.state.handle_registers c.args.caller []) PLACES c.loop-h.h
+    place-all c.loop-h.row
+    (slice_index_or c.args.store.now.state.handle_registers c.args.caller []) PLACES c.loop-h.h
     c.loop-h.invariant.long
-    (c.objects-objects.ensures.sound.well_formed.shape.each_handle_registers c.args.caller c.requires) (omega arith)
+    (c.objects-objects.ensures.sound.well_formed.shape.each_handle_registers c.args.caller c.requires)
+    (omega arith)
     c.loop-h.invariant.same

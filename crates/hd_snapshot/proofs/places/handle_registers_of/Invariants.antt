@@ -8,5 +8,6 @@ abbrev pub invariant-loop-h : goal.invariant-loop-h
 invariant-loop-h l = record {
   long : length l.row ≡ PLACES;
   same : (k : ℕ) → k < l.h
-      → get_or l.row k None ≡ slice_index_or (slice_index_or l.store.state.handle_registers l.caller []) k None;
+      → get_or l.row k None ≡ slice_index_or
+      (slice_index_or l.store.state.handle_registers l.caller []) k None;
 }

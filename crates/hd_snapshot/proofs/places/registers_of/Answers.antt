@@ -15,7 +15,8 @@ loop-d-preserved c = record {
 
 pub returns : goal.returns
 returns c =
-    place-all c.loop-d.row (slice_index_or c.args.store.now.state.registers c.args.caller []) PLACES c.loop-d.d
+    place-all c.loop-d.row
+    (slice_index_or c.args.store.now.state.registers c.args.caller []) PLACES c.loop-d.d
     c.loop-d.invariant.long
     (c.objects-objects.ensures.sound.well_formed.shape.each_registers c.args.caller c.requires) (omega arith)
     c.loop-d.invariant.same

@@ -8,7 +8,8 @@ pub loop-k-preserved : goal.loop-k-preserved
 loop-k-preserved c = record {
   long = length-set c.loop-k.row c.loop-k.k c.static_at.result ∙ c.loop-k.invariant.long;
   same = place-more c.loop-k.row c.args.store.now.state.statics c.loop-k.k c.static_at.result
-      (omega (arith, c.loop-k.invariant.long, c.loop-k-test.true)) c.loop-k.invariant.same c.static_at.ensures;
+      (omega (arith, c.loop-k.invariant.long, c.loop-k-test.true)) c.loop-k.invariant.same
+      c.static_at.ensures;
 }
 
 pub returns : goal.returns

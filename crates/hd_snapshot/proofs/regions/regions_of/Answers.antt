@@ -25,4 +25,5 @@ returns c =
     (ap (λ n. entries_of 0 n (get c.args.heap.now.regions)) end
     ∙ all_read c.args.heap.now.regions c.extent-number-end.result.end (λ q x is.
     let first = c.requires q (ap is_some is) in
-    subst (λ r. r < c.extent-number-end.result.end) first.region (c.extent-number-end.ensures.extent.above first.at first.object)))
+    subst (λ r. r < c.extent-number-end.result.end) first.region
+    (c.extent-number-end.ensures.extent.above first.at first.object)))

@@ -4,7 +4,8 @@ use Rattle.hd_snapshot.proofs.StoreSlots.{clump_is}
 use Rattle.hd_snapshot.proofs.rows.age.Goals as goal
 
 pub age-requires-clause-high : goal.age-requires-clause-high
-age-requires-clause-high c = omega (arith, c.requires.high, c.ages.ensures.clumps, ap length c.ages.ensures.value)
+age-requires-clause-high c = omega
+    (arith, c.requires.high, c.ages.ensures.clumps, ap length c.ages.ensures.value)
 
 pub returns : goal.returns
 returns c =

@@ -10,13 +10,15 @@ use Rattle.hd_snapshot.proofs.rows.entries.Goals as goal
 
 pub loop-number-init : goal.loop-number-init
 loop-number-init c =
-    c.new-seen.ensures.items ∙ none_read (get c.args.store.now.state.weak) (entry_seen c.args.store.now.ages) 0
+    c.new-seen.ensures.items ∙ none_read (get c.args.store.now.state.weak)
+    (entry_seen c.args.store.now.ages) 0
 
 pub loop-number-preserved : goal.loop-number-preserved
 loop-number-preserved c =
     c.in_ok-add.ensures
     ∙ (λ i. c.loop-number.invariant i ++ option_to_list (c.entry_in-entry.ensures i))
-    ∙ sym (read-more (get c.args.store.now.state.weak) (entry_seen c.args.store.now.ages) 0 c.loop-number.number
+    ∙ sym (read-more (get c.args.store.now.state.weak)
+    (entry_seen c.args.store.now.ages) 0 c.loop-number.number
     c.loop-number.number (omega arith))
 
 pub returns : goal.returns
@@ -26,4 +28,5 @@ returns c =
     ∙ ap (map (entry_seen c.args.store.now.ages))
     (ap (λ n. entries_of 0 n (get c.args.store.now.state.weak)) end
     ∙ all_read c.args.store.now.state.weak (ROWS * (c.args.store.now.numbers.blocks + 1)) (λ q x is.
-    slot_below q c.args.store.now.numbers.blocks (weak_block c.objects-objects.ensures.sound q (ap is_some is)).1))
+    slot_below q c.args.store.now.numbers.blocks
+    (weak_block c.objects-objects.ensures.sound q (ap is_some is)).1))

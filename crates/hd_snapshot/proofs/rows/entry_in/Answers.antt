@@ -11,7 +11,8 @@ use Rattle.hd_snapshot.proofs.rows.entry_in.Goals as goal
 pub returns-in_err-entry : goal.returns-in_err-entry
 returns-in_err-entry c =
     c.from_residual.ensures
-    ∙ sym (ap (option_map (λ (e : Option (WeakEntry Id)). entry_seen c.args.store.now.ages (c.args.slot.0, e)))
+    ∙ sym (ap (option_map
+    (λ (e : Option (WeakEntry Id)). entry_seen c.args.store.now.ages (c.args.slot.0, e)))
     c.in_err-entry.ensures)
 
 pub age-requires-clause-low : goal.age-requires-clause-low
@@ -40,5 +41,6 @@ returns c =
       value = value_told c.in_ok-entry.entry i;
       age = c.age.ensures i;
     }))
-    ∙ sym (ap (option_map (λ (e : Option (WeakEntry Id)). entry_seen c.args.store.now.ages (c.args.slot.0, e)))
+    ∙ sym (ap (option_map
+    (λ (e : Option (WeakEntry Id)). entry_seen c.args.store.now.ages (c.args.slot.0, e)))
     c.in_ok-entry.ensures)

@@ -10,13 +10,15 @@ use Rattle.hd_snapshot.proofs.rows.handles.Goals as goal
 
 pub loop-number-init : goal.loop-number-init
 loop-number-init c =
-    c.new-seen.ensures.items ∙ none_read (get c.args.store.now.state.handles) (handle_seen c.args.store.now.ages) 0
+    c.new-seen.ensures.items ∙ none_read (get c.args.store.now.state.handles)
+    (handle_seen c.args.store.now.ages) 0
 
 pub loop-number-preserved : goal.loop-number-preserved
 loop-number-preserved c =
     c.in_ok-add.ensures
     ∙ (λ i. c.loop-number.invariant i ++ option_to_list (c.handle_in-handle.ensures i))
-    ∙ sym (read-more (get c.args.store.now.state.handles) (handle_seen c.args.store.now.ages) 0 c.loop-number.number
+    ∙ sym (read-more (get c.args.store.now.state.handles)
+    (handle_seen c.args.store.now.ages) 0 c.loop-number.number
     c.loop-number.number (omega arith))
 
 pub returns : goal.returns
