@@ -114,7 +114,8 @@ module _ (from to : ℕ) (l m : Links) (by : Joins from to l m) where
             (λ differs.
             let e : slice_index m.last.items (slice_index m.sources.items k)
             ≡ slice_index l.last.items (slice_index l.sources.items k) =
-            ap (slice_index m.last.items) (old_source k less) ∙ other (slice_index l.sources.items k) differs in
+            ap (slice_index m.last.items) (old_source k less) ∙ other (slice_index l.sources.items k) differs
+            in
             let c = is.covers k less in omega (arith, e, c)) (cases_eq (slice_index l.sources.items k) from))
             (λ same.
             let e : slice_index m.last.items (slice_index m.sources.items k) ≡ n + 1 =
@@ -141,7 +142,8 @@ module _ (from to : ℕ) (l m : Links) (by : Joins from to l m) where
             let c = is.covers_before j k less_j less s in omega (arith, c, old_before k less))
             (λ at.
             let low_j : j < n = omega (arith, less_j, at) in
-            let s : slice_index l.sources.items j ≡ from = sym (old_source j low_j) ∙ same ∙ new_source k at in
+            let s : slice_index l.sources.items j ≡ from = sym (old_source j low_j) ∙ same ∙ new_source k at
+            in
             let c = is.covers j low_j in
             omega (arith, c, ap (slice_index l.last.items) s, new_before k at)) (two k low);
         points_before = λ j k low e.

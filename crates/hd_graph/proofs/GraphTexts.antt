@@ -16,7 +16,8 @@ module _ (clusters : Clusters) (p : Picture) (pinned kept : List Bool) where
   numbers xs = map (λ (o : SeenObject). o.id.0) xs
 
   pub objects_are : (n : ℕ) (xs : List SeenObject)
-      → ((i : ℕ) → i < length xs → slice_index_or pinned (n + i) false ≡ is_pinned p (slice_index (numbers xs) i))
+      → ((i : ℕ) → i < length xs → slice_index_or pinned (n + i) false ≡ is_pinned p (slice_index (numbers xs)
+      i))
       → flat_map (marked_text clusters pinned kept) (enumerate_from n xs)
       ≡ flat_map shown (enumerate_from n (map object_shown xs))
   objects_are n [] marks = refl

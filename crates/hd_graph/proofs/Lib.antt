@@ -6,3 +6,4 @@ pub mod LinkSteps
 pub mod GraphTexts
 pub mod Pieces
 pub mod KeptMarks
+pub mod PictureNumbers

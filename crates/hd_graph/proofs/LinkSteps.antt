@@ -61,7 +61,8 @@ module _ (ids : List ℕ) where
   links_on more others l m n first then_ = record {
     chained = then_.chained;
     linked = λ test is.
-        linked_like (λ x y. (test x y || more x y) || others x y) (λ x y. test x y || (more x y || others x y)) n
+        linked_like (λ x y. (test x y || more x y) || others x y) (λ x y. test x y || (more x y || others x
+        y)) n
         (λ x y. or_assoc (test x y) (more x y) (others x y))
         (then_.linked (λ x y. test x y || more x y) (first.linked test is));
   }
@@ -74,11 +75,14 @@ module _ (ids : List ℕ) where
         → LinksBy ids (λ x y. list_any (p x y) (take i xs)) l m → LinksBy ids (λ x y. p x y a) m n
         → LinksBy ids (λ x y. list_any (p x y) (take (i + 1) xs)) l n
     pairs_next m n i d a low item first then_ =
-        links_like (λ x y. list_any (p x y) (take i xs) || p x y a) (λ x y. list_any (p x y) (take (i + 1) xs)) l n
-        (λ x y. ap (λ z. list_any (p x y) (take i xs) || p x y z) item ∙ sym (list_any_more (p x y) xs i d low))
+        links_like (λ x y. list_any (p x y) (take i xs) || p x y a) (λ x y. list_any (p x y) (take (i + 1)
+        xs)) l n
+        (λ x y. ap (λ z. list_any (p x y) (take i xs) || p x y z) item ∙ sym (list_any_more (p x y) xs i d
+        low))
         (links_on (λ x y. list_any (p x y) (take i xs)) (λ x y. p x y a) l m n first then_)
 
-    pub pairs_all : (m : Links) (i : ℕ) → length xs ≤ i → LinksBy ids (λ x y. list_any (p x y) (take i xs)) l m
+    pub pairs_all : (m : Links) (i : ℕ) → length xs ≤ i → LinksBy ids (λ x y. list_any (p x y) (take i xs)) l
+        m
         → LinksBy ids (λ x y. list_any (p x y) xs) l m
     pairs_all m i end by =
         links_like (λ x y. list_any (p x y) (take i xs)) (λ x y. list_any (p x y) xs) l m
@@ -89,7 +93,8 @@ module _ (ids : List ℕ) where
     pair x y = is_pair x y from to
 
     -- where an end is not there, no edge is added
-    same_links : ((i j : ℕ) → i < length ids → j < length ids → pair (slice_index ids i) (slice_index ids j) ≡ true
+    same_links : ((i j : ℕ) → i < length ids → j < length ids → pair (slice_index ids i) (slice_index ids j) ≡
+        true
         → ⊥) → LinksBy ids pair l l
     same_links never = record {
       chained = chained;
@@ -148,7 +153,8 @@ module _ (ids : List ℕ) where
 pub linked_all : (ids : List ℕ) (s : Snapshot) (l0 l1 l2 l3 : Links) → l0.sources.items ≡ []
     → LinksBy ids (λ x y. list_any (is_fields_pair x y) s.objects.items) l0 l1
     → LinksBy ids (λ x y. list_any (is_attached_by x y) s.handles.items) l1 l2
-    → LinksBy ids (λ x y. list_any (is_attached_in x y) s.entries.items) l2 l3 → AreLinked ids (is_linked s) l3
+    → LinksBy ids (λ x y. list_any (is_attached_in x y) s.entries.items) l2 l3 → AreLinked ids (is_linked s)
+    l3
 linked_all ids s l0 l1 l2 l3 none fields handles others =
     (links_on ids
     (λ x y. list_any (is_fields_pair x y) s.objects.items || list_any (is_attached_by x y) s.handles.items)

@@ -25,14 +25,16 @@ or_assoc false b c = refl
 
 -- ---- the index of an identity
 
-pub rises_le : (ids : List ℕ) → Rises ids → (i j : ℕ) → i ≤ j → j < length ids → get_or ids i 0 ≤ get_or ids j 0
+pub rises_le : (ids : List ℕ) → Rises ids → (i j : ℕ) → i ≤ j → j < length ids → get_or ids i 0 ≤ get_or ids j
+    0
 rises_le ids rise i j le low =
     ⊎_elim (λ less. let r = rise i j 0 less low in omega (arith, r))
     (λ ge.
     let same : i ≡ j = omega (arith, ge, le) in
     subst (λ k. get_or ids i 0 ≤ get_or ids k 0) same (omega arith)) (cases_lt i j)
 
-apart : (ids : List ℕ) → Rises ids → (i k : ℕ) → i < length ids → k < length ids → get_or ids i 0 ≡ get_or ids k 0
+apart : (ids : List ℕ) → Rises ids → (i k : ℕ) → i < length ids → k < length ids → get_or ids i 0 ≡ get_or ids
+    k 0
     → i ≡ k
 apart ids rise i k low_i low_k e =
     ⊎_elim (λ same. same)
@@ -165,7 +167,11 @@ added_next high tests marks before after is low was test e = record {
       ⊎_elim
       (λ same.
       ap (λ j. slice_index_or after j false) same ∙ ap (λ (m : List Bool). slice_index_or m high false) e
-      ∙ get_or-set_same before high (slice_index_or before high false || is) false (omega (arith, low, was.count))
+      ∙ get_or-set_same before high (slice_index_or before high false || is) false (omega (
+        arith,
+        low,
+        was.count,
+      ))
       ∙ ap (λ b. b || is) (was.rest high (omega arith)) ∙ ap (λ b. slice_index_or marks high false || b) test
       ∙ ap (λ j. slice_index_or marks j false || slice_index_or tests j false) (sym same))
       (λ differs.

@@ -46,17 +46,23 @@ module _ (high : ℕ) (marks : List Bool) (found : List ℕ) (is : AreListedTo h
         ⊎_elim
         (λ less. ap (is_marked marks) (get_or_append_left found (high ∷ []) 0 k less) ∙ is.marked k less)
         (λ ge.
-        ap (is_marked marks) (get_or_push found high 0 k (omega (arith, ge, low, length_push found high))) ∙ so)
+        ap (is_marked marks) (get_or_push found high 0 k (omega (arith, ge, low, length_push found high))) ∙
+        so)
         (cases_lt k (length found));
     listed = λ x low marked.
         ⊎_elim
         (λ less.
-        let l = is.listed x less marked in
-        (l.0, omega (arith, l.1, length_push found high), get_or_append_left found (high ∷ []) 0 l.0 l.1 ∙ l.2))
+        let l = is.listed x less marked in (
+          l.0,
+          omega (arith, l.1, length_push found high),
+          get_or_append_left found (high ∷ []) 0 l.0 l.1 ∙
+              l.2,
+        ))
         (λ ge. (
           length found,
           omega (arith, length_push found high),
-          get_or_push found high 0 (length found) refl ∙ (let same : high ≡ x = omega (arith, ge, low) in same),
+          get_or_push found high 0 (length found) refl ∙ (let same : high ≡ x = omega (arith, ge, low) in
+              same),
         )) (cases_lt x high);
   }
 
@@ -73,9 +79,11 @@ pub listed_next : (high : ℕ) (marks : List Bool) (found now : List ℕ) (b : B
     → AreListedTo high marks found → b ≡ is_marked marks high → now ≡ cond b (found ++ high ∷ []) found
     → AreListedTo (high + 1) marks now
 listed_next high marks found now true is same e =
-    subst (λ (f : List ℕ). AreListedTo (high + 1) marks f) (sym e) (listed_more high marks found is (sym same))
+    subst (λ (f : List ℕ). AreListedTo (high + 1) marks f) (sym e) (listed_more high marks found is (sym
+    same))
 listed_next high marks found now false is same e =
-    subst (λ (f : List ℕ). AreListedTo (high + 1) marks f) (sym e) (listed_skip high marks found is (sym same))
+    subst (λ (f : List ℕ). AreListedTo (high + 1) marks f) (sym e) (listed_skip high marks found is (sym
+    same))
 
 module _ (l : Links) (start : ℕ → Bool) (nodes : ℕ) where
   -- while the edges of the next listed node are walked backwards
@@ -205,7 +213,8 @@ module _ (l : Links) (start : ℕ → Bool) (nodes : ℕ) where
             count = length-set marks x true ∙ is.search.count;
             listed = record {
               inside = λ k below.
-                  ⊎_elim (λ less. subst (λ z. z < nodes) (sym (early k less)) (is.search.listed.inside k less))
+                  ⊎_elim (λ less. subst (λ z. z < nodes) (sym (early k less)) (is.search.listed.inside k
+                  less))
                   (λ same. subst (λ z. z < nodes) (sym (last k same)) inside) (two k below);
               marked = λ k below.
                   ⊎_elim

@@ -1,4 +1,5 @@
--- What `graph` writes of a state, in DOT: a node for each object, handle, entry and root, and an edge for each
+-- What `graph` writes of a state, in DOT: a node for each object, handle, entry and root, and an edge for
+-- each
 -- reference.
 use Rattle.std.specs.Prelude.{ℕ, ◌/◌, Bool, false, cond, not, List, [], ◌++◌, flat_map, codes, decimal, slice_index_or, Option, Some, None, is_some}
 use Rattle.std.specs.List.{enumerate_from}
@@ -51,7 +52,8 @@ look_text why.Root = []
 -- an edge, and one to what may be null
 abbrev pub edge_text : Node → Reason → Id → List ℕ
 edge_text from reason to =
-    codes "  " ++ node_name from ++ codes " -> " ++ node_name (node.Object to) ++ look_text reason ++ codes ";\n"
+    codes "  " ++ node_name from ++ codes " -> " ++ node_name (node.Object to) ++ look_text reason ++ codes
+    ";\n"
 
 abbrev pub edge_to : Node → Reason → Option Id → List ℕ
 edge_to from reason None = []
@@ -180,4 +182,5 @@ roots_text p =
 
 abbrev pub graph_text : Clusters → Picture → List Bool → List ℕ
 graph_text clusters p kept =
-    graph_head ++ labels_text clusters p.regions ++ objects_text clusters p kept ++ flat_map handle_text p.handles ++ flat_map entry_text p.entries ++ roots_text p ++ codes "}\n"
+    graph_head ++ labels_text clusters p.regions ++ objects_text clusters p kept ++ flat_map handle_text
+    p.handles ++ flat_map entry_text p.entries ++ roots_text p ++ codes "}\n"

@@ -73,7 +73,8 @@ IsEdge s i j =
 -- a chain of edges leads to an object from a root
 abbrev pub IsReached : Snapshot → ℕ → Type 0
 IsReached s i =
-    (r : ℕ) × (((r < length (ids_of s)) × (is_root s (slice_index (ids_of s) r) ≡ true)) × Leads (IsEdge s) r i)
+    (r : ℕ) × (((r < length (ids_of s)) × (is_root s (slice_index (ids_of s) r) ≡ true)) × Leads (IsEdge s) r
+    i)
 
 -- an object is registered for finalization
 abbrev pub registered_of : List SeenObject → List Bool

@@ -1,4 +1,5 @@
 pub mod Graph
 pub mod Kept
+pub mod Laws
 pub mod Links
 pub mod Marks

@@ -17,11 +17,13 @@ pub record AreChained (nodes : ℕ) (l : Links) : Type 0 where
   pub before : length l.before.items ≡ length l.sources.items
   pub inside : (k : ℕ) → k < length l.sources.items → slice_index l.targets.items k < nodes
   pub first : (x : ℕ) → slice_index l.last.items x ≤ length l.sources.items
-  pub covers : (k : ℕ) → k < length l.sources.items → k < slice_index l.last.items (slice_index l.sources.items k)
+  pub covers : (k : ℕ) → k < length l.sources.items → k < slice_index l.last.items (slice_index
+      l.sources.items k)
   pub points : (x k : ℕ) → slice_index l.last.items x ≡ k + 1 → slice_index l.sources.items k ≡ x
   pub earlier : (k : ℕ) → k < length l.sources.items → slice_index l.before.items k ≤ k
   pub covers_before :
-      (j k : ℕ) → j < k → k < length l.sources.items → slice_index l.sources.items j ≡ slice_index l.sources.items k
+      (j k : ℕ) → j < k → k < length l.sources.items → slice_index l.sources.items j ≡ slice_index
+      l.sources.items k
       → j < slice_index l.before.items k
   pub points_before :
       (j k : ℕ) → k < length l.sources.items → slice_index l.before.items k ≡ j + 1
@@ -53,7 +55,8 @@ Visits x marks found after more =
 
 -- what is marked is what chains lead to from the start, and what edges lead to from the first of the listed
 -- nodes is marked
-pub record IsSearching (l : Links) (start : ℕ → Bool) (nodes : ℕ) (marks : List Bool) (found : List ℕ) (done : ℕ)
+pub record IsSearching (l : Links) (start : ℕ → Bool) (nodes : ℕ) (marks : List Bool) (found : List ℕ) (done :
+    ℕ)
     : Type 0 where
   pub count : length marks ≡ nodes
   pub listed : AreListed nodes marks found

@@ -1,12 +1,14 @@
 // Names of nodes, and edges, in the language of Graphviz.
 ghost use Rattle.std.specs.Prelude.{◌≡◌, ◌++◌, codes, decimal, IfOk};
-ghost use Rattle.hd_graph.specs.Graph.{attached_edge, edge_text, edge_to, look_text, node_name, root_text};
+ghost use Rattle.hd_graph.specs.Graph.{attached_edge, edge_text, edge_to, look_text, node_name};
+ghost use Rattle.hd_graph.specs.Graph.{root_text};
 ghost use Rattle.hd_graph.specs.Graph.{slot_label, slot_text, style_word};
 
 use crate::text::{push, push_identity, push_number, push_small};
 use hd_model::{Id, Memory, Slot};
 
-/// A node: an object, a slot, or a static, a place in the queue from 1 on, or a register of a caller,
+/// A node: an object, a slot, or a static, a place in the queue from 1 on, or a register of a
+/// caller,
 /// each by its number.
 #[derive(Clone, Copy)]
 pub(crate) enum Node {
@@ -25,7 +27,8 @@ pub(crate) enum Style {
     Dotted,
 }
 
-/// What makes an edge: a field by its number, a handle whose target is referenced, a dependent handle
+/// What makes an edge: a field by its number, a handle whose target is referenced, a dependent
+/// handle
 /// or an entry that attaches something, or a root.
 #[derive(Clone, Copy)]
 pub(crate) enum Reason {
@@ -38,7 +41,8 @@ pub(crate) enum Reason {
 
 // Appends words, a number, and words.
 fn push_around(text: &mut Vec<u8>, before: &str, number: u64, after: &str) -> Result<(), Memory>
-    ensures { IfOk result (λ _. text.new.items ≡ text.old.items ++ before.now ++ decimal number ++ after.now) }
+    ensures { IfOk result (λ _. text.new.items ≡ text.old.items ++ before.now ++ decimal number ++
+        after.now) }
 {
     push(text, before)?;
     push_number(text, number)?;
@@ -56,7 +60,8 @@ fn push_object_name(text: &mut Vec<u8>, id: Id) -> Result<(), Memory>
 
 // Appends the name of a register's node.
 fn push_register_name(text: &mut Vec<u8>, caller: usize, number: usize) -> Result<(), Memory>
-    ensures { IfOk result (λ _. text.new.items ≡ text.old.items ++ node_name (Node.Register caller number)) }
+    ensures { IfOk result (λ _. text.new.items ≡ text.old.items ++ node_name (Node.Register caller
+        number)) }
 {
     push(text, "\"")?;
     push_number(text, caller as u64)?;
@@ -89,7 +94,8 @@ fn style_name(style: Style) -> &'static str
 
 // Appends the look of a line from a handle to its target.
 fn push_style(text: &mut Vec<u8>, style: Style) -> Result<(), Memory>
-    ensures { IfOk result (λ _. text.new.items ≡ text.old.items ++ look_text (Reason.Target style)) }
+    ensures { IfOk result (λ _. text.new.items ≡ text.old.items
+        ++ look_text (Reason.Target style)) }
 {
     push(text, " [style=")?;
     push(text, style_name(style))?;
@@ -108,7 +114,8 @@ fn push_slot_end(text: &mut Vec<u8>, before: &str, slot: Slot) -> Result<(), Mem
 
 // Appends the look of an edge that a dependent handle makes.
 fn push_dependent(text: &mut Vec<u8>, slot: Slot) -> Result<(), Memory>
-    ensures { IfOk result (λ _. text.new.items ≡ text.old.items ++ look_text (Reason.Dependent slot)) }
+    ensures { IfOk result (λ _. text.new.items ≡ text.old.items ++ look_text (Reason.Dependent
+        slot)) }
 {
     push(text, " [style=dotted ")?;
     push_slot_end(text, "label=\"dep ", slot)

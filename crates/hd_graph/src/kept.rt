@@ -1,8 +1,11 @@
 // What a collection of all generations would keep.
-ghost use Rattle.std.specs.Prelude.{◌≡◌, ◌<◌, ◌||◌, ℕ, Bool, Option, Some, false, length, slice_set, IfOk};
+ghost use Rattle.std.specs.Prelude.{◌≡◌, ◌<◌, ◌||◌, ℕ, Bool, Option, Some, false, length};
+ghost use Rattle.std.specs.Prelude.{slice_set, IfOk};
 ghost use Rattle.std.specs.List.{list_any};
-ghost use Rattle.hd_graph.specs.Kept.{AreAdded, AreKept, AreLinked, LinksBy, ids_of, is_attached_by};
-ghost use Rattle.hd_graph.specs.Kept.{is_attached_in, is_fields_pair, is_in_row, is_linked, is_pair, is_root};
+ghost use Rattle.hd_graph.specs.Kept.{AreAdded, AreKept, AreLinked, LinksBy, ids_of};
+ghost use Rattle.hd_graph.specs.Kept.{is_attached_by};
+ghost use Rattle.hd_graph.specs.Kept.{is_attached_in, is_fields_pair, is_in_row, is_linked};
+ghost use Rattle.hd_graph.specs.Kept.{is_pair, is_root};
 ghost use Rattle.hd_model.specs.declared.data.Id.{Id};
 ghost use Rattle.hd_graph.specs.Links.{AreChained, is_marked};
 ghost use Rattle.hd_graph.specs.Marks.{AreMarks, IsNodeOf, Rises, is_pinned_by};
@@ -178,7 +181,8 @@ fn root_marks(alloc: Global, ids: &[u64], seen: &Snapshot) -> Result<Vec<bool>, 
 // Sets a mark where it is set, or where a test holds.
 fn set_or(marks: &mut Vec<bool>, index: usize, is: bool)
     requires { index < length marks.old.items }
-    ensures { marks.new.items ≡ slice_set marks.old.items index (is_marked marks.old.items index || is) }
+    ensures { marks.new.items ≡ slice_set marks.old.items index (is_marked marks.old.items index ||
+        is) }
 {
     let was = marks[index];
     marks[index] = was || is;
@@ -221,7 +225,8 @@ pub(crate) fn pinned_marks(
 ) -> Result<Vec<bool>, AllocError>
     requires { Rises ids.now }
     ensures count { IfOk result (λ marks. length marks.items ≡ length ids.now) }
-    ensures marks { IfOk result (λ marks. AreMarks ids.now (λ x. list_any (is_pinned_by x) seen.now.handles.items) marks.items) }
+    ensures marks { IfOk result (λ marks. AreMarks ids.now (λ x. list_any (is_pinned_by x)
+        seen.now.handles.items) marks.items) }
 {
     let mut marks = no_marks(alloc, ids)?;
     mark_pinned(ids, &mut marks, &seen.handles);

@@ -4,12 +4,14 @@
 ghost use Rattle.std.specs.Prelude.{◌≡◌, ◌++◌, Bool, List, codes, flat_map, length, IfOk};
 ghost use Rattle.std.specs.List.{enumerate_from, list_any};
 ghost use Rattle.hd_seen.specs.Seen.{view_seen};
-ghost use Rattle.hd_graph.specs.Graph.{entry_text, graph_head, graph_text, handle_text, labels_text, marked_text, roots_text};
+ghost use Rattle.hd_graph.specs.Graph.{entry_text, graph_head, graph_text, handle_text};
+ghost use Rattle.hd_graph.specs.Graph.{labels_text, marked_text, roots_text};
 ghost use Rattle.hd_graph.specs.Kept.{AreKept, ids_of};
 ghost use Rattle.hd_graph.specs.Marks.{AreMarks, Rises, is_pinned_by};
 
 mod dot;
 mod kept;
+mod laws;
 mod links;
 mod marks;
 mod objects;
@@ -17,6 +19,7 @@ mod rows;
 mod text;
 
 use crate::kept::{kept_marks, pinned_marks};
+pub use crate::laws::pictures_rise;
 use crate::marks::numbers_of;
 use crate::objects::{push_labels, push_objects};
 use crate::rows::{push_entries, push_handles, push_queue, push_registers, push_statics};
@@ -56,7 +59,8 @@ fn marks_of(alloc: Global, seen: &Snapshot) -> Result<Looks, AllocError>
 
 // Appends the roots.
 fn push_roots(text: &mut Vec<u8>, seen: &Snapshot) -> Result<(), Memory>
-    ensures { IfOk result (λ _. text.new.items ≡ text.old.items ++ roots_text (view_seen seen.now)) }
+    ensures { IfOk result (λ _. text.new.items ≡ text.old.items
+        ++ roots_text (view_seen seen.now)) }
 {
     push_statics(text, &seen.statics)?;
     push_queue(text, &seen.queue)?;
@@ -97,9 +101,11 @@ fn push_marked(
     push_others(text, seen)
 }
 
-/// Appends the graph of a state: a box for each object, in grey where a collection of all generations
+/// Appends the graph of a state: a box for each object, in grey where a collection of all
+/// generations
 /// would remove it, an ellipse for each handle and each slot of the weak table, and what roots
-/// reference. The objects come by rising identity. Where memory runs out, the text is not to be used.
+/// reference. The objects come by rising identity. Where memory runs out, the text is not to be
+/// used.
 pub fn push_graph(
     alloc: Global,
     text: &mut Vec<u8>,

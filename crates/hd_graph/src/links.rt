@@ -1,12 +1,16 @@
-// Edges between nodes, as chains: each node has its last edge, and each edge the one before it from the
+// Edges between nodes, as chains: each node has its last edge, and each edge the one before it from
+// the
 // same node.
-ghost use Rattle.std.specs.Prelude.{◌≡◌, ◌<◌, ◌+◌, ◌++◌, ◌∷◌, ℕ, Bool, [], cond, length, slice_index, IfOk};
+ghost use Rattle.std.specs.Prelude.{◌≡◌, ◌<◌, ◌+◌, ◌++◌, ◌∷◌, ℕ, Bool, [], cond, length};
+ghost use Rattle.std.specs.Prelude.{slice_index, IfOk};
 ghost use Rattle.hd_model.specs.Leads.{IsClosure};
-ghost use Rattle.hd_graph.specs.Links.{AreChained, AreListed, IsLink, IsSearching, Joins, Visits, is_marked};
+ghost use Rattle.hd_graph.specs.Links.{AreChained, AreListed, IsLink, IsSearching, Joins, Visits};
+ghost use Rattle.hd_graph.specs.Links.{is_marked};
 
 use std::alloc::{AllocError, Global};
 
-/// Edges by their number, in the order in which they were added. Places are one more than the number of
+/// Edges by their number, in the order in which they were added. Places are one more than the
+/// number of
 /// an edge, and 0 where there is none.
 #[derive(Drop)]
 pub(crate) struct Links {
@@ -72,7 +76,8 @@ fn visit_from(
     ensures { IfOk result (λ _. (start : ℕ → Bool) (done : ℕ)
         → IsSearching links.now start (length marks.old.items) marks.old.items found.old.items done
         → done < length found.old.items → slice_index found.old.items done ≡ node
-        → IsSearching links.now start (length marks.old.items) marks.new.items found.new.items (done + 1)) }
+        → IsSearching links.now start (length marks.old.items) marks.new.items found.new.items (done
+        + 1)) }
 {
     let mut at = links.last[node];
     'chain: while at > 0 {

@@ -1,13 +1,16 @@
 // Marks of objects, one for each, by the numbers of their identities, which rise.
-ghost use Rattle.std.specs.Prelude.{◌≡◌, ◌<◌, ◌||◌, ◌&&◌, ℕ, Bool, List, length, map, slice_index, slice_set, true, IfOk, MatchOption, Some};
+ghost use Rattle.std.specs.Prelude.{◌≡◌, ◌<◌, ◌||◌, ◌&&◌, ℕ, Bool, List, length, map, slice_index};
+ghost use Rattle.std.specs.Prelude.{slice_set, true, IfOk, MatchOption, Some};
 ghost use Rattle.std.specs.List.{list_any};
 ghost use Rattle.hd_model.specs.declared.data.Id.{Id};
 ghost use Rattle.hd_model.specs.Role.{pins_by, role_of};
 ghost use Rattle.hd_model.specs.State.{secondary_of};
 ghost use Rattle.hd_seen.specs.declared.SeenHandle.{SeenHandle};
 ghost use Rattle.hd_seen.specs.declared.SeenObject.{SeenObject};
-ghost use Rattle.hd_graph.specs.Marks.{AreMarks, IsNodeOf, extra_again, is_held_by, is_holding, is_of};
-ghost use Rattle.hd_graph.specs.Marks.{Rises, is_pinned_by, is_queued, pins_seen, role_seen, style_of};
+ghost use Rattle.hd_graph.specs.Marks.{AreMarks, IsNodeOf, extra_again, is_held_by, is_holding};
+ghost use Rattle.hd_graph.specs.Marks.{is_of};
+ghost use Rattle.hd_graph.specs.Marks.{Rises, is_pinned_by, is_queued, pins_seen, role_seen};
+ghost use Rattle.hd_graph.specs.Marks.{style_of};
 
 use crate::dot::Style;
 use hd_model::{Id, Kind, Strength};

@@ -2,8 +2,10 @@
 ghost use Rattle.std.specs.Prelude.{◌≡◌, ◌++◌, [], codes, cond, decimal, length, flat_map, IfOk};
 ghost use Rattle.std.specs.List.{enumerate_from};
 ghost use Rattle.hd_seen.specs.Seen.{object_shown};
-ghost use Rattle.hd_graph.specs.Graph.{cluster_begin, cluster_end, fields_text, generation_label, label_text};
-ghost use Rattle.hd_graph.specs.Graph.{field_edge, labels_text, marked_text, object_node, object_text, region_label};
+ghost use Rattle.hd_graph.specs.Graph.{cluster_begin, cluster_end, fields_text, generation_label};
+ghost use Rattle.hd_graph.specs.Graph.{label_text};
+ghost use Rattle.hd_graph.specs.Graph.{field_edge, labels_text, marked_text, object_node};
+ghost use Rattle.hd_graph.specs.Graph.{object_text, region_label};
 ghost use Rattle.hd_graph.specs.Marks.{cells_of};
 
 use crate::Clusters;

@@ -1,7 +1,8 @@
 // Handles, entries of the weak table, and roots of a graph.
 ghost use Rattle.std.specs.Prelude.{◌≡◌, ◌++◌, cond, codes, is_some, flat_map, IfOk};
 ghost use Rattle.std.specs.List.{enumerate_from};
-ghost use Rattle.hd_graph.specs.Graph.{entry_text, handle_text, queue_text, register_text, registers_text};
+ghost use Rattle.hd_graph.specs.Graph.{entry_text, handle_text, queue_text, register_text};
+ghost use Rattle.hd_graph.specs.Graph.{registers_text};
 ghost use Rattle.hd_graph.specs.Graph.{static_text};
 
 use crate::dot::{Node, Reason, Style, push_attached, push_edge_to, push_root, push_slot};

@@ -45,6 +45,7 @@ returns-in-Ok c =
       kept,
       c.in-Ok.ensures.kept,
       e ∙ six old graph_head labels objects handles entries roots (codes "}\n")
-          ∙ ap (λ o. old ++ ((((((graph_head ++ labels) ++ o) ++ handles) ++ entries) ++ roots) ++ codes "}\n"))
+          ∙ ap (λ o. old ++ ((((((graph_head ++ labels) ++ o) ++ handles) ++ entries) ++ roots) ++ codes
+          "}\n"))
           (objects_are c.args.clusters (view_seen s) pinned kept 0 s.objects.items marks),
     )) c.push_marked.ensures

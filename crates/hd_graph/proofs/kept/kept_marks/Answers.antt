@@ -9,12 +9,14 @@ use Rattle.hd_graph.proofs.kept.kept_marks.Goals as goal
 
 pub follow-requires : goal.follow-requires
 follow-requires c =
-    subst (λ n. AreChained n c.in_ok-links.links) (sym c.in_ok-marks.ensures.count) c.in_ok-links.ensures.chained
+    subst (λ n. AreChained n c.in_ok-links.links) (sym c.in_ok-marks.ensures.count)
+    c.in_ok-links.ensures.chained
 
 pub mark_registered-requires : goal.mark_registered-requires
 mark_registered-requires c =
     c.in_ok-follow.ensures.count ∙ c.in_ok-marks.ensures.count ∙ ap length c.requires.ids
-    ∙ length-map c.args.seen.now.objects.items (λ (o : SeenObject). o.id.0) ∙ ap length (sym c.deref.ensures.value)
+    ∙ length-map c.args.seen.now.objects.items (λ (o : SeenObject). o.id.0) ∙ ap length (sym
+    c.deref.ensures.value)
 
 pub follow-requires-2 : goal.follow-requires-2
 follow-requires-2 c =

@@ -4,4 +4,5 @@ use Rattle.hd_graph.specs.Kept.{LinksBy, is_attached_in}
 use Rattle.hd_graph.proofs.kept.link_entries.Given as goal
 
 abbrev pub invariant-loop-entry : goal.invariant-loop-entry
-invariant-loop-entry l = LinksBy l.ids (λ x y. list_any (is_attached_in x y) (take l.entry-index l.entries)) l.fn.links l.links
+invariant-loop-entry l = LinksBy l.ids (λ x y. list_any (is_attached_in x y) (take l.entry-index l.entries))
+    l.fn.links l.links

@@ -4,4 +4,5 @@ use Rattle.hd_graph.specs.Kept.{LinksBy, is_attached_by}
 use Rattle.hd_graph.proofs.kept.link_handles.Given as goal
 
 abbrev pub invariant-loop-handle : goal.invariant-loop-handle
-invariant-loop-handle l = LinksBy l.ids (λ x y. list_any (is_attached_by x y) (take l.handle-index l.handles)) l.fn.links l.links
+invariant-loop-handle l = LinksBy l.ids (λ x y. list_any (is_attached_by x y) (take l.handle-index l.handles))
+    l.fn.links l.links

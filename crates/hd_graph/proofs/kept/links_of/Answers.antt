@@ -24,7 +24,8 @@ returns-clause-linked c =
     let ids = c.args.ids.now in
     linked_all ids c.args.seen.now c.in_ok-links.links c.link_objects.new.links c.link_handles.new.links
     c.link_entries.new.links c.in_ok-links.ensures.1
-    (subst (λ (xs : List SeenObject). LinksBy ids (λ x y. list_any (is_fields_pair x y) xs) c.in_ok-links.links
+    (subst (λ (xs : List SeenObject). LinksBy ids (λ x y. list_any (is_fields_pair x y) xs)
+    c.in_ok-links.links
     c.link_objects.new.links) c.deref.ensures.value c.in_ok-link_objects.ensures)
     (subst (λ (xs : List SeenHandle). LinksBy ids (λ x y. list_any (is_attached_by x y) xs)
     c.link_objects.new.links c.link_handles.new.links) c.deref-2.ensures.value c.in_ok-link_handles.ensures)

@@ -15,9 +15,11 @@ pub loop-row-preserved : goal.loop-row-preserved
 loop-row-preserved c = record {
   count = c.mark_all.ensures.count;
   marks = λ test is.
-      any_next is_in_row c.args.ids.now test c.args.registers.now c.mark_all.new.marks.items c.loop-row.row-index _ _
+      any_next is_in_row c.args.ids.now test c.args.registers.now c.mark_all.new.marks.items
+      c.loop-row.row-index _ _
       c.loop-row-test.true refl
-      (c.mark_all.ensures.marks (λ x. test x || list_any (is_in_row x) (take c.loop-row.row-index c.args.registers.now))
+      (c.mark_all.ensures.marks (λ x. test x || list_any (is_in_row x) (take c.loop-row.row-index
+      c.args.registers.now))
       (c.loop-row.invariant.marks test is));
 }
 
@@ -26,5 +28,6 @@ returns-clause-count c = c.loop-row.invariant.count
 
 pub returns-clause-marks : goal.returns-clause-marks
 returns-clause-marks c = λ test is.
-    any_all is_in_row c.args.ids.now test c.args.registers.now c.loop-row.marks.items c.loop-row.row-index c.loop-row-test.false
+    any_all is_in_row c.args.ids.now test c.args.registers.now c.loop-row.marks.items c.loop-row.row-index
+    c.loop-row-test.false
     (c.loop-row.invariant.marks test is)

@@ -14,7 +14,8 @@ returns-clause-marks c =
     || list_any (is_held_by x) c.deref-2.result.now) || list_any (is_in_row x) c.deref-3.result.now)
     (is_root s) c.mark_registers.new.marks.items
     (λ x j. ((list_any (is_of x) s.statics || list_any (is_queued x) (c.deref.ensures.value j))
-    || list_any (is_held_by x) (c.deref-2.ensures.value j)) || list_any (is_in_row x) (c.deref-3.ensures.value j))
+    || list_any (is_held_by x) (c.deref-2.ensures.value j)) || list_any (is_in_row x) (c.deref-3.ensures.value
+    j))
     (c.mark_registers.ensures.marks
     (λ x. (list_any (is_of x) s.statics || list_any (is_queued x) c.deref.result.now)
     || list_any (is_held_by x) c.deref-2.result.now)

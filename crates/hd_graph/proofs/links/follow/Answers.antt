@@ -28,7 +28,8 @@ search-preserved c =
     let start = is_marked c.args.marks.now.items in
     let less : c.search.done < length c.search.found.items = omega arith in
     let node = get_or_read c.search.found.items _ _ less c.index-node.ensures 0 in
-    subst (λ n. IsSearching l start n c.visit_from.new.marks.items c.visit_from.new.found.items (c.search.done + 1))
+    subst (λ n. IsSearching l start n c.visit_from.new.marks.items c.visit_from.new.found.items (c.search.done
+    + 1))
     c.search.invariant.count
     (c.in_ok-visit_from.ensures start c.search.done
     (subst (λ n. IsSearching l start n c.search.marks.items c.search.found.items c.search.done)

@@ -9,7 +9,8 @@ loop-i-init c =
 
 pub loop-i-preserved : goal.loop-i-preserved
 loop-i-preserved c =
-    listed_next c.loop-i.i c.args.marks.now c.loop-i.found.items c.list_if.new.found.items _ c.loop-i.invariant
+    listed_next c.loop-i.i c.args.marks.now c.loop-i.found.items c.list_if.new.found.items _
+    c.loop-i.invariant
     refl c.in_ok-list_if.ensures
 
 pub returns : goal.returns

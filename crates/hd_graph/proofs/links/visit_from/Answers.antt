@@ -14,7 +14,8 @@ chain-init c =
       near = omega (arith, read, first);
       point = λ k e. c.requires.links.points node k (sym read ∙ e);
       visiting = λ start done is less same.
-          visit_none l start (length c.args.marks.now.items) node c.args.marks.now.items c.args.found.now.items done
+          visit_none l start (length c.args.marks.now.items) node c.args.marks.now.items
+          c.args.found.now.items done
           c.index-at.result.now c.requires.links read is less same;
     }
 
@@ -29,7 +30,8 @@ visit-requires c =
     let edge = c.chain.at - 1 in
     let near = c.chain.invariant.near in
     let low : edge < length l.sources.items = omega (arith, near, c.chain-test.true) in
-    let read = get_or_read l.targets.items _ _ (omega (arith, low, c.requires.links.targets)) c.index-target.ensures 0 in
+    let read = get_or_read l.targets.items _ _ (omega (arith, low, c.requires.links.targets))
+    c.index-target.ensures 0 in
     let inside = c.requires.links.inside edge low in
     omega (arith, inside, read, c.chain.invariant.count)
 
@@ -58,8 +60,10 @@ chain-preserved c =
     let near = c.chain.invariant.near in
     let same : c.chain.at ≡ edge + 1 = omega (arith, c.chain-test.true) in
     let low : edge < length l.sources.items = omega (arith, near, c.chain-test.true) in
-    let target = get_or_read l.targets.items _ _ (omega (arith, low, chained.targets)) c.index-target.ensures 0 in
-    let back = get_or_read l.before.items _ _ (omega (arith, low, chained.before)) c.index-at-in-chain.ensures 0 in
+    let target = get_or_read l.targets.items _ _ (omega (arith, low, chained.targets)) c.index-target.ensures
+    0 in
+    let back = get_or_read l.before.items _ _ (omega (arith, low, chained.before)) c.index-at-in-chain.ensures
+    0 in
     let earlier = chained.earlier edge low in record {
       count = c.visit.ensures.count ∙ c.chain.invariant.count;
       near = omega (arith, back, earlier, low);

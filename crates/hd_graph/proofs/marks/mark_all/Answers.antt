@@ -15,9 +15,11 @@ pub loop-reference-preserved : goal.loop-reference-preserved
 loop-reference-preserved c = record {
   count = c.mark.ensures.count;
   marks = λ test is.
-      any_next is_of c.args.ids.now test c.args.references.now c.mark.new.marks.items c.loop-reference.reference-index _ _
+      any_next is_of c.args.ids.now test c.args.references.now c.mark.new.marks.items
+      c.loop-reference.reference-index _ _
       c.loop-reference-test.true refl
-      (c.mark.ensures.marks (λ x. test x || list_any (is_of x) (take c.loop-reference.reference-index c.args.references.now))
+      (c.mark.ensures.marks (λ x. test x || list_any (is_of x) (take c.loop-reference.reference-index
+      c.args.references.now))
       (c.loop-reference.invariant.marks test is));
 }
 
@@ -26,5 +28,6 @@ returns-clause-count c = c.loop-reference.invariant.count
 
 pub returns-clause-marks : goal.returns-clause-marks
 returns-clause-marks c = λ test is.
-    any_all is_of c.args.ids.now test c.args.references.now c.loop-reference.marks.items c.loop-reference.reference-index c.loop-reference-test.false
+    any_all is_of c.args.ids.now test c.args.references.now c.loop-reference.marks.items
+    c.loop-reference.reference-index c.loop-reference-test.false
     (c.loop-reference.invariant.marks test is)

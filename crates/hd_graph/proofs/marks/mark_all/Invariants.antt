@@ -8,5 +8,6 @@ abbrev pub invariant-loop-reference : goal.invariant-loop-reference
 invariant-loop-reference l = record {
   count : length l.marks.items ≡ length l.ids;
   marks : (test : ℕ → Bool) → AreMarks l.ids test l.fn.marks.items
-      → AreMarks l.ids (λ x. test x || list_any (is_of x) (take l.reference-index l.references)) l.marks.items;
+      → AreMarks l.ids (λ x. test x || list_any (is_of x) (take l.reference-index l.references))
+      l.marks.items;
 }

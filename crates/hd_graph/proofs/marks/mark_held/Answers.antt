@@ -15,9 +15,11 @@ pub loop-handle-preserved : goal.loop-handle-preserved
 loop-handle-preserved c = record {
   count = c.mark_held_by.ensures.count;
   marks = λ test is.
-      any_next is_held_by c.args.ids.now test c.args.handles.now c.mark_held_by.new.marks.items c.loop-handle.handle-index _ _
+      any_next is_held_by c.args.ids.now test c.args.handles.now c.mark_held_by.new.marks.items
+      c.loop-handle.handle-index _ _
       c.loop-handle-test.true refl
-      (c.mark_held_by.ensures.marks (λ x. test x || list_any (is_held_by x) (take c.loop-handle.handle-index c.args.handles.now))
+      (c.mark_held_by.ensures.marks (λ x. test x || list_any (is_held_by x) (take c.loop-handle.handle-index
+      c.args.handles.now))
       (c.loop-handle.invariant.marks test is));
 }
 
@@ -26,5 +28,6 @@ returns-clause-count c = c.loop-handle.invariant.count
 
 pub returns-clause-marks : goal.returns-clause-marks
 returns-clause-marks c = λ test is.
-    any_all is_held_by c.args.ids.now test c.args.handles.now c.loop-handle.marks.items c.loop-handle.handle-index c.loop-handle-test.false
+    any_all is_held_by c.args.ids.now test c.args.handles.now c.loop-handle.marks.items
+    c.loop-handle.handle-index c.loop-handle-test.false
     (c.loop-handle.invariant.marks test is)

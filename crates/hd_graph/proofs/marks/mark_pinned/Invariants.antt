@@ -8,5 +8,6 @@ abbrev pub invariant-loop-handle : goal.invariant-loop-handle
 invariant-loop-handle l = record {
   count : length l.marks.items ≡ length l.ids;
   marks : (test : ℕ → Bool) → AreMarks l.ids test l.fn.marks.items
-      → AreMarks l.ids (λ x. test x || list_any (is_pinned_by x) (take l.handle-index l.handles)) l.marks.items;
+      → AreMarks l.ids (λ x. test x || list_any (is_pinned_by x) (take l.handle-index l.handles))
+      l.marks.items;
 }

@@ -26,5 +26,6 @@ returns-clause-count c = c.loop-id.invariant.count
 
 pub returns-clause-marks : goal.returns-clause-marks
 returns-clause-marks c = λ test is.
-    any_all is_queued c.args.ids.now test c.args.queue.now c.loop-id.marks.items c.loop-id.id-index c.loop-id-test.false
+    any_all is_queued c.args.ids.now test c.args.queue.now c.loop-id.marks.items c.loop-id.id-index
+    c.loop-id-test.false
     (c.loop-id.invariant.marks test is)

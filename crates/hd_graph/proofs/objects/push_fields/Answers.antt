@@ -9,8 +9,10 @@ loop-i-init c = sym (append-nil c.args.text.now.items)
 
 pub loop-i-preserved : goal.loop-i-preserved
 loop-i-preserved c =
-    row_next (field_edge c.args.from) 0 c.args.fields.now c.loop-i.i None c.loop-i-test.true c.args.text.now.items
-    c.loop-i.text.items c.push_edge_to.new.text.items c.loop-i.i (get_or c.args.fields.now c.loop-i.i None) (omega arith) refl c.loop-i.invariant
+    row_next (field_edge c.args.from) 0 c.args.fields.now c.loop-i.i None c.loop-i-test.true
+    c.args.text.now.items
+    c.loop-i.text.items c.push_edge_to.new.text.items c.loop-i.i (get_or c.args.fields.now c.loop-i.i None)
+    (omega arith) refl c.loop-i.invariant
     c.in_ok-push_edge_to.ensures
 
 pub returns : goal.returns

@@ -7,5 +7,6 @@ returns c =
     last_piece c.push-3.result old _ _ _ _
     (more old _ _ _ _
     (more old _ _ _ _
-    (more old _ _ _ _ (more old _ _ _ _ c.in_ok-push_name.ensures c.in_ok-push.ensures) c.in_ok-push_label.ensures)
+    (more old _ _ _ _ (more old _ _ _ _ c.in_ok-push_name.ensures c.in_ok-push.ensures)
+    c.in_ok-push_label.ensures)
     c.in_ok-push-2.ensures) c.in_ok-push_if.ensures) c.push-3.ensures

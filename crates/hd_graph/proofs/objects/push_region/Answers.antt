@@ -8,5 +8,6 @@ returns c =
     (more old _ _ _ _
     (more old _ _ _ _
     (more old _ _ _ _
-    (more old _ _ _ _ (more old _ _ _ _ c.in_ok-push.ensures c.in_ok-push_small.ensures) c.in_ok-push-2.ensures)
+    (more old _ _ _ _ (more old _ _ _ _ c.in_ok-push.ensures c.in_ok-push_small.ensures)
+    c.in_ok-push-2.ensures)
     c.in_ok-push_small-2.ensures) c.in_ok-push-3.ensures) c.in_ok-push_tiny.ensures) c.push-4.ensures

@@ -9,7 +9,8 @@ loop-region-init c = sym (append-nil c.args.text.now.items)
 
 pub returns : goal.returns
 returns c =
-    list_all region_label c.args.regions.now c.loop-region.region-index c.loop-region-test.false c.args.text.now.items
+    list_all region_label c.args.regions.now c.loop-region.region-index c.loop-region-test.false
+    c.args.text.now.items
     c.loop-region.text.items c.loop-region.invariant
 
 pub loop-region-preserved : goal.loop-region-preserved

@@ -4,4 +4,5 @@ use Rattle.hd_graph.specs.Graph.{region_label}
 use Rattle.hd_graph.proofs.objects.push_regions.Given as goal
 
 abbrev pub invariant-loop-region : goal.invariant-loop-region
-invariant-loop-region l = l.text.items ≡ l.fn.text.items ++ flat_map region_label (take l.region-index l.regions)
+invariant-loop-region l = l.text.items ≡ l.fn.text.items ++ flat_map region_label (take l.region-index
+    l.regions)

@@ -9,5 +9,6 @@ loop-entry-init c = sym (append-nil c.args.text.now.items)
 
 pub returns : goal.returns
 returns c =
-    list_all entry_text c.args.entries.now c.loop-entry.entry-index c.loop-entry-test.false c.args.text.now.items
+    list_all entry_text c.args.entries.now c.loop-entry.entry-index c.loop-entry-test.false
+    c.args.text.now.items
     c.loop-entry.text.items c.loop-entry.invariant

@@ -15,7 +15,8 @@ returns c =
     (more old _ _ _ _
     (c.in_ok-push_slot.ensures ∙ ap (λ w. old ++ slot_text h.slot w) c.kind_name.ensures.word)
     (c.in_ok-push_edge_to.ensures
-    ∙ ap (λ s. c.push_slot.new.text.items ++ edge_to (node.Slot h.slot) (why.Target s) h.target) c.style.ensures))
+    ∙ ap (λ s. c.push_slot.new.text.items ++ edge_to (node.Slot h.slot) (why.Target s) h.target)
+    c.style.ensures))
     (subst (λ (o : Option Id). IfOk c.push_attached.result (λ _. c.push_attached.new.text.items
     ≡ c.push_edge_to.new.text.items ++ attached_edge (why.Dependent h.slot) h.target o)) c.secondary.ensures
     c.push_attached.ensures)

@@ -9,5 +9,6 @@ loop-handle-init c = sym (append-nil c.args.text.now.items)
 
 pub returns : goal.returns
 returns c =
-    list_all handle_text c.args.handles.now c.loop-handle.handle-index c.loop-handle-test.false c.args.text.now.items
+    list_all handle_text c.args.handles.now c.loop-handle.handle-index c.loop-handle-test.false
+    c.args.text.now.items
     c.loop-handle.text.items c.loop-handle.invariant

@@ -9,8 +9,10 @@ loop-i-init c = sym (append-nil c.args.text.now.items)
 
 pub loop-i-preserved : goal.loop-i-preserved
 loop-i-preserved c =
-    row_next queue_text 1 c.args.queue.now c.loop-i.i (record { 0 = 0 }) c.loop-i-test.true c.args.text.now.items
-    c.loop-i.text.items c.push_root.new.text.items (c.loop-i.i + 1) (get_or c.args.queue.now c.loop-i.i (record { 0 = 0 })) (omega arith) refl c.loop-i.invariant
+    row_next queue_text 1 c.args.queue.now c.loop-i.i (record { 0 = 0 }) c.loop-i-test.true
+    c.args.text.now.items
+    c.loop-i.text.items c.push_root.new.text.items (c.loop-i.i + 1) (get_or c.args.queue.now c.loop-i.i
+    (record { 0 = 0 })) (omega arith) refl c.loop-i.invariant
     c.in_ok-push_root.ensures
 
 pub returns : goal.returns

@@ -9,11 +9,14 @@ loop-i-init c = sym (append-nil c.args.text.now.items)
 
 pub loop-i-preserved : goal.loop-i-preserved
 loop-i-preserved c =
-    row_next (register_text c.args.caller) 0 c.args.row.now c.loop-i.i None c.loop-i-test.true c.args.text.now.items
-    c.loop-i.text.items c.push_root.new.text.items c.loop-i.i (get_or c.args.row.now c.loop-i.i None) (omega arith) refl c.loop-i.invariant
+    row_next (register_text c.args.caller) 0 c.args.row.now c.loop-i.i None c.loop-i-test.true
+    c.args.text.now.items
+    c.loop-i.text.items c.push_root.new.text.items c.loop-i.i (get_or c.args.row.now c.loop-i.i None) (omega
+    arith) refl c.loop-i.invariant
     c.in_ok-push_root.ensures
 
 pub returns : goal.returns
 returns c =
-    rows_all (register_text c.args.caller) 0 c.args.row.now c.loop-i.i c.loop-i-test.false c.args.text.now.items
+    rows_all (register_text c.args.caller) 0 c.args.row.now c.loop-i.i c.loop-i-test.false
+    c.args.text.now.items
     c.loop-i.text.items c.loop-i.invariant

@@ -10,7 +10,8 @@ loop-i-init c = sym (append-nil c.args.text.now.items)
 pub loop-i-preserved : goal.loop-i-preserved
 loop-i-preserved c =
     row_next static_text 0 c.args.statics.now c.loop-i.i None c.loop-i-test.true c.args.text.now.items
-    c.loop-i.text.items c.push_root.new.text.items c.loop-i.i (get_or c.args.statics.now c.loop-i.i None) (omega arith) refl c.loop-i.invariant
+    c.loop-i.text.items c.push_root.new.text.items c.loop-i.i (get_or c.args.statics.now c.loop-i.i None)
+    (omega arith) refl c.loop-i.invariant
     c.in_ok-push_root.ensures
 
 pub returns : goal.returns
