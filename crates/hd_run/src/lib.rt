@@ -1,12 +1,13 @@
 //! Runs a script, from its bytes to the text of its journal.
 #![tactic(auto)]
 
-ghost use Rattle.std.specs.Prelude.{◌≡◌, ◌≤◌};
+ghost use Rattle.std.specs.Prelude.{◌≡◌, ◌≤◌, IfOk};
 ghost use Rattle.hd_model.specs.Generated.{load_numbers, generated_lists};
-ghost use Rattle.hd_run.specs.{declared.mode.Form.TheVariants.Summary, declared.limits.TheConstants.LEAST_HEAP, Bounds.numbers_for, Modes.lines_form};
+ghost use Rattle.hd_run.specs.{declared.mode.Form.TheVariants.Summary, declared.limits.TheConstants.LEAST_HEAP, Bounds.Bounds, Bounds.numbers_for, Modes.lines_form};
 ghost use Rattle.hd_run.specs.Words.{request_of, solo_of, listing_of, audit_of};
 ghost use Rattle.hd_run.specs.Claims.{Promise, Together, HasLine};
 ghost use Rattle.hd_run.specs.AuditClaims.{AuditPromise, ProgramPromise};
+ghost use Rattle.hd_run.specs.Turns.{RanWhole};
 
 mod audit;
 mod ending;
@@ -31,10 +32,13 @@ use crate::mode::Form;
 use crate::report::{report, report_finding};
 use crate::request::{read_audit_words, read_words, read_words_alone};
 use crate::threads::run_callers;
+use crate::turns::Opened;
 use crate::work::{work, work_alone};
 use hd_io::{Pace, Sink, Source};
+use hd_model::Memory;
 use hd_model::limits::{BLOCKS, HEAP, MOST_ROUNDS};
 use hd_script::{Scripts, generate};
+use hd_world::World;
 pub use laws::{limits_are_these, parts_follow_the_turns};
 pub use outcome::{Kept, Outcome};
 pub use printed::{printed_runs_are_judged_runs, whole_runs_are_judged_runs};
@@ -178,4 +182,17 @@ pub fn load<R: Threads + Wait + Sync, K: Sink, P: Pace>(
     };
     let ending = run_callers(rt, alloc, &scripts, &Limits::new(HEAP, BLOCKS), pace);
     report(sink, Form::Summary, ending)
+}
+
+/// The world that a script leads to, over a heap of at most `heap` cells, 3 to 1,000,000, and a
+/// table of `blocks` blocks, 1 to 256: its callers are taken as `solo` takes them, one after another
+/// in rising number, each to its end.
+pub fn solo_world(alloc: Global, scripts: &Scripts, heap: u32, blocks: u32) -> Result<World, Memory>
+    requires heap { (LEAST_HEAP ≤ heap) × (heap ≤ HEAP) }
+    requires blocks { (1 ≤ blocks) × (blocks ≤ BLOCKS) }
+    ensures { let b : Bounds = record { heap = heap; blocks = blocks } in
+        IfOk result (RanWhole (numbers_for b scripts.now) scripts.now) }
+{
+    let opened = Opened::open(alloc, scripts, &Limits::new(heap, blocks))?;
+    opened.world(scripts)
 }

@@ -1,12 +1,13 @@
 ghost use Rattle.std.specs.Prelude.{◌≡◌, ◌+◌, ◌<◌, [], drop, length, false, IfOk, OnOk, OnErr};
 ghost use Rattle.hd_run.specs.{Bounds.numbers_for, Ending.RunCause, Ending.Keeps};
-ghost use Rattle.hd_run.specs.Turns.{turns_from, IsReadyFor, IsReadyToRun, StoppedAt};
+ghost use Rattle.hd_run.specs.Turns.{turns_from, IsReadyFor, IsReadyToRun, RanWhole, StoppedAt};
 
 use crate::ending::{Ending, Ran};
 use crate::limits::Limits;
 use hd_gate::Alone;
 use hd_model::Memory;
 use hd_script::Scripts;
+use hd_world::World;
 use std::alloc::Global;
 
 /// A world for one thread. It may be dropped only while nothing was done in it.
@@ -42,6 +43,18 @@ impl Opened {
         let Opened { mut alone } = self;
         let done = take_turns(&mut alone, scripts).is_ok();
         Ending::of(done, Ran::Alone(alone.finish()))
+    }
+}
+
+impl Opened {
+    /// Takes all turns, and returns the world that they lead to.
+    pub(crate) fn world(self, scripts: &Scripts) -> Result<World, Memory>
+        requires { IsReadyToRun scripts.now self.alone }
+        ensures { IfOk result (RanWhole self.alone.numbers scripts.now) }
+    {
+        let Opened { mut alone } = self;
+        take_turns(&mut alone, scripts)?;
+        Ok(alone.finish())
     }
 }
 
