@@ -1,10 +1,11 @@
 #!/usr/bin/env python3
-"""The machine of docs/machine.md for callers one after another, in plain maps and lists, beside `hdt solo`.
+"""The machine of docs/machine.md for callers one after another, in plain maps and lists, beside `hdt solo` and `hdv`.
 
     machine.py SCRIPT...              compares the text of each script with SCRIPT.stdout
     machine.py COUNT SEED PROGRAM     has the program do COUNT random scripts, and compares each text
 
-Texts are compared to the byte, but for the numbers of `addr`.
+Texts are compared to the byte, but for the numbers of `addr`. What `hdv` shows of a script is compared by
+`conformance/own/looks.py`: `shown`, `path` and `graph` compute it, without ages, chains, regions and cards.
 """
 import random
 import re
@@ -325,13 +326,18 @@ class Machine:
                 left += led(thing)
         return found
 
-    def collect(self, n):
-        things, handles = list(self.things.values()), list(self.handles.values())
+    def kept_by(self, n):
+        """What a collection reaches, what it resurrects, in rising identity, and what it keeps."""
+        things = list(self.things.values())
         roots = [thing for register in self.registers for thing in register] + self.statics + self.queue
-        roots += [handle.target for handle in handles if handle.holds()]
+        roots += [handle.target for handle in self.handles.values() if handle.holds()]
         reach = self.reached(roots + [thing for thing in things if thing.generation > n])
         revived = sorted((thing for thing in things if thing.registered and thing not in reach), key=lambda thing: thing.identity)
-        kept = self.reached(reach | set(revived))
+        return reach, revived, self.reached(reach | set(revived))
+
+    def collect(self, n):
+        things, handles = list(self.things.values()), list(self.handles.values())
+        reach, revived, kept = self.kept_by(n)
         cleared = Counter()
         for handle in handles:
             if handle.target and not handle.holds() and handle.target not in (reach if handle.role() == "short" else kept):
@@ -351,6 +357,155 @@ class Machine:
         self.collections += 1
         return (f"kept {len(survived)} removed {len(things) - len(kept)} short {cleared['short']} long {cleared['long']} "
                 f"dep {cleared['dep']} revived {len(revived)}")
+
+
+    # What a debugger shows.
+
+    def pinned(self):
+        return {handle.target for handle in self.handles.values() if handle.role() == "pinned" and handle.target}
+
+    def shown(self):
+        """The tables of a state, each a header and rows of words, without ages, chains, regions and cards."""
+        kinds = [self.kind_row(kind) for kind in KINDS]
+        generations = [self.generation_row(str(generation), {generation}) for generation in range(3)]
+        registers = [[str(caller), f"{letter}{index}", word(has)]
+                     for letter, all_of in (("r", self.registers), ("h", self.slots))
+                     for caller in range(16) for index, has in enumerate(all_of[caller]) if has is not None]
+        return [
+            [["SLOT", "KIND", "TARGET", "EXTRA"]] + [[str(slot), handle.kind, word(handle.target), word(handle.extra)]
+                                                     for slot, handle in sorted(self.handles.items())],
+            [["KIND", "HANDLES", "BLOCKS", "FREE"]] + kinds + [["all"] + total(kinds)],
+            [["KIND", "BLOCK", "HANDLES", "ENTRIES", "FREE", "ROWS"]] + sorted(self.block_row(block) for block in self.uses),
+            [["GENERATION", "OBJECTS", "CELLS", "PINNED"]] + generations + [["all"] + total(generations)],
+            [["QUEUED", "OBJECT"]] + [[str(place), word(thing)] for place, thing in enumerate(self.queue, 1)],
+            [["ENTRY", "KEY", "VALUE"]] + [[str(slot), word(key) if key else "idle", word(value)]
+                                           for slot, (key, value) in sorted(self.entries.items())],
+            [["CALLER", "REGISTER", "HAS"]] + registers,
+            [["STATIC", "OBJECT"]] + [[str(place), word(thing)] for place, thing in enumerate(self.statics) if thing],
+            [["BOARD", "SLOT"]] + [[str(place), word(slot)] for place, slot in enumerate(self.board) if slot is not None],
+        ]
+
+    def taken(self, block, slots):
+        return sum(slot // ROWS == block for slot in slots)
+
+    def kind_row(self, kind):
+        blocks = [block for block, use in self.uses.items() if use == kind]
+        handles = sum(self.taken(block, self.handles) for block in blocks)
+        entries = sum(self.taken(block, self.entries) for block in blocks)
+        return [kind, str(handles), str(len(blocks)), str(ROWS * len(blocks) - handles - entries)]
+
+    def block_row(self, block):
+        if self.uses[block] == "extra":
+            return ["data", str(block), "-", "-", "-", "-"]
+        free = [row for row in range(ROWS) if self.is_free(ROWS * block + row)]
+        counts = [self.taken(block, self.handles), self.taken(block, self.entries), len(free)]
+        return [self.uses[block], str(block)] + [str(count) for count in counts] + [ranges(free)]
+
+    def generation_row(self, name, generations):
+        things = [thing for thing in self.things.values() if thing.generation in generations]
+        counts = [len(things), sum(thing.size() for thing in things), len(self.pinned().intersection(things))]
+        return [name] + [str(count) for count in counts]
+
+    def links(self, thing):
+        """What edges lead to from an object, each with the least field, or else the least slot, that leads there."""
+        found = {}
+        pairs = [(slot, "dep", handle.target, handle.extra) for slot, handle in self.handles.items() if handle.kind == "dep"]
+        pairs += [(slot, "entry", key, value) for slot, (key, value) in self.entries.items()]
+        for slot, name, target, second in sorted(pairs, key=lambda pair: pair[0]):
+            if target is thing and second:
+                found.setdefault(second, f"{name} {slot}")
+        for index in reversed(range(len(thing.fields))):
+            if thing.fields[index]:
+                found[thing.fields[index]] = f"field {index}"
+        return found
+
+    def anchor(self, thing):
+        """What makes an object an anchor, or None: the least static, the least slot, or the queue."""
+        if thing in self.statics:
+            return f"static {self.statics.index(thing)}"
+        slots = [slot for slot, handle in self.handles.items() if handle.holds() and handle.target is thing]
+        if slots:
+            return f"slot {min(slots)} {self.handles[min(slots)].kind}"
+        return "queue" if thing in self.queue else None
+
+    def path(self, identity):
+        """A shortest chain to an object, of these the least by identities."""
+        name = "{}.{}".format(*identity)
+        if identity not in self.things:
+            return [f"path {name} " + ("gone" if 0 < identity[1] <= self.made[identity[0]] else "unknown")]
+        goal = self.things[identity]
+        chains = {thing: [thing] for thing in self.things.values() if self.anchor(thing)}
+        layer = dict(chains)
+        while layer and goal not in chains:
+            further = {}
+            for thing, chain in layer.items():
+                for other in self.links(thing):
+                    if other not in chains:
+                        longer = chain + [other]
+                        further[other] = min(longer, further.get(other, longer), key=lambda one: [it.identity for it in one])
+            chains.update(further)
+            layer = further
+        if goal not in chains:
+            return [f"path {name} unrooted"]
+        chain = chains[goal]
+        lines = [f"path {name} edges {len(chain) - 1}", f"  {self.anchor(chain[0])} -> {word(chain[0])}"]
+        return lines + [f"  {word(one)} {self.links(one)[other]} -> {word(other)}" for one, other in zip(chain, chain[1:])]
+
+    def graph(self, by=None):
+        """The lines of a graph, by clusters or not, in any order."""
+        lines = ["digraph heap {", "  rankdir=LR;", "  node [shape=box];", "}"]
+        kept, pinned = self.kept_by(2)[2], self.pinned()
+        for generation in range(3) if by == "generation" else []:
+            lines.append(f'  subgraph cluster_{generation} {{ label="generation {generation}"; }}')
+        for thing in self.things.values():
+            label = f"{word(thing)}\\ngeneration {thing.generation}\\ncells {thing.size()}" + ("\\npinned" if thing in pinned else "")
+            grey = "" if thing in kept else " color=grey fontcolor=grey"
+            node = f'"{word(thing)}" [label="{label}"{grey}];'
+            lines.append(f"  subgraph cluster_{thing.generation} {{ {node} }}" if by == "generation" else f"  {node}")
+            lines += [f'  "{word(thing)}" -> "{word(other)}" [label="{index}"];' for index, other in enumerate(thing.fields) if other]
+        for slot, handle in self.handles.items():
+            style = {"strong": "solid", "pinned": "solid", "short": "dashed", "long": "dashed", "dep": "dotted"}[handle.role()]
+            lines += self.slot_lines(slot, handle.kind, handle.target, style)
+            if handle.kind == "dep" and handle.target and handle.extra:
+                lines.append(f'  "{word(handle.target)}" -> "{word(handle.extra)}" [style=dotted label="dep {slot}"];')
+        for slot, (key, value) in self.entries.items():
+            lines += self.slot_lines(slot, "entry" if key else "idle", key, "dotted")
+            if key and value:
+                lines.append(f'  "{word(key)}" -> "{word(value)}" [style=dotted label="entry {slot}"];')
+        roots = [(f"static {place}", thing) for place, thing in enumerate(self.statics)]
+        roots += [(f"queue {place}", thing) for place, thing in enumerate(self.queue, 1)]
+        roots += [(f"{caller} r{index}", thing) for caller in range(16) for index, thing in enumerate(self.registers[caller])]
+        for name, thing in roots:
+            if thing:
+                lines += [f'  "{name}" [shape=plaintext];', f'  "{name}" -> "{word(thing)}";']
+        return lines
+
+    @staticmethod
+    def slot_lines(slot, name, target, style):
+        lines = [f'  "slot {slot}" [shape=ellipse label="{slot} {name}"];']
+        return lines + ([f'  "slot {slot}" -> "{word(target)}" [style={style}];'] if target else [])
+
+
+def word(has):
+    """An object, a slot, a strength, a count or nothing as a word of a table."""
+    if isinstance(has, Thing):
+        return "{}.{}".format(*has.identity)
+    return "-" if has is None else str(has)
+
+
+def total(rows):
+    return [str(sum(int(row[column]) for row in rows)) for column in range(1, len(rows[0]))]
+
+
+def ranges(numbers):
+    """Numbers that rise as ranges with commas between them."""
+    found = []
+    for number in numbers:
+        if found and found[-1][1] + 1 == number:
+            found[-1][1] = number
+        else:
+            found.append([number, number])
+    return ",".join(f"{low}-{high}" if high > low else str(low) for low, high in found) or "-"
 
 
 def commands(chance):

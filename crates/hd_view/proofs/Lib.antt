@@ -14,3 +14,5 @@ pub mod ReplyWords
 pub mod DueCauses
 pub mod RowCauses
 pub mod WhyClaims
+mod LinesBefore
+mod ShownClaims

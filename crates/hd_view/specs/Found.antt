@@ -1,5 +1,5 @@
 -- What is found in the input of `why`, its cause, and what is written of it.
-use Rattle.std.specs.Prelude.{◌≡◌, ℕ, ◌+◌, ◌≤◌, ◌⊎◌, List, [], ◌∷◌, ◌++◌, codes, decimal, drop, take, length, ◌↔◌}
+use Rattle.std.specs.Prelude.{◌≡◌, ℕ, ◌+◌, ◌≤◌, ◌⊎◌, List, [], ◌∷◌, ◌++◌, codes, decimal, drop, take, ◌↔◌}
 use Rattle.hd_io.specs.declared.source.ReadFault.{ReadFault}
 use Rattle.hd_io.specs.declared.source.ReadFault.TheVariants as read_fault
 use Rattle.hd_io.specs.Sink.{SinkView, Took, WriteBrokeOff}

@@ -5,3 +5,6 @@ pub mod Cause
 pub mod WhyText
 pub mod Found
 pub mod Why
+pub mod Script
+pub mod Shown
+pub mod Promise

@@ -1,34 +1,48 @@
-//! What a debugger shows of a run: why a text is none.
+//! What a debugger shows of a run: why a text is none, what there is in a state, why objects live,
+//! and a graph of them.
 #![tactic(auto)]
 
-ghost use Rattle.hd_view.specs.Why.{WhyPromise};
+ghost use Rattle.hd_view.specs.Promise.{Promises};
 
 mod accepted;
 mod cause;
 mod found;
 mod laws;
 mod request;
+mod script;
 mod sets;
+mod shown;
 mod stated;
 mod text;
 mod why;
 mod why_text;
 
 use crate::request::Task;
+use crate::shown::{show, show_graph, show_paths};
 use crate::why::explain;
 use hd_io::{Sink, Source};
 pub use laws::{full_lines_state_parts, named_lines_may_come};
 pub use request::{Request, read_request};
 use std::alloc::Global;
 
-/// Does what a request asks for: what is shown goes to `out`. Returns the status: 0 where all was
+/// Does what a request asks for: what is shown goes to `out`, and why a script cannot be read to
+/// `errors`, where what becomes of a write changes nothing. Returns the status: 0 where all was
 /// done; 3 where a line has no reading or there are too many bytes; 4 where a read and 5 where a
-/// write failed; 6 where memory ran out; and 7 where the text is that of no run.
-pub fn look<S: Source, K: Sink>(alloc: Global, request: &Request, source: &mut S, out: &mut K) -> u8
-    ensures { WhyPromise request.now.limits (S.seen source.old) (S.seen source.new)
+/// write to `out` failed; 6 where memory ran out; and by `why` 7 where the text is that of no run.
+pub fn look<S: Source, K: Sink, E: Sink>(
+    alloc: Global,
+    request: &Request,
+    source: &mut S,
+    out: &mut K,
+    errors: &mut E,
+) -> u8
+    ensures { Promises request.now.task request.now.limits (S.seen source.old) (S.seen source.new)
         (K.seen out.old) (K.seen out.new) result }
 {
-    match request.task {
+    match &request.task {
         Task::Why => explain(alloc, &request.limits, source, out),
+        Task::Show(line) => show(alloc, &request.limits, *line, source, out, errors),
+        Task::Path(ids) => show_paths(alloc, &request.limits, ids, source, out, errors),
+        Task::Graph(by) => show_graph(alloc, &request.limits, *by, source, out, errors),
     }
 }

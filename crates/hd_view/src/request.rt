@@ -2,13 +2,22 @@
 
 use clap::builder::ValueParser;
 use clap::error::ErrorKind;
-use clap::{Arg, ArgMatches, Command, Error};
-use hd_model::limits::{BLOCKS, HEAP};
+use clap::{Arg, ArgAction, ArgMatches, Command, Error};
+use hd_graph::Clusters;
+use hd_model::Id;
+use hd_model::limits::{BLOCKS, HEAP, MOST_BYTES};
+use hd_path::read_id;
 use std::alloc::{AllocError, Global};
 use std::marker::Model;
 
 // The cells of a heap, at least: those of an object without fields.
-const LEAST_HEAP: u32 = 3;
+pub(crate) const LEAST_HEAP: u32 = 3;
+
+// What `--by` may be.
+static CLUSTERS: [&str; 2] = ["generation", "region"];
+
+// What is wrong with a word that names no object.
+const NO_ID: &str = "an object is named by its caller and its serial, as 0.7";
 
 /// The most cells of a heap, and the blocks of a table.
 #[derive(Drop)]
@@ -19,20 +28,28 @@ pub(crate) struct Limits {
 
 impl Model for Limits {
     ghost use Rattle.std.specs.Prelude.{◌≤◌};
-    ghost use Rattle.hd_model.specs.declared.limits.TheConstants.{BLOCKS};
+    ghost use Rattle.hd_model.specs.declared.limits.TheConstants.{BLOCKS, HEAP};
     ghost use Rattle.hd_run.specs.{Bounds.Bounds};
+    ghost use Rattle.hd_view.specs.declared.request.TheConstants.{LEAST_HEAP};
 
     ghost Value = { Bounds };
 
     ghost view = { λ l. record { heap = l.heap; blocks = l.blocks } };
 
-    ghost invariant = { λ l. l.blocks ≤ BLOCKS };
+    ghost invariant = { λ l. ((LEAST_HEAP ≤ l.heap) × (l.heap ≤ HEAP))
+        × ((1 ≤ l.blocks) × (l.blocks ≤ BLOCKS)) };
 }
 
 /// What is to be done.
-#[derive(Clone, Copy, Debug, PartialEq, Eq)]
+#[derive(Drop)]
 pub(crate) enum Task {
     Why,
+    /// The tables of the state before this line of the script, or after the script.
+    Show(Option<u32>),
+    /// A chain to each of these objects.
+    Path(Vec<Id>),
+    /// A graph of all objects and handles.
+    Graph(Clusters),
 }
 
 /// What the words ask for.
@@ -46,41 +63,124 @@ pub struct Request {
 /// and of the version too.
 pub fn read_request(alloc: Global, words: &[String]) -> Result<Request, Error> {
     let matches = command(alloc)?.try_get_matches_from(words)?;
-    match matches.subcommand() {
-        Some((_, found)) => Ok(Request {
-            task: Task::Why,
-            limits: limits_of(found),
-        }),
-        None => {
-            let mut refused = command(alloc)?;
-            Err(refused.error(ErrorKind::MissingSubcommand, "a command is wanted")?)
+    let Some((name, found)) = matches.subcommand() else {
+        return Err(refusal(alloc, ErrorKind::MissingSubcommand, "a command is wanted")?);
+    };
+    let task = match name {
+        "show" => Task::Show(found.get_one::<u32>("line")),
+        "path" => Task::Path(ids_of(alloc, found)?),
+        "graph" => Task::Graph(clusters_of(found)),
+        _ => Task::Why,
+    };
+    Ok(Request {
+        task,
+        limits: limits_of(found),
+    })
+}
+
+// An error that `clap` did not find, with its usage.
+fn refusal(alloc: Global, kind: ErrorKind, message: &str) -> Result<Error, AllocError> {
+    let mut refused = command(alloc)?;
+    refused.error(kind, message)
+}
+
+// By what the objects of a graph are to stand together.
+fn clusters_of(matches: &ArgMatches) -> Clusters {
+    match matches.get_str("by") {
+        Some("generation") => Clusters::Generation,
+        Some("region") => Clusters::Region,
+        Some(_) | None => Clusters::Nothing,
+    }
+}
+
+// The objects that are named.
+fn ids_of(alloc: Global, matches: &ArgMatches) -> Result<Vec<Id>, Error> {
+    let mut ids = Vec::new(alloc);
+    let Some(words) = matches.get_strs("id") else {
+        return Ok(ids);
+    };
+    for word in words {
+        let Some(id) = read_id(word) else {
+            return Err(refusal(alloc, ErrorKind::ValueValidation, NO_ID)?);
+        };
+        if ids.push(id).is_err() {
+            return Err(Error::from(AllocError));
         }
     }
+    Ok(ids)
 }
 
 // The limits of a run. `clap` refuses more than these.
 fn limits_of(matches: &ArgMatches) -> Limits {
     Limits {
-        heap: matches.get_one::<u32>("heap").unwrap_or(HEAP).min(HEAP),
+        heap: matches
+            .get_one::<u32>("heap")
+            .unwrap_or(HEAP)
+            .min(HEAP)
+            .max(LEAST_HEAP),
         blocks: matches
             .get_one::<u32>("blocks")
             .unwrap_or(BLOCKS)
-            .min(BLOCKS),
+            .min(BLOCKS)
+            .max(1),
     }
 }
 
 // The command.
 fn command<'a>(alloc: Global) -> Result<Command<'a>, AllocError> {
     Command::new(alloc, "hdv")
-        .version("0.1.0")
-        .about("Shows a run of hdt: reads an audit's input from standard input")
+        .version("0.2.0")
+        .about("Shows a run of hdt: reads a script, or an audit's input, from standard input")
         .subcommand_required(true)
-        .subcommand(why_command(alloc)?)
+        .subcommand(why_command(alloc)?)?
+        .subcommand(show_command(alloc)?)?
+        .subcommand(path_command(alloc)?)?
+        .subcommand(graph_command(alloc)?)
 }
 
 fn why_command<'a>(alloc: Global) -> Result<Command<'a>, AllocError> {
-    Command::new(alloc, "why")
-        .about("Says why a printed text is that of no run")
+    let why = Command::new(alloc, "why").about("Says why a printed text is that of no run");
+    limited(alloc, why)
+}
+
+fn show_command<'a>(alloc: Global) -> Result<Command<'a>, AllocError> {
+    let line = Arg::new(alloc, "line")
+        .value_name("N")
+        .help("Stop before line N of the script")
+        .value_parser(ValueParser::unsigned(1, u64::from(MOST_BYTES) + 1));
+    let show = Command::new(alloc, "show").about(
+        "Lists handles, blocks, the heap and the registers after a script",
+    );
+    limited(alloc, show.arg(line)?)
+}
+
+fn path_command<'a>(alloc: Global) -> Result<Command<'a>, AllocError> {
+    let ids = Arg::new(alloc, "id")
+        .value_name("ID")
+        .help("An object, as 0.7: the 7th of caller 0")
+        .required(true)
+        .action(ArgAction::Append)
+        .num_args(1..);
+    let path = Command::new(alloc, "path").about(
+        "Says for each object by which chain it is reachable after a script",
+    );
+    limited(alloc, path.arg(ids)?)
+}
+
+fn graph_command<'a>(alloc: Global) -> Result<Command<'a>, AllocError> {
+    let by = Arg::new(alloc, "by")
+        .long("by")
+        .help("Draw the objects of a generation or of a region together")
+        .value_parser(ValueParser::Names(&CLUSTERS));
+    let graph = Command::new(alloc, "graph").about(
+        "Draws objects and handles after a script, in the language of Graphviz",
+    );
+    limited(alloc, graph.arg(by)?)
+}
+
+// A command with the limits of a run.
+fn limited<'a>(alloc: Global, command: Command<'a>) -> Result<Command<'a>, AllocError> {
+    command
         .arg(number(alloc, "heap", "CELLS", LEAST_HEAP, HEAP))?
         .arg(number(alloc, "blocks", "COUNT", 1, BLOCKS))
 }

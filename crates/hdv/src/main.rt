@@ -43,5 +43,6 @@ fn main(rt: HostRuntime) -> ExitCode {
     };
     let mut source = StdSource::over(rt.stdin());
     let mut out = StdSink::over(rt.stdout());
-    ExitCode::from(look(rt.alloc(), &request, &mut source, &mut out))
+    let mut errors = StdSink::over(rt.stderr());
+    ExitCode::from(look(rt.alloc(), &request, &mut source, &mut out, &mut errors))
 }

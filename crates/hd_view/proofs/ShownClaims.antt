@@ -1,0 +1,122 @@
+-- What is promised of a state that is shown.
+use Rattle.std.proofs.Common.{Err, List, Ok, Option, Result, [], ◌∙◌, arith, lit<, refl, subst, sym, ℕ, ◌≡◌}
+use Rattle.std.specs.Prelude.{IfErr}
+use Rattle.std.specs.Result.{IsErr, IsErrAnd}
+use mathlib.Core.Logic.{inl, inr}
+use Rattle.hd_io.specs.Counts.{Rose}
+use Rattle.hd_io.specs.Sink.{SinkView, Took, WriteBrokeOff}
+use Rattle.hd_io.specs.Source.{SourceView}
+use Rattle.hd_model.proofs.{StepChains.run_from_solo, WellFormedSteps.run_is_well_formed}
+use Rattle.hd_model.specs.declared.data.Id.{Id}
+use Rattle.hd_model.specs.Places.{with_places}
+use Rattle.hd_model.specs.State.{State}
+use Rattle.hd_model.specs.WellFormed.{IsWellFormed}
+use Rattle.hd_path.specs.Paths.{ArePathTexts, IsPictureOf, WritesPaths}
+use Rattle.hd_run.specs.Bounds.{Bounds, numbers_for}
+use Rattle.hd_seen.specs.Seen.{Picture, picture}
+use Rattle.hd_snapshot.specs.Taken.{picture_of}
+use Rattle.hd_store.specs.Store.{Machine}
+use Rattle.hd_world.specs.World.{WorldView}
+use Rattle.hd_view.specs.Found.{fault_status}
+use Rattle.hd_view.specs.Script.{RanTo, StopsBy}
+use Rattle.hd_view.specs.Shown.{ShowPromise, picture_in}
+use Rattle.hd_view.specs.declared.found.Fault.{Fault}
+use Rattle.hd_view.specs.declared.found.Fault.TheVariants.{BadLine, NoMemory, OverSize, Unread}
+
+module _ (Shows : WorldView → List ℕ → Type 0) (b : Bounds) (line : Option ℕ) (old new : SourceView)
+    (before after : SinkView) where
+  abbrev Promised : ℕ → Type 0
+  Promised status = ShowPromise Shows b line old new before after status
+
+  -- a text of the world was written whole
+  pub written : (text : List ℕ) → (w : WorldView) × RanTo b line old new w × Shows w text
+      → Took before after text → Promised 0
+  written text world took = record {
+    shown = λ is. (world.0, world.1, (text, world.2, took));
+    script = λ is. absurd (omega (arith, is));
+    read = λ is. absurd (omega (arith, is));
+    write = λ is. absurd (omega (arith, is));
+    memory = λ is. absurd (omega (arith, is));
+    statuses = (0, lit< tt, refl);
+  }
+
+  -- a write failed
+  pub broke_off : (text : List ℕ) → WriteBrokeOff before after text → Promised 5
+  broke_off text broke = record {
+    shown = λ is. absurd (omega (arith, is));
+    script = λ is. absurd (omega (arith, is));
+    read = λ is. absurd (omega (arith, is));
+    write = λ is. subst (λ n. Rose n after.faults) broke.took.unfailed broke.failed.rose;
+    memory = λ is. absurd (omega (arith, is));
+    statuses = (3, lit< tt, refl);
+  }
+
+  -- nothing was written, since there is no world
+  pub stopped : (fault : Fault) → StopsBy line old new fault → after ≡ before → Promised (fault_status fault)
+  stopped Unread why same = record {
+    shown = λ is. absurd (omega (arith, is));
+    script = λ is. absurd (omega (arith, is));
+    read = λ is. (subst (λ n. Rose n new.faults) why.gave.gave.unfailed why.failed.rose, same);
+    write = λ is. absurd (omega (arith, is));
+    memory = λ is. absurd (omega (arith, is));
+    statuses = (2, lit< tt, refl);
+  }
+  stopped OverSize why same = record {
+    shown = λ is. absurd (omega (arith, is));
+    script = λ is. (inl why, same);
+    read = λ is. absurd (omega (arith, is));
+    write = λ is. absurd (omega (arith, is));
+    memory = λ is. absurd (omega (arith, is));
+    statuses = (1, lit< tt, refl);
+  }
+  stopped (BadLine bad) why same = record {
+    shown = λ is. absurd (omega (arith, is));
+    script = λ is. (inr (bad, why), same);
+    read = λ is. absurd (omega (arith, is));
+    write = λ is. absurd (omega (arith, is));
+    memory = λ is. absurd (omega (arith, is));
+    statuses = (1, lit< tt, refl);
+  }
+  stopped NoMemory why same = record {
+    shown = λ is. absurd (omega (arith, is));
+    script = λ is. absurd (omega (arith, is));
+    read = λ is. absurd (omega (arith, is));
+    write = λ is. absurd (omega (arith, is));
+    memory = λ is. same;
+    statuses = (4, lit< tt, refl);
+  }
+
+-- what is seen of a world's store is what is seen of the world: pinned addresses are not seen
+pub seen_of : (m : Machine) (w : WorldView) → m.numbers ≡ w.numbers
+    → with_places m.state w.state.places ≡ w.state → m.ages ≡ w.ages → m.heap ≡ w.heap → m.table ≡ w.table
+    → picture_of m ≡ picture_in w
+seen_of m w numbers state ages heap table =
+    λ i. picture (numbers i) (state i) (ages i) (heap i) (table i)
+
+module _ {b : Bounds} {line : Option ℕ} {old new : SourceView} {w : WorldView}
+    (ran : RanTo b line old new w) where
+  -- memory ran out after the script was run
+  pub ran_out : StopsBy line old new NoMemory
+  ran_out = record { bytes = ran.bytes; gave = ran.read.all.gave; count = ran.read.within }
+
+  pub not_seen : {T : Type 0} (r : Result T Fault) (f : Fault) → IsErr r × IsErrAnd r (λ e. e ≡ f)
+      → f ≡ NoMemory → IfErr r (StopsBy line old new)
+  not_seen (Ok seen) f is none = tt
+  not_seen (Err e) f is none = subst (StopsBy line old new) (sym (is.1 ∙ none)) ran_out
+
+  -- the state of the world is one of a run
+  pub pictured : {p : Picture} → p ≡ picture_in w → IsPictureOf p w.state
+  pictured sees = let n = numbers_for b ran.lists in record {
+    numbers = w.numbers;
+    ages = w.ages;
+    heap = w.heap;
+    table = w.table;
+    well_formed = subst (λ n. IsWellFormed n w.state) (sym ran.ran.numbers)
+        (run_is_well_formed n w.journal w.state (run_from_solo n w.journal w.state ran.ran.run));
+    shows = sees;
+  }
+
+-- chains that are appended to an empty text are the text
+pub whole_chains : (s : State) (ids : List Id) (text : List ℕ) → WritesPaths s ids [] text
+    → ArePathTexts s ids text
+whole_chains s ids text made = subst (ArePathTexts s ids) (sym made.1) made.2

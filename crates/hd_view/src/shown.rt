@@ -1,0 +1,164 @@
+// The state to which a script leads, shown as a text.
+ghost use Rattle.std.specs.Prelude.{◌≡◌, None, IfErr, IfOk};
+ghost use Rattle.hd_seen.specs.Seen.{view_seen};
+ghost use Rattle.hd_view.specs.declared.found.Fault.TheVariants.{NoMemory};
+ghost use Rattle.hd_view.specs.Script.{RanTo, StopsBy};
+ghost use Rattle.hd_view.specs.Shown.{AreChains, AreTables, IsGraph, ShowPromise, picture_in};
+ghost use Rattle.hd_world.specs.World.{WorldView};
+
+use crate::found::Fault;
+use crate::request::Limits;
+use crate::script::world_of;
+use hd_graph::{Clusters, push_graph};
+use hd_io::{Failed, Sink, Source, write_all};
+use hd_model::{Id, Memory};
+use hd_path::push_paths;
+use hd_seen::Snapshot;
+use hd_show::show_text;
+use hd_snapshot::snapshot;
+use hd_world::World;
+use std::alloc::Global;
+
+// The status where not all was written.
+const UNWRITTEN: u8 = 5;
+
+/// Writes the tables of the state to which the script of a source leads, or its lines before
+/// `line`.
+pub(crate) fn show<S: Source, K: Sink, E: Sink>(
+    alloc: Global,
+    limits: &Limits,
+    line: Option<u32>,
+    source: &mut S,
+    out: &mut K,
+    errors: &mut E,
+) -> u8
+    ensures { ShowPromise AreTables limits.now line (S.seen source.old) (S.seen source.new)
+        (K.seen out.old) (K.seen out.new) result }
+{
+    match tables_of(alloc, limits, line, source, errors) {
+        Ok(text) => match write_all(out, &text) {
+            Ok(()) => 0,
+            Err(Failed) => UNWRITTEN,
+        },
+        Err(fault) => fault.status(),
+    }
+}
+
+/// Writes for each object the least of the shortest chains to it, in the state to which the script
+/// of a source leads.
+pub(crate) fn show_paths<S: Source, K: Sink, E: Sink>(
+    alloc: Global,
+    limits: &Limits,
+    ids: &[Id],
+    source: &mut S,
+    out: &mut K,
+    errors: &mut E,
+) -> u8
+    ensures { ShowPromise (AreChains ids.now) limits.now None (S.seen source.old)
+        (S.seen source.new) (K.seen out.old) (K.seen out.new) result }
+{
+    match chains_of(alloc, limits, ids, source, errors) {
+        Ok(text) => match write_all(out, &text) {
+            Ok(()) => 0,
+            Err(Failed) => UNWRITTEN,
+        },
+        Err(fault) => fault.status(),
+    }
+}
+
+/// Writes the graph of the state to which the script of a source leads.
+pub(crate) fn show_graph<S: Source, K: Sink, E: Sink>(
+    alloc: Global,
+    limits: &Limits,
+    clusters: Clusters,
+    source: &mut S,
+    out: &mut K,
+    errors: &mut E,
+) -> u8
+    ensures { ShowPromise (IsGraph clusters) limits.now None (S.seen source.old)
+        (S.seen source.new) (K.seen out.old) (K.seen out.new) result }
+{
+    match graph_of(alloc, limits, clusters, source, errors) {
+        Ok(text) => match write_all(out, &text) {
+            Ok(()) => 0,
+            Err(Failed) => UNWRITTEN,
+        },
+        Err(fault) => fault.status(),
+    }
+}
+
+// The tables.
+fn tables_of<S: Source, E: Sink>(
+    alloc: Global,
+    limits: &Limits,
+    line: Option<u32>,
+    source: &mut S,
+    errors: &mut E,
+) -> Result<Vec<u8>, Fault>
+    ensures shown { IfOk result (λ text. (w : WorldView)
+        × RanTo limits.now line (S.seen source.old) (S.seen source.new) w
+        × AreTables w text.items) }
+    ensures stopped { IfErr result (StopsBy line (S.seen source.old) (S.seen source.new)) }
+{
+    let world = world_of(alloc, limits, line, source, errors)?;
+    let seen = seen_in(alloc, &world)?;
+    match show_text(alloc, &seen) {
+        Ok(text) => Ok(text),
+        Err(Memory) => Err(Fault::NoMemory),
+    }
+}
+
+// The chains.
+fn chains_of<S: Source, E: Sink>(
+    alloc: Global,
+    limits: &Limits,
+    ids: &[Id],
+    source: &mut S,
+    errors: &mut E,
+) -> Result<Vec<u8>, Fault>
+    ensures shown { IfOk result (λ text. (w : WorldView)
+        × RanTo limits.now None (S.seen source.old) (S.seen source.new) w
+        × AreChains ids.now w text.items) }
+    ensures stopped { IfErr result (StopsBy None (S.seen source.old) (S.seen source.new)) }
+{
+    let world = world_of(alloc, limits, None, source, errors)?;
+    let seen = seen_in(alloc, &world)?;
+    let mut text = Vec::new(alloc);
+    match push_paths(alloc, &mut text, &seen, ids) {
+        Ok(()) => Ok(text),
+        Err(Memory) => Err(Fault::NoMemory),
+    }
+}
+
+// The graph.
+fn graph_of<S: Source, E: Sink>(
+    alloc: Global,
+    limits: &Limits,
+    clusters: Clusters,
+    source: &mut S,
+    errors: &mut E,
+) -> Result<Vec<u8>, Fault>
+    ensures shown { IfOk result (λ text. (w : WorldView)
+        × RanTo limits.now None (S.seen source.old) (S.seen source.new) w
+        × IsGraph clusters w text.items) }
+    ensures stopped { IfErr result (StopsBy None (S.seen source.old) (S.seen source.new)) }
+{
+    let world = world_of(alloc, limits, None, source, errors)?;
+    let seen = seen_in(alloc, &world)?;
+    let mut text = Vec::new(alloc);
+    match push_graph(alloc, &mut text, &seen, clusters) {
+        Ok(()) => Ok(text),
+        Err(Memory) => Err(Fault::NoMemory),
+    }
+}
+
+// What is seen of a world.
+fn seen_in(alloc: Global, world: &World) -> Result<Snapshot, Fault>
+    ensures seen { IfOk result (λ seen. view_seen seen ≡ picture_in world.now) }
+    ensures memory { IfErr result (λ fault. fault ≡ NoMemory) }
+{
+    match snapshot(alloc, world.store()) {
+        Ok(seen) => Ok(seen),
+        Err(Memory) => Err(Fault::NoMemory),
+    }
+}
