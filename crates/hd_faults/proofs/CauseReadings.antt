@@ -1,5 +1,5 @@
 -- Words have no cause exactly where they have a reading.
-use Rattle.hd_script.proofs.Basics.{Cmd, List, None, Option, [], ap, bytes_eq, caller, codes, command, false, is_none, is_some, option_map, refl, sym, ℕ, ◌-◌, ◌∷◌, ◌≡◌, ◌∙◌}
+use Rattle.hd_script.proofs.Basics.{Cmd, List, None, Option, [], ap, bytes_eq, caller, codes, command, false, is_none, is_some, option_map, refl, sym, ℕ, ◌∷◌, ◌≡◌, ◌∙◌}
 use Rattle.std.specs.Prelude.{slice_index_or}
 use Rattle.hd_model.specs.Grammar.{reading_of, two_words, three_words, three_on_objects, three_on_handles, four_words, five_words}
 use Rattle.hd_faults.specs.Causes.{cause_by, cause_of, form_of, on_objects, on_collections, on_handles}

@@ -1,13 +1,10 @@
 -- The cause of words, step by step, and the place of the word at fault.
-use Rattle.hd_script.proofs.Basics.{Bool, List, None, Option, Some, [], ap, arith, cond, cond-false, cond-true, drop, drop_more, false, get_or, is_none, length, length-drop, length-map, option_map, refl, suc, sym, true, ℕ, ◌+◌, ◌<◌, ◌∙◌, ◌∷◌, ◌≡◌}
+use Rattle.hd_script.proofs.Basics.{List, None, Option, Some, [], ap, arith, cond, cond-false, cond-true, drop, drop_more, false, get_or, is_none, length, length-drop, length-map, option_map, refl, suc, sym, true, ℕ, ◌+◌, ◌<◌, ◌∙◌, ◌∷◌, ◌≡◌}
 use Rattle.std.specs.Prelude.{slice_get, slice_index_or}
 use Rattle.std.proofs.lemmas.Option.{slice_get-get_or}
-use Rattle.hd_model.specs.Grammar.{words_of}
 use Rattle.hd_faults.specs.Causes.{cause_by, cause_of, fits, form_of, is_other_count, operand_cause}
-use Rattle.hd_faults.specs.Faults.{IsPlacedIn}
 use Rattle.hd_faults.specs.Forms.{Takes}
 use Rattle.hd_faults.specs.Placed.{bytes_of}
-use Rattle.hd_faults.specs.declared.fault.Cause.{Cause}
 use Rattle.hd_faults.specs.declared.fault.Cause.TheVariants as cause
 use Rattle.hd_faults.specs.declared.operand.Operand.{Operand}
 

@@ -1,8 +1,8 @@
 -- The next word of bytes, and what is left after it.
-use Rattle.hd_script.proofs.Basics.{Bool, List, [], ap, append-nil, arith, cond, cond-false, cond-true, drop, drop_all, drop_more, false, filter, fails_before_first, get_or, is_blank, length, lt-ltb, ltb, map, passes_at_first, position_or_len, refl, slice_split, starts_blank, subst, suc, sym, take, take_all, true, ℕ, ⊎_elim, cases_lt, ◌++◌, ◌+◌, ◌<◌, ◌∙◌, ◌∷◌, ◌≡◌, ◌≢◌, ◌≤◌}
+use Rattle.hd_script.proofs.Basics.{Bool, List, [], ap, arith, cond, cond-true, drop, drop_all, drop_more, false, filter, fails_before_first, get_or, is_blank, length, lt-ltb, ltb, passes_at_first, position_or_len, refl, slice_split, starts_blank, subst, sym, take, take_all, true, ℕ, ⊎_elim, cases_lt, ◌++◌, ◌+◌, ◌<◌, ◌∙◌, ◌∷◌, ◌≡◌, ◌≤◌}
 use Rattle.std.proofs.lemmas.List.Splits.{slice_split_first, slice_split_none, slice_split-cons_yes}
 use Rattle.std.proofs.Common.{All, None, Option, Some, not, position}
-use Rattle.std.proofs.lemmas.Bool.{false_from_ne_true, ltb-false, ltb-true}
+use Rattle.std.proofs.lemmas.Bool.{false_from_ne_true, ltb-false}
 use Rattle.std.proofs.lemmas.List.{length-take-le}
 use Rattle.std.proofs.lemmas.List.Sums.{prefix_len-le-length}
 use Rattle.std.proofs.lemmas.Option.{cond_some}

@@ -1,5 +1,5 @@
 -- What may have been meant by a word: the nearest of some names.
-use Rattle.std.specs.Prelude.{ℕ, ◌+◌, ◌/◌, max, nat_lt, nat_eq, if◌then◌else◌, List, [], ◌∷◌, length, codes, Option, Some, None}
+use Rattle.std.specs.Prelude.{ℕ, ◌+◌, ◌/◌, nat_lt, nat_eq, if◌then◌else◌, List, [], ◌∷◌, length, codes, Option, Some, None}
 use Rattle.strsim.specs.Edits.{levenshtein_row}
 use Rattle.hd_faults.specs.declared.fault.Cause.{Cause}
 use Rattle.hd_faults.specs.declared.fault.Cause.TheVariants as cause

@@ -24,7 +24,7 @@ pub enum Unread {
 const LONGEST_WORD: usize = 40;
 
 /// Appends why a line is at fault, by its number from 1: the line and the column, the cause, and
-/// what may have been meant.
+/// what may have been meant. Where memory runs out, the text is not to be used.
 pub fn push_fault(
     alloc: Global,
     text: &mut Vec<u8>,
@@ -40,7 +40,7 @@ pub fn push_fault(
     }
 }
 
-/// Appends why an input was not read.
+/// Appends why an input was not read. Where memory runs out, the text is not to be used.
 pub fn push_unread(text: &mut Vec<u8>, unread: Unread) -> Result<(), Memory>
     ensures { IfOk result (λ _. text.new.items ≡ text.old.items ++ texts.unread_text unread) }
 {

@@ -1,15 +1,14 @@
 // The first fault of a script.
-ghost use Rattle.std.specs.Prelude.{◌≡◌, if◌then◌else◌, ◌+◌, ◌<◌, ◌≤◌, ◌∷◌, None, is_some, length, position, MatchOption, IfSome};
+ghost use Rattle.std.specs.Prelude.{◌≡◌, ◌+◌, ◌<◌, ◌≤◌, [], None, Some, length, option_map, position, MatchOption, IfNone, IfSome};
 ghost use Rattle.std.specs.List.{before_first};
 ghost use Rattle.hd_model.specs.Grammar.{first_fault, is_line_end, readings_of, words_of};
-ghost use Rattle.hd_script.specs.Words.{line_after};
-ghost use Rattle.hd_faults.specs.Placed.{placed_words, words_from};
-ghost use Rattle.hd_faults.specs.ScriptFaults.{FaultOf, IsFirstFault, names_command};
+ghost use Rattle.hd_script.specs.Said.{seen};
+ghost use Rattle.hd_faults.specs.ScriptFaults.{FaultOf, IsFirstFault, IsOneTooMany, count_after, is_at_fault};
 
 use crate::fault::{Cause, LineFault, command_fault, fault_of_line};
-use crate::operand::spells;
-use crate::words::{Found, content, next_word};
+use crate::words::{content, next_word};
 use hd_model::limits::{MOST_BYTES, MOST_COMMANDS};
+use hd_script::{Reading, read_line};
 
 /// The first line of a script of at most 8,388,608 bytes that has no reading or is one command too
 /// many, by its number from 1, and its fault.
@@ -23,61 +22,77 @@ pub fn find_fault(bytes: &[u8]) -> Option<(u32, LineFault<'_>)>
     let mut commands = 0;
     'lines: while !rest.is_empty() {
         let line = first_line(rest);
-        if let Some(fault) = fault_at(line, commands) {
-            return Some((number + 1, fault));
+        let Some((reading, after)) = read_line(rest) else {
+            return numbered(number + 1, fault_of_line(line));
+        };
+        if is_at_fault(reading, commands) {
+            return numbered(number + 1, one_too_many(line));
         }
         number += 1;
-        commands = count_after(line, commands);
-        rest = after_line(rest);
+        commands = count_after(reading, commands);
+        rest = after;
     }
     None
 }
 
-// The fault of a line with some commands before it.
-fn fault_at(line: &[u8], commands: u32) -> Option<LineFault<'_>>
-    requires { length line.now ≤ MOST_BYTES }
-    ensures { FaultOf commands line.now result }
+/// The fault of the first line of bytes, where so many commands come before it: why it has no
+/// reading, or that it is one command too many.
+pub fn first_line_fault(bytes: &[u8], commands: u32) -> Option<LineFault<'_>>
+    requires { length bytes.now ≤ MOST_BYTES }
+    ensures { FaultOf commands (before_first is_line_end bytes.now) result }
 {
-    if let Some(fault) = fault_of_line(line) {
-        return Some(fault);
-    }
-    if commands < MOST_COMMANDS {
-        return None;
-    }
-    let Some(first) = command_of(line) else {
-        return None;
+    let line = first_line(bytes);
+    let Some((reading, _rest)) = read_line(bytes) else {
+        return fault_of_line(line);
     };
-    Some(command_fault(&first, Cause::TooMany))
+    if is_at_fault(reading, commands) {
+        return one_too_many(line);
+    }
+    None
+}
+
+// A fault with the number of its line.
+fn numbered(number: u32, fault: Option<LineFault<'_>>) -> Option<(u32, LineFault<'_>)>
+    ensures { result ≡ option_map (λ found. (number, found)) fault.entry }
+{
+    match fault {
+        Some(found) => Some((number, found)),
+        None => None,
+    }
+}
+
+// Whether a line is one command too many behind some commands.
+fn is_at_fault(reading: Reading, commands: u32) -> bool
+    ensures { result ≡ is_at_fault commands (Some (seen reading)) }
+{
+    match reading {
+        Reading::Command(_) => !(commands < MOST_COMMANDS),
+        Reading::Blank | Reading::Caller(_) => false,
+    }
 }
 
 // How many commands there are after a line, with some before it.
-fn count_after(line: &[u8], commands: u32) -> u32
-    requires line { length line.now ≤ MOST_BYTES }
-    requires commands { commands ≤ MOST_BYTES }
-    ensures count { result ≡ if names_command (words_of line.now) then commands + 1 else commands }
+fn count_after(reading: Reading, commands: u32) -> u32
+    requires { commands ≤ MOST_BYTES }
+    ensures count { result ≡ count_after commands (Some (seen reading)) }
     ensures most { result ≤ commands + 1 }
 {
-    if command_of(line).is_some() {
-        commands + 1
-    } else {
-        commands
+    match reading {
+        Reading::Command(_) => commands + 1,
+        Reading::Blank | Reading::Caller(_) => commands,
     }
 }
 
-// The first word of a line that is a command, if it has a reading.
-fn command_of(line: &[u8]) -> Option<Found<'_>>
+// That a line is one command too many, if it has a word.
+fn one_too_many(line: &[u8]) -> Option<LineFault<'_>>
     requires { length line.now ≤ MOST_BYTES }
-    ensures command { is_some result ≡ names_command (words_of line.now) }
-    ensures word { IfSome result (λ found. placed_words line.now
-        ≡ (found.column, found.word.now) ∷ words_from found.end found.rest.now) }
+    ensures some { IfSome result (IsOneTooMany line.now) }
+    ensures none { IfNone result (words_of line.now ≡ []) }
 {
     let Some(first) = next_word(content(line), 1) else {
         return None;
     };
-    if spells(first.word, "caller") {
-        return None;
-    }
-    Some(first)
+    Some(command_fault(&first, Cause::TooMany))
 }
 
 // The first line, without its end.
@@ -88,16 +103,6 @@ fn first_line(bytes: &[u8]) -> &[u8]
     match line_end(bytes) {
         Some(end) => &bytes[..end],
         None => bytes,
-    }
-}
-
-// The bytes after the first line and its end.
-fn after_line(bytes: &[u8]) -> &[u8]
-    ensures { result.now ≡ line_after bytes.now }
-{
-    match line_end(bytes) {
-        Some(end) => &bytes[end + 1..],
-        None => &bytes[bytes.len()..],
     }
 }
 

@@ -1,4 +1,4 @@
-use Rattle.hd_script.proofs.Basics.{ap, arith, sym, take, take_all, ◌∙◌}
+use Rattle.hd_script.proofs.Basics.{ap, arith, sym, take, take_all}
 use Rattle.hd_model.specs.Grammar.{is_line_end}
 use Rattle.hd_faults.proofs.PlacedWords.{found, missing}
 use Rattle.hd_faults.proofs.script.first_line.Goals as goal
