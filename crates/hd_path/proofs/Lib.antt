@@ -12,6 +12,7 @@ pub mod ChainLines
 pub mod SeenStates
 pub mod FlatMembers
 pub mod StateGraphs
+pub mod SourceLinks
 pub mod StateNames
 pub mod StatePaths
 pub mod SearchParts

@@ -5,12 +5,13 @@ use Rattle.std.proofs.lemmas.Bool.{cases_lt}
 use Rattle.std.proofs.lemmas.List.{get_or-map, get_or_append_left, get_or_default, get_or_past, get_or_push, length-map, length_push}
 use Rattle.std.proofs.lemmas.List.Elements.{All-contains, Contains-get_or}
 use Rattle.std.proofs.lemmas.List.Sorted.{All-permutation, Contains-permutation, IsPermutation-sym}
-use Rattle.hd_path.specs.Pairs.{ArePlaces, AreRowsOf, IsCut}
+use Rattle.hd_path.specs.Cuts.{IsCut}
+use Rattle.hd_path.specs.Pairs.{ArePlaces, AreRowsOf, node_of}
 use Rattle.hd_path.specs.Rows.{AreRows, LeadsTo}
 
 -- a place more
 module _ (pairs : List (ℕ × ℕ)) (places after : List ℕ) (node place : ℕ) (count : length places ≡ node)
-    (cuts : (x : ℕ) → x < node → IsCut pairs x (slice_index places x))
+    (cuts : (x : ℕ) → x < node → IsCut node_of pairs x (slice_index places x))
     (pushed : after ≡ places ++ place ∷ []) where
   pub more_count : length after ≡ node + 1
   more_count = ap length pushed ∙ length_push places place ∙ ap (λ n. n + 1) count
@@ -22,16 +23,17 @@ module _ (pairs : List (ℕ × ℕ)) (places after : List ℕ) (node place : ℕ
   pub last_place : slice_index after node ≡ place
   last_place = ap (λ (l : List ℕ). slice_index l node) pushed ∙ get_or_push places place 0 node count
 
-  pub early_cuts : (x : ℕ) → x < node → IsCut pairs x (slice_index after x)
-  early_cuts x low = subst (λ p. IsCut pairs x p) (sym (early x low)) (cuts x low)
+  pub early_cuts : (x : ℕ) → x < node → IsCut node_of pairs x (slice_index after x)
+  early_cuts x low = subst (λ p. IsCut node_of pairs x p) (sym (early x low)) (cuts x low)
 
-  pub more_cuts : IsCut pairs node place → (x : ℕ) → x < node + 1 → IsCut pairs x (slice_index after x)
+  pub more_cuts : IsCut node_of pairs node place → (x : ℕ) → x < node + 1
+      → IsCut node_of pairs x (slice_index after x)
   more_cuts here x low =
       ⊎_elim (λ less. early_cuts x less)
       (λ ge.
       let same : x ≡ node = omega (arith, ge, low) in
-      subst (λ m. IsCut pairs m (slice_index after m)) (sym same)
-      (subst (λ p. IsCut pairs node p) (sym last_place) here)) (cases_lt x node)
+      subst (λ m. IsCut node_of pairs m (slice_index after m)) (sym same)
+      (subst (λ p. IsCut node_of pairs node p) (sym last_place) here)) (cases_lt x node)
 
 module _ (pairs : List (ℕ × ℕ)) (nodes : ℕ) (places targets : List ℕ) (are : ArePlaces pairs nodes places)
     (second : targets ≡ map (λ (p : ℕ × ℕ). p.1) pairs)
@@ -47,13 +49,13 @@ module _ (pairs : List (ℕ × ℕ)) (nodes : ℕ) (places targets : List ℕ) (
       ∙ get_or-map (λ (p : ℕ × ℕ). p.1) pairs k (0, 0) 0 low
 
   -- the cut at any node, the end among them
-  cut : (x : ℕ) → x ≤ nodes → IsCut pairs x (slice_index places x)
+  cut : (x : ℕ) → x ≤ nodes → IsCut node_of pairs x (slice_index places x)
   cut x le =
       ⊎_elim (λ less. are.cuts x less)
       (λ ge.
       let same : x ≡ nodes = omega (arith, ge, le) in
-      subst (λ m. IsCut pairs m (slice_index places m)) (sym same)
-      (subst (λ p. IsCut pairs nodes p) (sym are.end) (record {
+      subst (λ m. IsCut node_of pairs m (slice_index places m)) (sym same)
+      (subst (λ p. IsCut node_of pairs nodes p) (sym are.end) (record {
         within = omega arith;
         low = λ k d low. subst (λ (p : ℕ × ℕ). p.0 < nodes) (get_or_default pairs k (0, 0) d low)
             ((inside (get_or pairs k (0, 0)) (Contains-get_or pairs k (0, 0) low)).0);

@@ -2,9 +2,11 @@
 use Rattle.std.proofs.Common.{Bool, Contains, IsSome, List, None, Option, Some, ap, false, length, map, nat_eq, nat_le, refl, slice_index, subst, sym, true, ℕ, ◌++◌, ◌/◌, ◌%◌, ◌^◌, ◌<◌, ◌∙◌, ◌≡◌, ◌≤◌}
 use Rattle.std.specs.FinMap.{get}
 use Rattle.std.specs.HashMap.{get as lookup}
+use Rattle.std.specs.List.Sorted.{IsPermutation}
 use Rattle.std.specs.Prelude.{codes, decimal}
 use Rattle.std.proofs.lemmas.Bool.{and_from, and_parts, false≢true, le-leb, leb-true}
 use Rattle.std.proofs.lemmas.List.{length-map}
+use Rattle.std.proofs.lemmas.List.Sorted.{Contains-permutation, IsPermutation-sym}
 use Rattle.std.proofs.lemmas.Option.{none-some}
 use Rattle.hd_model.proofs.MapEntries.{none_from}
 use Rattle.hd_model.specs.Anchors.{AnchorOf}
@@ -16,13 +18,13 @@ use Rattle.hd_path.specs.Chains.{HasNoChain, IsLeastChain}
 use Rattle.hd_path.specs.Graphs.{leads_in}
 use Rattle.hd_path.specs.Lines.{anchor_line, path_line}
 use Rattle.hd_path.specs.Links.{links_in}
-use Rattle.hd_path.specs.Names.{AnchorIn}
 use Rattle.hd_path.specs.Paths.{BeginsAt, IsAnchorName, IsEdgeLine, IsPathText, IsPictureOf, LeadsBy, WritesPath, chain, gone, named, unknown, unrooted}
 use Rattle.hd_path.specs.Searches.{IsSearchOf, IsStepLine, WritesChain, made_in, missing_word}
 use Rattle.hd_path.specs.declared.chains.Chain.{Chain}
 use Rattle.hd_path.specs.declared.links.Link.{Link}
 use Rattle.hd_path.specs.declared.paths.Search.{Search}
 use Rattle.hd_path.proofs.NumberedChains.{chain_up, lines_up, none_up}
+use Rattle.hd_path.proofs.SourceLinks.{anchor_same, step_same}
 use Rattle.hd_path.proofs.StateGraphs.{edge_down, edge_up, looked, node_is, node_of, number, number_is, number_rises, start_down, start_up}
 use Rattle.hd_path.proofs.StateNames.{anchor_name, step_line}
 
@@ -84,11 +86,15 @@ module _ (seen : Snapshot) (search : Search) (is : IsSearchOf seen search) (s : 
           (none_up f nodes rises L (LeadsBy s) inside along lift S (BeginsAt s) start lifted node low none)),
     )
 
-    pub is_chain : (c : Chain) (links : List Link) → links ≡ links_in seen.handles.items seen.entries.items
+    pub is_chain : (c : Chain) (links : List Link)
+        → IsPermutation (links_in seen.handles.items seen.entries.items) links
         → IsLeastChain L S node c.first c.rest.items → (old now : List ℕ)
         → WritesChain seen links id c old now
         → WritesPath s id old now
-    is_chain c links same least old now writes =
+    is_chain c links moved least old now writes =
+        let all = links_in seen.handles.items seen.entries.items in
+        let to = λ (l : Link). Contains-permutation links all l (IsPermutation-sym all links moved) in
+        let from = λ (l : Link). Contains-permutation all links l moved in
         let up = chain_up f nodes rises L (LeadsBy s) inside along lift S (BeginsAt s) start lifted node low
         c.first
         c.rest.items least in
@@ -98,15 +104,14 @@ module _ (seen : Snapshot) (search : Search) (is : IsSearchOf seen search) (s : 
         ap named (number_is seen s p look is.index c.first writes.first writes.at) in
         let begins = subst (λ x. AnchorOf s x) first_is ((start c.first least.chain.start).1) in
         let name = anchor_name seen s p writes.first.id writes.name
-        (subst (λ (ls : List Link). AnchorIn seen.statics ls writes.first.id writes.name) same
-        writes.is_name) begins in
+        (anchor_same links all to from seen.statics writes.first.id writes.name writes.is_name) begins in
         let lines = lines_up f L (IsStepLine seen.objects.items links) (IsEdgeLine s) node c.first
         c.rest.items
         writes.lines writes.are_lines least.chain.walk
         (λ i j line leads step.
         step_line seen s p look is.index i j line ((inside i j leads).0) ((inside i j leads).1)
         (along i j leads)
-        (subst (λ (ls : List Link). IsStepLine seen.objects.items ls i j line) same step)) in
+        (step_same links all to from seen.objects.items i j line step)) in
         let made : List ℕ = path_line id (codes "edges " ++ decimal (length (map f c.rest.items)))
         ++ anchor_line writes.name (named (f c.first)) ++ writes.lines in
         let text : now ≡ old ++ made =

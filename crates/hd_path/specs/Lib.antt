@@ -1,9 +1,11 @@
 pub mod Chains
 pub mod Rows
 pub mod Nodes
+pub mod Cuts
 pub mod Pairs
 pub mod Links
 pub mod Names
+pub mod Sources
 pub mod Starts
 pub mod Graphs
 pub mod Lines

@@ -1,20 +1,15 @@
 -- Rows that have given pairs of a node and a target.
-use Rattle.std.specs.Prelude.{◌≡◌, ℕ, ◌+◌, ◌<◌, ◌≤◌, List, length, slice_index, slice_index_or, Contains}
+use Rattle.std.specs.Prelude.{◌≡◌, ℕ, ◌+◌, ◌<◌, List, length, slice_index, Contains}
+use Rattle.hd_path.specs.Cuts.{IsCut}
 use Rattle.hd_path.specs.Rows.{AreRows, LeadsTo}
 
 abbrev pub node_of : ℕ × ℕ → ℕ
 node_of p = p.0
 
--- the pairs before a place are those of lower nodes
-pub record IsCut (pairs : List (ℕ × ℕ)) (node place : ℕ) : Type 0 where
-  pub within : place ≤ length pairs
-  pub low : (k : ℕ) (d : ℕ × ℕ) → k < place → node_of (slice_index_or pairs k d) < node
-  pub high : (k : ℕ) (d : ℕ × ℕ) → place ≤ k → k < length pairs → node ≤ node_of (slice_index_or pairs k d)
-
 -- each node's row begins where the pairs of lower nodes end, and the last one ends with the pairs
 pub record ArePlaces (pairs : List (ℕ × ℕ)) (nodes : ℕ) (places : List ℕ) : Type 0 where
   pub count : length places ≡ nodes + 1
-  pub cuts : (x : ℕ) → x < nodes → IsCut pairs x (slice_index places x)
+  pub cuts : (x : ℕ) → x < nodes → IsCut node_of pairs x (slice_index places x)
   pub end : slice_index places nodes ≡ length pairs
 
 -- rows of this many nodes, which have exactly these pairs

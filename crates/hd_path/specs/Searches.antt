@@ -1,6 +1,7 @@
 -- What is looked up of a snapshot, and what is written of its objects.
 use Rattle.std.specs.Prelude.{◌≡◌, ℕ, ◌/◌, ◌%◌, ◌^◌, ◌⊎◌, ◌&&◌, nat_eq, nat_le, Bool, true, false, List, ◌++◌, codes, decimal, length, map, slice_get, slice_index, Some}
 use Rattle.std.specs.HashMap.{get}
+use Rattle.std.specs.List.Sorted.{IsNonDecreasingBy, IsPermutation}
 use Rattle.hd_model.specs.declared.data.Id.{Id}
 use Rattle.hd_seen.specs.declared.SeenObject.{SeenObject}
 use Rattle.hd_seen.specs.declared.Snapshot.{Snapshot}
@@ -9,6 +10,7 @@ use Rattle.hd_path.specs.Lines.{AreLines, anchor_line, edge_line, path_line}
 use Rattle.hd_path.specs.Links.{edges_in, links_in, starts_in}
 use Rattle.hd_path.specs.Names.{AnchorIn, EdgeIn, LinksToNone, NoPlace}
 use Rattle.hd_path.specs.Nodes.{IsIndexTo}
+use Rattle.hd_path.specs.Sources.{source_number}
 use Rattle.hd_path.specs.declared.chains.Chain.{Chain}
 use Rattle.hd_path.specs.declared.links.Link.{Link}
 use Rattle.hd_path.specs.declared.names.Anchor.{Anchor}
@@ -19,10 +21,11 @@ use Rattle.hd_path.specs.declared.paths.Search.{Search}
 abbrev pub ids_in : List SeenObject → List ℕ
 ids_in objects = map (λ (o : SeenObject). o.id.0) objects
 
--- the index, the links and the graph of a snapshot
+-- the index, the links in the order of their sources, and the graph of a snapshot
 pub record IsSearchOf (seen : Snapshot) (search : Search) : Type 0 where
   pub index : IsIndexTo (ids_in seen.objects.items) (get nat_eq search.index) (length seen.objects.items)
-  pub links : search.links.items ≡ links_in seen.handles.items seen.entries.items
+  pub links : IsPermutation (links_in seen.handles.items seen.entries.items) search.links.items
+  pub rising : IsNonDecreasingBy source_number search.links.items
   pub graph : IsGraph (length seen.objects.items)
       (edges_in (get nat_eq search.index) seen.objects.items (links_in seen.handles.items seen.entries.items))
       (starts_in (get nat_eq search.index) seen.statics seen.queue.items

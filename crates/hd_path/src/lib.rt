@@ -10,6 +10,7 @@ mod nodes;
 mod paths;
 mod rows;
 mod search;
+mod sources;
 mod starts;
 #[cfg(test)]
 mod tests;

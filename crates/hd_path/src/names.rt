@@ -1,9 +1,12 @@
 // What makes an object an anchor, and by what it leads to another.
-ghost use Rattle.std.specs.Prelude.{◌≡◌, MatchOption};
+ghost use Rattle.std.specs.Prelude.{◌≡◌, MatchOption, Some};
+ghost use Rattle.std.specs.List.Sorted.{IsNonDecreasingBy};
 ghost use Rattle.hd_path.specs.Names.{AnchorIn, EdgeIn, IsFirstPlace, LeastOf, LinksToNone};
 ghost use Rattle.hd_path.specs.Names.{NoPlace, is_at, link_edge, links_to, lower_link};
+ghost use Rattle.hd_path.specs.Sources.{source_number};
 
 use crate::links::Link;
+use crate::sources::links_from;
 use hd_model::{Id, Kind, Slot};
 
 /// What makes an object an anchor.
@@ -35,18 +38,28 @@ pub(crate) fn anchor_of(statics: &[Option<Id>], links: &[Link], id: Id) -> Ancho
     }
 }
 
-/// By what an object leads to another: the least field, else the least slot; or by nothing.
+/// By what an object leads to another: the least field, else the least slot; or by nothing. The
+/// links are in the order of their sources.
 pub(crate) fn edge_of(fields: &[Option<Id>], links: &[Link], from: Id, to: Id) -> Option<Edge>
+    requires { IsNonDecreasingBy source_number links.now }
     ensures { MatchOption result (NoPlace fields.now to × LinksToNone links.now from (Some to))
         (EdgeIn fields.now links.now from to) }
 {
     if let Some(i) = first_place(fields, to) {
         return Some(Edge::Field(i));
     }
-    match least_link(links, from, Some(to)) {
+    match least_from(links, from, to) {
         Some(link) => Some(by_link(link)),
         None => None,
     }
+}
+
+// The link of least slot that attaches an object to another, among the links of the first.
+fn least_from(links: &[Link], from: Id, to: Id) -> Option<Link>
+    requires { IsNonDecreasingBy source_number links.now }
+    ensures { LeastOf links.now from (Some to) result }
+{
+    least_link(links_from(links, from), from, Some(to))
 }
 
 // The edge of a link.

@@ -1,17 +1,20 @@
 // Why objects live: for each a chain from an anchor, with all that is on it.
 ghost use Rattle.std.specs.Prelude.{◌≡◌, ℕ, ◌<◌, ◌++◌, All, List, codes, length, IfOk, map};
+ghost use Rattle.std.specs.List.Sorted.{IsNonDecreasingBy};
 ghost use Rattle.hd_model.specs.State.{State};
 ghost use Rattle.hd_seen.specs.Seen.{view_seen};
 ghost use Rattle.hd_path.specs.Lines.{path_line};
 ghost use Rattle.hd_path.specs.Paths.{IsPictureOf, WritesPath, WritesPaths};
 ghost use Rattle.hd_path.specs.Searches.{IsSearchOf, WritesChain, WritesEdge, WritesEdges};
 ghost use Rattle.hd_path.specs.Searches.{ids_in, made_in, missing_word};
+ghost use Rattle.hd_path.specs.Sources.{source_number};
 
 use crate::chains::{Chain, Graph, chain_to, graph_of};
 use crate::edges::{edges_of, starts_of};
 use crate::links::{Link, links_of};
 use crate::names::{anchor_of, edge_of};
 use crate::nodes::{index_of, node_at};
+use crate::sources::sort;
 use crate::text::{push_anchor, push_edge, push_length, push_outcome};
 use hd_model::{Id, Memory};
 use hd_seen::{SeenObject, Snapshot};
@@ -19,7 +22,8 @@ use std::alloc::{AllocError, Global};
 use std::collections::HashMap;
 
 /// Appends for each object the least of the shortest chains to it, by identities, first to last; or
-/// that none leads to it, that it is gone, or that it was never made.
+/// that none leads to it, that it is gone, or that it was never made. Where memory runs out, the
+/// text is not to be used.
 pub fn push_paths(
     alloc: Global,
     text: &mut Vec<u8>,
@@ -66,10 +70,11 @@ fn search_of(alloc: Global, seen: &Snapshot) -> Result<Search, AllocError>
 {
     let ids = ids_of(alloc, &seen.objects)?;
     let index = index_of(alloc, &ids)?;
-    let links = links_of(alloc, &seen.handles, &seen.entries)?;
+    let mut links = links_of(alloc, &seen.handles, &seen.entries)?;
     let edges = edges_of(alloc, &index, &seen.objects, &links)?;
     let starts = starts_of(alloc, &index, &seen.statics, &seen.queue, &links)?;
     let graph = graph_of(alloc, ids.len(), edges, starts)?;
+    sort(&mut links);
     Ok(Search {
         index,
         links,
@@ -139,6 +144,7 @@ fn push_chain(
 ) -> Result<(), AllocError>
     requires first { chain.now.first < length seen.now.objects.items }
     requires rest { All (λ x. x < length seen.now.objects.items) chain.now.rest.items }
+    requires links { IsNonDecreasingBy source_number links.now }
     ensures { IfOk result (λ _. WritesChain seen.now links.now id chain.now text.old.items
         text.new.items) }
 {
@@ -157,6 +163,7 @@ fn push_edges(
 ) -> Result<(), AllocError>
     requires first { chain.now.first < length objects.now }
     requires rest { All (λ x. x < length objects.now) chain.now.rest.items }
+    requires links { IsNonDecreasingBy source_number links.now }
     ensures { IfOk result (λ _. WritesEdges objects.now links.now chain.now.first
         chain.now.rest.items text.old.items text.new.items) }
 {
@@ -179,6 +186,7 @@ fn push_step(
 ) -> Result<(), AllocError>
     requires from { from < length objects.now }
     requires to { to < length objects.now }
+    requires links { IsNonDecreasingBy source_number links.now }
     ensures { IfOk result (λ _. WritesEdge objects.now links.now from to text.old.items
         text.new.items) }
 {

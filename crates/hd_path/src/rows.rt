@@ -1,7 +1,8 @@
 // Rows of targets, one after another, made of pairs.
 ghost use Rattle.std.specs.Prelude.{◌≡◌, ℕ, ◌<◌, ◌≤◌, map, length, slice_index_or, All, IfOk};
 ghost use Rattle.std.specs.List.Sorted.{IsPermutation, IsNonDecreasingBy};
-ghost use Rattle.hd_path.specs.Pairs.{AreRowsOf, ArePlaces, IsCut, node_of};
+ghost use Rattle.hd_path.specs.Cuts.{IsCut};
+ghost use Rattle.hd_path.specs.Pairs.{AreRowsOf, ArePlaces, node_of};
 
 use std::alloc::{AllocError, Global};
 
@@ -63,7 +64,7 @@ fn places_of(
 // How many pairs are those of lower nodes.
 fn first_of(pairs: &[(usize, usize)], node: usize) -> usize
     requires { IsNonDecreasingBy node_of pairs.now }
-    ensures { IsCut pairs.now node result }
+    ensures { IsCut node_of pairs.now node result }
 {
     pairs.partition_point(|pair| pair.0 < node)
 }

@@ -1,4 +1,5 @@
 use Rattle.std.proofs.Common.{All, Contains, List, Option, ap, arith, subst, sym, ℕ, ◌++◌, ◌<◌, ◌∙◌, ◌≡◌}
+use Rattle.std.specs.List.Sorted.{IsNonDecreasingBy, IsPermutation}
 use Rattle.std.specs.Prelude.{codes}
 use Rattle.std.proofs.lemmas.Result.{IfOk-weaker}
 use Rattle.hd_model.specs.State.{State}
@@ -6,9 +7,12 @@ use Rattle.hd_seen.specs.Seen.{view_seen}
 use Rattle.hd_path.specs.Chains.{HasNoChain, IsLeastChain}
 use Rattle.hd_path.specs.Graphs.{IsFoundChain, leads_in}
 use Rattle.hd_path.specs.Lines.{path_line}
+use Rattle.hd_path.specs.Links.{links_in}
 use Rattle.hd_path.specs.Paths.{IsPictureOf, WritesPath}
 use Rattle.hd_path.specs.Searches.{WritesChain, made_in, missing_word}
+use Rattle.hd_path.specs.Sources.{source_number}
 use Rattle.hd_path.specs.declared.chains.Chain.{Chain}
+use Rattle.hd_path.specs.declared.links.Link.{Link}
 use Rattle.hd_path.proofs.GraphChains.{chain_inside}
 use Rattle.hd_path.proofs.StatePaths.{is_chain, is_missing, is_unrooted}
 use Rattle.hd_path.proofs.paths.push_path.Goals as goal
@@ -55,6 +59,11 @@ push_chain-requires-clause-rest c =
     c.in-Some-2.chain.rest.items (least ((goal.at.push_chain-requires-clause-rest c).In-Some-2)) in
     subst (λ n. All (λ x. x < n) c.in-Some-2.chain.rest.items) c.requires.graph.count inside.1
 
+pub push_chain-requires-clause-links : goal.push_chain-requires-clause-links
+push_chain-requires-clause-links c =
+    subst (λ (l : List Link). IsNonDecreasingBy source_number l) (sym c.deref-in-Some-2.ensures.value)
+    c.requires.rising
+
 pub returns-in-Some-2 : goal.returns-in-Some-2
 returns-in-Some-2 c =
     IfOk-weaker c.push_chain.result
@@ -64,7 +73,10 @@ returns-in-Some-2 c =
     → WritesPath s c.args.id c.args.text.now.items c.push_chain.new.text.items)
     (λ _ w s p.
     is_chain c.args.seen.now c.args.search.now c.requires s p c.args.id c.in-Some.node (sym c.in-Some.ensures)
-    c.in-Some-2.chain c.deref-in-Some-2.result.now (c.deref-in-Some-2.ensures.value ∙ c.requires.links)
+    c.in-Some-2.chain c.deref-in-Some-2.result.now
+    (subst (λ (l : List Link).
+    IsPermutation (links_in c.args.seen.now.handles.items c.args.seen.now.entries.items) l)
+    (sym c.deref-in-Some-2.ensures.value) c.requires.links)
     (least ((goal.at.returns-in-Some-2 c).In-Some-2)) c.args.text.now.items c.push_chain.new.text.items w)
     c.push_chain.ensures
 
