@@ -19,7 +19,7 @@ leads_as A B turns (Leads.more {y = y} {z = z} chain edge) = Leads.more (leads_a
     edge)
 
 -- what is marked has a mark
-inside : (marks : List Bool) (i : ℕ) → is_marked marks i ≡ true → i < length marks
+pub inside : (marks : List Bool) (i : ℕ) → is_marked marks i ≡ true → i < length marks
 inside marks i so =
     ⊎_elim (λ low. low) (λ past. absurd (true≢false (sym so ∙ get_or_past marks i false past)))
     (cases_lt i (length marks))

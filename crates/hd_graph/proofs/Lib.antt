@@ -7,3 +7,6 @@ pub mod GraphTexts
 pub mod Pieces
 pub mod KeptMarks
 pub mod PictureNumbers
+pub mod SeenStates
+pub mod StateEdges
+pub mod StateMarks

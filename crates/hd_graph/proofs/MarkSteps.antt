@@ -33,7 +33,8 @@ rises_le ids rise i j le low =
     let same : i ≡ j = omega (arith, ge, le) in
     subst (λ k. get_or ids i 0 ≤ get_or ids k 0) same (omega arith)) (cases_lt i j)
 
-apart : (ids : List ℕ) → Rises ids → (i k : ℕ) → i < length ids → k < length ids → get_or ids i 0 ≡ get_or ids
+-- of numbers that rise, each has one index
+pub apart : (ids : List ℕ) → Rises ids → (i k : ℕ) → i < length ids → k < length ids → get_or ids i 0 ≡ get_or ids
     k 0
     → i ≡ k
 apart ids rise i k low_i low_k e =

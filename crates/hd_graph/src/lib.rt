@@ -19,7 +19,7 @@ mod rows;
 mod text;
 
 use crate::kept::{kept_marks, pinned_marks};
-pub use crate::laws::pictures_rise;
+pub use crate::laws::{grey_is_removed, pictures_rise};
 use crate::marks::numbers_of;
 use crate::objects::{push_labels, push_objects};
 use crate::rows::{push_entries, push_handles, push_queue, push_registers, push_statics};

@@ -6,3 +6,5 @@ mod HeapObjects
 mod Walks
 mod Listings
 mod ShownOnce
+mod FoundAddresses
+mod HeapParts

@@ -1,6 +1,6 @@
 -- The objects of a heap in the order of their identities, as they are seen.
-use Rattle.std.proofs.Common.{AllPairs, Contains, List, None, Option, Some, T, [], ap, arith, get_or, is_some, length, map, refl, sym, true, ℕ, ⊎_elim, ◌&&◌, ◌<◌, ◌==◌, ◌∙◌, ◌∷◌, ◌≡◌, ◌≢◌, ◌≤◌, Bool, IsPermutation, false}
-use Rattle.std.proofs.lemmas.Bool.{eq-eqb, eqb-true, false≢true, lt-ltb}
+use Rattle.std.proofs.Common.{AllPairs, Contains, List, None, Option, Some, T, [], ap, arith, get_or, is_some, length, map, refl, sym, true, ℕ, ◌&&◌, ◌<◌, ◌==◌, ◌∙◌, ◌∷◌, ◌≡◌, ◌≢◌, ◌≤◌, Bool, IsPermutation, false}
+use Rattle.std.proofs.lemmas.Bool.{lt-ltb}
 use Rattle.std.proofs.lemmas.Bool.Decides.{Decides-eqb, Decides-like, same_from_decides}
 use Rattle.std.proofs.lemmas.List.{get_or-map, length-map}
 use Rattle.std.proofs.lemmas.List.Sorted.{Contains-permutation, IsPermutation-map, IsPermutation-sym}
@@ -8,23 +8,22 @@ use Rattle.std.proofs.{lemmas.Map.Keys.IsDistinct-IsPermutation, lemmas.Map.Made
 use Rattle.std.specs.List.Sorted.{IsNonDecreasingBy}
 use Rattle.std.specs.{Cmp.nat_cmp_total, FinMap.Entries.below_all, Ordering.is_lt, Ordering.nat_cmp}
 use Rattle.std.specs.FinMap.{entries, entries-from_sorted, find, from_sorted, get, get-from_sorted, is_sorted, nat_cmp-IsAntisymmetric, same_map}
-use Rattle.std.specs.List.{find as find_in}
-use Rattle.std.specs.Option.{option_map_or}
-use Rattle.hd_model.proofs.MapEntries.{entry_found, entry_of, find_entry, get_entry}
-use Rattle.hd_model.proofs.Members.{first_in, later_in, mapped_from, mapped_in, member_cases, not_in_none, pairs_first, pairs_rest}
+use Rattle.hd_model.proofs.MapEntries.{entry_found, find_entry}
+use Rattle.hd_model.proofs.Members.{first_in, later_in, mapped_from, mapped_in, pairs_first, pairs_rest}
 use Rattle.hd_model.specs.declared.data.Addr.{Addr}
 use Rattle.hd_model.specs.declared.data.Id.{Id}
 use Rattle.hd_model.specs.State.{Object}
-use Rattle.hd_model.specs.Heap.{HasIdentities, Heap, Placed, has_object, id_at, id_in, placed_at}
+use Rattle.hd_model.specs.Heap.{HasIdentities, Heap, has_object, id_at, id_in, placed_at}
 use Rattle.hd_seen.specs.Seen.{address_of, object_seen}
 use Rattle.hd_store.proofs.IdentityReadings.{no_some, objects-get, objects-under}
 use Rattle.hd_store.specs.Reading.{objects_by_id, read_object}
+use Rattle.hd_snapshot.proofs.FoundAddresses.{address-is}
 use Rattle.hd_snapshot.proofs.HeapObjects.{has-there, id-there, placed-there}
 use Rattle.hd_snapshot.specs.declared.objects.Located.{Located}
 use Rattle.hd_snapshot.specs.Located.{AreLocated, IsListing, number_of, shown_at}
 
 -- numbers that differ still differ in another order
-either_way : (a b : ℕ) → (a == b) ≡ (b == a)
+pub either_way : (a b : ℕ) → (a == b) ≡ (b == a)
 either_way a b = same_from_decides (a == b) (b == a) (Decides-eqb a b)
     (Decides-like (b == a) (λ e. sym e) (λ e. sym e) (Decides-eqb b a))
 
@@ -126,41 +125,13 @@ module _ (h : Heap) (identities : HasIdentities h) (os : List Located) (listing 
       ∙ sym (get-from_sorted nat_cmp es q sorted)))
       ∙ entries-from_sorted nat_cmp es sorted
 
-  -- the address of the object with an identity
-  first_with : (x : ℕ) (xs : List (ℕ × Placed)) → (a : ℕ) → (p : Placed) → Contains xs (a, p) → p.id.0 ≡ x
-      → ((b : ℕ) (q : Placed) → Contains xs (b, q) → q.id.0 ≡ x → b ≡ a)
-      → option_map_or (λ (e : ℕ × Placed). e.0) (find_in (λ (e : ℕ × Placed). e.1.id.0 == x) xs) 0 ≡ a
-  first_with x [] a p among has only = absurd (not_in_none (a, p) among)
-  first_with x (e ∷ xs) a p among has only =
-      by (e.1.id.0 == x) refl (λ later. first_with x xs a p later has
-      (λ b q within. only b q (later_in e xs (b, q) within)))
-    where
-      by : (t : Bool) → (e.1.id.0 == x) ≡ t
-          → (Contains xs (a, p)
-          → option_map_or (λ (f : ℕ × Placed). f.0) (find_in (λ (f : ℕ × Placed). f.1.id.0 == x) xs) 0 ≡ a)
-          → option_map_or (λ (f : ℕ × Placed). f.0)
-          (find_in (λ (f : ℕ × Placed). f.1.id.0 == x) (e ∷ xs)) 0 ≡ a
-      by true is rest = rw is (only e.0 e.1 (first_in e xs) (eqb-true e.1.id.0 x is))
-      by false is rest =
-          rw is (rest (⊎_elim (λ same. absurd (false≢true (sym is ∙ eq-eqb e.1.id.0 x
-          (ap (λ (f : ℕ × Placed). f.1.id.0) same ∙ has)))) (λ later. later)
-          (member_cases e xs (a, p) among)))
-
-  address-is : (a : Addr) → has_object h a ≡ true → address_of h (id_at h a).0 ≡ a.0
-  address-is a is =
-      first_with (id_at h a).0 (entries h.objects) a.0 (placed_at h a)
-      (entry_of h.objects a.0 (placed_at h a) (placed-there h a is))
-      (ap (λ (i : Id). i.0) (sym (id-there h a is)))
-      (λ b q among same. identities b a.0 q (placed_at h a) (get_entry h.objects b q among)
-      (placed-there h a is) (λ i. record { 0 = (same ∙ ap (λ (i : Id). i.0) (id-there h a is)) i }))
-
   shown : (o : Located) → Contains os o → object_seen h (entry_at h o) ≡ shown_at h o.at
   shown o among =
       let it = listing.located.objects o among in
       λ i. record {
         id = it.1 i;
         object = read_object h o.at.0 (placed_at h o.at);
-        address = (ap (λ (x : Id). address_of h x.0) it.1 ∙ address-is o.at it.0) i;
+        address = (ap (λ (x : Id). address_of h x.0) it.1 ∙ address-is h identities o.at it.0) i;
       }
 
   all_shown : (xs : List Located) → ((o : Located) → Contains xs o → Contains os o)

@@ -1,8 +1,10 @@
 -- What is seen of a store, against what the store has.
-use Rattle.std.specs.Prelude.{◌≡◌, ℕ, ◌==◌, cond, count_by, is_some}
+use Rattle.std.specs.Prelude.{◌≡◌, ℕ, ◌/◌, ◌==◌, ◌≤◌, All, cond, count_by, is_some}
 use Rattle.std.specs.FinMap.{get}
+use Rattle.hd_model.specs.declared.limits.TheConstants.{OLDEST, REGION}
 use Rattle.hd_seen.specs.declared.SeenHandle.{SeenHandle}
-use Rattle.hd_seen.specs.Seen.{ObjectSeen}
+use Rattle.hd_seen.specs.declared.SeenRegion.{SeenRegion}
+use Rattle.hd_seen.specs.Seen.{ObjectSeen, Picture}
 use Rattle.hd_store.specs.Store.{Machine}
 use Rattle.hd_snapshot.specs.Taken.{picture_of}
 
@@ -17,3 +19,10 @@ abbrev pub EachObjectIsShownOnce : Type 0
 EachObjectIsShownOnce =
     (m : Machine) (x : ℕ) → count_by (λ (o : ObjectSeen). o.id.0 == x) (picture_of m).objects
     ≡ cond (is_some (get m.state.objects x)) 1 0
+
+-- each region is of a generation up to the oldest, and each object is in exactly one region
+pub record IsParted (p : Picture) : Type 0 where
+  pub generations : All (λ (r : SeenRegion). r.generation ≤ OLDEST) p.regions
+  pub regions :
+      All (λ (o : ObjectSeen). count_by (λ (r : SeenRegion). o.address / REGION == r.number) p.regions ≡ 1)
+      p.objects

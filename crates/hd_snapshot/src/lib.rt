@@ -3,6 +3,7 @@
 
 ghost use Rattle.std.specs.Prelude.{◌≡◌, IfOk};
 ghost use Rattle.hd_seen.specs.Seen.{view_seen};
+ghost use Rattle.hd_snapshot.specs.Laws.{IsParted};
 ghost use Rattle.hd_snapshot.specs.Taken.{picture_of};
 
 mod blocks;
@@ -21,8 +22,10 @@ use std::alloc::{AllocError, Global};
 
 /// A snapshot of a store, which takes memory for it and changes nothing.
 pub fn snapshot(alloc: Global, store: &Store) -> Result<Snapshot, Memory>
-    ensures { IfOk result (λ taken. view_seen taken ≡ picture_of store.now) }
+    ensures shows { IfOk result (λ taken. view_seen taken ≡ picture_of store.now) }
+    ensures parted { IsParted (picture_of store.now) }
 {
+    regions::part(store);
     match take(alloc, store) {
         Ok(taken) => Ok(taken),
         Err(AllocError) => Err(Memory),

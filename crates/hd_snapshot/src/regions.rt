@@ -4,6 +4,8 @@ ghost use Rattle.std.specs.FinMap.{get};
 ghost use Rattle.hd_model.specs.Heap.{is_in_use};
 ghost use Rattle.hd_plan.specs.Plan.{HasNoEmptyRegion};
 ghost use Rattle.hd_seen.specs.Seen.{region_seen, regions_seen, set_cards};
+ghost use Rattle.hd_snapshot.specs.Laws.{IsParted};
+ghost use Rattle.hd_snapshot.specs.Taken.{picture_of};
 
 use crate::growing::add;
 use hd_heap::Heap;
@@ -17,6 +19,15 @@ pub(crate) fn regions(alloc: Global, store: &Store) -> Result<Vec<SeenRegion>, A
     ensures { IfOk result (λ seen. seen.items ≡ regions_seen store.now.heap) }
 {
     regions_of(alloc, store.heap())
+}
+
+/// Each of them is of a generation up to the oldest, and each object is in exactly one.
+pub(crate) fn part(store: &Store)
+    ensures { IsParted (picture_of store.now) }
+{
+    // For the proof: the store's state is one over its heap, which is sound.
+    let _objects = store.objects();
+    let _count = store.heap().count();
 }
 
 // Those of a heap.
