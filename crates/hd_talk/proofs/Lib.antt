@@ -1,0 +1,3 @@
+mod AsciiWords
+mod PicturedStates
+mod TalkEnds

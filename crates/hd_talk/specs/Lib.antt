@@ -1,0 +1,4 @@
+pub mod Machine
+pub mod Slots
+pub mod Answers
+pub mod Talked
