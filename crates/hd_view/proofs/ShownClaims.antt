@@ -8,18 +8,16 @@ use Rattle.hd_io.specs.Sink.{SinkView, Took, WriteBrokeOff}
 use Rattle.hd_io.specs.Source.{SourceView}
 use Rattle.hd_model.proofs.{StepChains.run_from_solo, WellFormedSteps.run_is_well_formed}
 use Rattle.hd_model.specs.declared.data.Id.{Id}
-use Rattle.hd_model.specs.Places.{with_places}
 use Rattle.hd_model.specs.State.{State}
 use Rattle.hd_model.specs.WellFormed.{IsWellFormed}
 use Rattle.hd_path.specs.Paths.{ArePathTexts, IsPictureOf, WritesPaths}
 use Rattle.hd_run.specs.Bounds.{Bounds, numbers_for}
-use Rattle.hd_seen.specs.Seen.{Picture, picture}
-use Rattle.hd_snapshot.specs.Taken.{picture_of}
-use Rattle.hd_store.specs.Store.{Machine}
+use Rattle.hd_seen.specs.Seen.{Picture}
+use Rattle.hd_talk.specs.Machine.{picture_in}
 use Rattle.hd_world.specs.World.{WorldView}
 use Rattle.hd_view.specs.Found.{fault_status}
 use Rattle.hd_view.specs.Script.{RanTo, StopsBy}
-use Rattle.hd_view.specs.Shown.{ShowPromise, picture_in}
+use Rattle.hd_view.specs.Shown.{ShowPromise}
 use Rattle.hd_view.specs.declared.found.Fault.{Fault}
 use Rattle.hd_view.specs.declared.found.Fault.TheVariants.{BadLine, NoMemory, OverSize, Unread}
 
@@ -86,13 +84,6 @@ module _ (Shows : WorldView → List ℕ → Type 0) (b : Bounds) (line : Option
     statuses = (4, lit< tt, refl);
   }
 
--- what is seen of a world's store is what is seen of the world: pinned addresses are not seen
-pub seen_of : (m : Machine) (w : WorldView) → m.numbers ≡ w.numbers
-    → with_places m.state w.state.places ≡ w.state → m.ages ≡ w.ages → m.heap ≡ w.heap → m.table ≡ w.table
-    → picture_of m ≡ picture_in w
-seen_of m w numbers state ages heap table =
-    λ i. picture (numbers i) (state i) (ages i) (heap i) (table i)
-
 module _ {b : Bounds} {line : Option ℕ} {old new : SourceView} {w : WorldView}
     (ran : RanTo b line old new w) where
   -- memory ran out after the script was run
@@ -105,14 +96,18 @@ module _ {b : Bounds} {line : Option ℕ} {old new : SourceView} {w : WorldView}
   not_seen (Err e) f is none = subst (StopsBy line old new) (sym (is.1 ∙ none)) ran_out
 
   -- the state of the world is one of a run
+  pub well_formed : IsWellFormed w.numbers w.state
+  well_formed = let n = numbers_for b ran.lists in
+      subst (λ n. IsWellFormed n w.state) (sym ran.ran.numbers)
+      (run_is_well_formed n w.journal w.state (run_from_solo n w.journal w.state ran.ran.run))
+
   pub pictured : {p : Picture} → p ≡ picture_in w → IsPictureOf p w.state
-  pictured sees = let n = numbers_for b ran.lists in record {
+  pictured sees = record {
     numbers = w.numbers;
     ages = w.ages;
     heap = w.heap;
     table = w.table;
-    well_formed = subst (λ n. IsWellFormed n w.state) (sym ran.ran.numbers)
-        (run_is_well_formed n w.journal w.state (run_from_solo n w.journal w.state ran.ran.run));
+    well_formed = well_formed;
     shows = sees;
   }
 

@@ -1,7 +1,7 @@
 -- What is shown of the state to which a script leads.
 use Rattle.std.specs.Prelude.{◌≡◌, ℕ, ◌+◌, Bool, List, [], ◌∷◌, ◌⊎◌, Contains, Option}
 use Rattle.hd_graph.specs.Graph.{graph_text}
-use Rattle.hd_graph.specs.Kept.{AreKept}
+use Rattle.hd_graph.specs.Laws.{AllStayAsMarked}
 use Rattle.hd_graph.specs.declared.Clusters.{Clusters}
 use Rattle.hd_io.specs.Counts.{Rose}
 use Rattle.hd_io.specs.Sink.{SinkView, Took}
@@ -10,31 +10,28 @@ use Rattle.hd_model.specs.declared.data.Id.{Id}
 use Rattle.hd_model.specs.declared.limits.TheConstants.{MOST_BYTES}
 use Rattle.hd_path.specs.Paths.{ArePathTexts}
 use Rattle.hd_run.specs.Bounds.{Bounds}
-use Rattle.hd_seen.specs.Seen.{Picture, picture, view_seen}
-use Rattle.hd_seen.specs.declared.Snapshot.{Snapshot}
+use Rattle.hd_show.specs.Heaps.{regions_of}
+use Rattle.hd_show.specs.Laws.{GenerationsAddUp, ObjectsAreCountedOnce}
 use Rattle.hd_show.specs.Show.{show_text}
+use Rattle.hd_talk.specs.Machine.{picture_in}
 use Rattle.hd_world.specs.World.{WorldView}
 use Rattle.hd_view.specs.Script.{HasBadLine, RanTo}
 
--- what is seen of a world
-abbrev pub picture_in : WorldView → Picture
-picture_in w = picture w.numbers w.state w.ages w.heap w.table
-
--- the tables of a world
-abbrev pub AreTables : WorldView → List ℕ → Type 0
-AreTables w text = text ≡ show_text (picture_in w)
+-- the tables of a world: the totals of generations are those of the regions, and each object is counted once
+pub record AreTables (w : WorldView) (text : List ℕ) : Type 0 where
+  pub is_text : text ≡ show_text (picture_in w)
+  pub generations : GenerationsAddUp (regions_of (picture_in w)) (picture_in w).regions
+  pub objects : ObjectsAreCountedOnce (picture_in w)
 
 -- for each object a chain to it, in the state of a world
 abbrev pub AreChains : List Id → WorldView → List ℕ → Type 0
 AreChains ids w text = ArePathTexts w.state ids text
 
--- the graph of a world, where a mark says of each object whether a collection of all generations would keep
--- it
+-- the graph of a world, where a mark says of each object whether a collection of all generations keeps it:
+-- grey is exactly what such a collection removes
 pub record IsGraph (clusters : Clusters) (w : WorldView) (text : List ℕ) : Type 0 where
-  pub seen : Snapshot
-  pub sees : view_seen seen ≡ picture_in w
   pub kept : List Bool
-  pub marks : AreKept seen kept
+  pub marks : AllStayAsMarked w.state (picture_in w).objects kept
   pub is_text : text ≡ graph_text clusters (picture_in w) kept
 
 -- there are more bytes than are taken, or a line of the script is at fault

@@ -50,6 +50,8 @@ pub(crate) enum Task {
     Path(Vec<Id>),
     /// A graph of all objects and handles.
     Graph(Clusters),
+    /// A dialogue, line by line.
+    Step,
 }
 
 /// What the words ask for.
@@ -70,6 +72,7 @@ pub fn read_request(alloc: Global, words: &[String]) -> Result<Request, Error> {
         "show" => Task::Show(found.get_one::<u32>("line")),
         "path" => Task::Path(ids_of(alloc, found)?),
         "graph" => Task::Graph(clusters_of(found)),
+        "step" => Task::Step,
         _ => Task::Why,
     };
     Ok(Request {
@@ -135,7 +138,8 @@ fn command<'a>(alloc: Global) -> Result<Command<'a>, AllocError> {
         .subcommand(why_command(alloc)?)?
         .subcommand(show_command(alloc)?)?
         .subcommand(path_command(alloc)?)?
-        .subcommand(graph_command(alloc)?)
+        .subcommand(graph_command(alloc)?)?
+        .subcommand(step_command(alloc)?)
 }
 
 fn why_command<'a>(alloc: Global) -> Result<Command<'a>, AllocError> {
@@ -176,6 +180,13 @@ fn graph_command<'a>(alloc: Global) -> Result<Command<'a>, AllocError> {
         "Draws objects and handles after a script, in the language of Graphviz",
     );
     limited(alloc, graph.arg(by)?)
+}
+
+fn step_command<'a>(alloc: Global) -> Result<Command<'a>, AllocError> {
+    let step = Command::new(alloc, "step").about(
+        "Does each line as it comes, and shows the state by `show`, `path ID` and `slot S`",
+    );
+    limited(alloc, step)
 }
 
 // A command with the limits of a run.

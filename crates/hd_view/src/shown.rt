@@ -1,9 +1,11 @@
 // The state to which a script leads, shown as a text.
 ghost use Rattle.std.specs.Prelude.{◌≡◌, None, IfErr, IfOk};
 ghost use Rattle.hd_seen.specs.Seen.{view_seen};
+ghost use Rattle.hd_snapshot.specs.Laws.{IsParted};
 ghost use Rattle.hd_view.specs.declared.found.Fault.TheVariants.{NoMemory};
 ghost use Rattle.hd_view.specs.Script.{RanTo, StopsBy};
-ghost use Rattle.hd_view.specs.Shown.{AreChains, AreTables, IsGraph, ShowPromise, picture_in};
+ghost use Rattle.hd_talk.specs.Machine.{picture_in};
+ghost use Rattle.hd_view.specs.Shown.{AreChains, AreTables, IsGraph, ShowPromise};
 ghost use Rattle.hd_world.specs.World.{WorldView};
 
 use crate::found::Fault;
@@ -15,7 +17,7 @@ use hd_model::{Id, Memory};
 use hd_path::push_paths;
 use hd_seen::Snapshot;
 use hd_show::show_text;
-use hd_snapshot::snapshot;
+use hd_talk::seen_in;
 use hd_world::World;
 use std::alloc::Global;
 
@@ -101,7 +103,7 @@ fn tables_of<S: Source, E: Sink>(
     ensures stopped { IfErr result (StopsBy line (S.seen source.old) (S.seen source.new)) }
 {
     let world = world_of(alloc, limits, line, source, errors)?;
-    let seen = seen_in(alloc, &world)?;
+    let seen = look_at(alloc, &world)?;
     match show_text(alloc, &seen) {
         Ok(text) => Ok(text),
         Err(Memory) => Err(Fault::NoMemory),
@@ -122,7 +124,7 @@ fn chains_of<S: Source, E: Sink>(
     ensures stopped { IfErr result (StopsBy None (S.seen source.old) (S.seen source.new)) }
 {
     let world = world_of(alloc, limits, None, source, errors)?;
-    let seen = seen_in(alloc, &world)?;
+    let seen = look_at(alloc, &world)?;
     let mut text = Vec::new(alloc);
     match push_paths(alloc, &mut text, &seen, ids) {
         Ok(()) => Ok(text),
@@ -144,7 +146,7 @@ fn graph_of<S: Source, E: Sink>(
     ensures stopped { IfErr result (StopsBy None (S.seen source.old) (S.seen source.new)) }
 {
     let world = world_of(alloc, limits, None, source, errors)?;
-    let seen = seen_in(alloc, &world)?;
+    let seen = look_at(alloc, &world)?;
     let mut text = Vec::new(alloc);
     match push_graph(alloc, &mut text, &seen, clusters) {
         Ok(()) => Ok(text),
@@ -153,11 +155,12 @@ fn graph_of<S: Source, E: Sink>(
 }
 
 // What is seen of a world.
-fn seen_in(alloc: Global, world: &World) -> Result<Snapshot, Fault>
+fn look_at(alloc: Global, world: &World) -> Result<Snapshot, Fault>
     ensures seen { IfOk result (λ seen. view_seen seen ≡ picture_in world.now) }
+    ensures parted { IfOk result (λ _. IsParted (picture_in world.now)) }
     ensures memory { IfErr result (λ fault. fault ≡ NoMemory) }
 {
-    match snapshot(alloc, world.store()) {
+    match seen_in(alloc, world) {
         Ok(seen) => Ok(seen),
         Err(Memory) => Err(Fault::NoMemory),
     }

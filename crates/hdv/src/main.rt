@@ -6,6 +6,7 @@ use clap::error::ErrorKind;
 use hd_io::{StdSink, StdSource};
 use hd_view::{look, read_request};
 use std::alloc::AllocError;
+use std::io::IsTerminal;
 use std::process::ExitCode;
 use std::rt::Env;
 use std::{env, io};
@@ -41,8 +42,16 @@ fn main(rt: HostRuntime) -> ExitCode {
             return ExitCode::from(status_of(&error));
         }
     };
+    let is_prompting = rt.stdin().is_terminal();
     let mut source = StdSource::over(rt.stdin());
     let mut out = StdSink::over(rt.stdout());
     let mut errors = StdSink::over(rt.stderr());
-    ExitCode::from(look(rt.alloc(), &request, &mut source, &mut out, &mut errors))
+    ExitCode::from(look(
+        rt.alloc(),
+        &request,
+        &mut source,
+        &mut out,
+        &mut errors,
+        is_prompting,
+    ))
 }

@@ -1,8 +1,9 @@
 use Rattle.std.proofs.Common.{ap, ◌++◌, ◌∙◌}
 use Rattle.hd_graph.proofs.PictureNumbers.{pictures_rise}
+use Rattle.hd_graph.proofs.StateMarks.{grey_is_removed}
 use Rattle.hd_graph.specs.Graph.{graph_text}
 use Rattle.hd_seen.specs.Seen.{view_seen}
-use Rattle.hd_view.proofs.ShownClaims.{not_seen}
+use Rattle.hd_view.proofs.ShownClaims.{not_seen, well_formed}
 use Rattle.hd_view.proofs.shown.graph_of.Goals as goal
 
 pub returns-in_err-seen-clause-stopped : goal.returns-in_err-seen-clause-stopped
@@ -17,15 +18,17 @@ push_graph-requires g c =
 
 pub returns-in-Ok-clause-shown : goal.returns-in-Ok-clause-shown
 returns-in-Ok-clause-shown g c =
+    let w = c.in_ok-world.world in
+    let ran = c.in_ok-world.ensures.ran in
     let drawn = c.in-Ok.ensures in
     let sees = c.in_ok-seen.ensures.seen in (
-      c.in_ok-world.world,
-      c.in_ok-world.ensures.ran,
+      w,
+      ran,
       record {
-        seen = c.in_ok-seen.seen;
-        sees = sees;
         kept = drawn.0;
-        marks = drawn.1;
+        marks = (grey_is_removed c.in_ok-seen.seen w.numbers w.state w.ages w.heap w.table drawn.0
+            (well_formed ran) sees).0
+            drawn.1;
         is_text = drawn.2
             ∙ ap (λ xs. xs ++ graph_text c.args.clusters (view_seen c.in_ok-seen.seen) drawn.0)
             c.new-text.ensures.items
