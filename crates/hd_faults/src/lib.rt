@@ -9,8 +9,6 @@ mod hints;
 mod laws;
 mod operand;
 mod script;
-#[cfg(test)]
-mod tests;
 mod words;
 
 pub use explaining::{Unread, push_fault, push_unread};

@@ -12,8 +12,6 @@ mod rows;
 mod search;
 mod sources;
 mod starts;
-#[cfg(test)]
-mod tests;
 mod text;
 mod words;
 

@@ -21,8 +21,6 @@ mod gate;
 #[cfg(test)]
 mod heap;
 #[cfg(test)]
-mod host;
-#[cfg(test)]
 mod io;
 #[cfg(test)]
 mod leaks;
@@ -55,13 +53,9 @@ mod rows;
 #[cfg(test)]
 mod run;
 #[cfg(test)]
-mod same;
-#[cfg(test)]
 mod script;
 #[cfg(test)]
 mod seg;
-#[cfg(test)]
-mod show;
 #[cfg(test)]
 mod state;
 #[cfg(test)]

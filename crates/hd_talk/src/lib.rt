@@ -7,8 +7,6 @@ mod dialogue;
 mod holders;
 mod played;
 mod slots;
-#[cfg(test)]
-mod tests;
 mod text;
 mod words;
 

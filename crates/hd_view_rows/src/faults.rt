@@ -1,5 +1,5 @@
 // Bad lines, and what is said of them.
-use crate::{fault_of_line, find_fault, push_fault};
+use hd_faults::{fault_of_line, find_fault, push_fault};
 use hd_model::Memory;
 use hd_model::limits::MOST_BYTES;
 use std::alloc::Global;

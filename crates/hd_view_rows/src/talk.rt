@@ -1,6 +1,6 @@
 // Dialogues over streams in memory.
-use crate::talk;
 use hd_io::{MemorySink, MemorySource};
+use hd_talk::talk;
 use std::alloc::Global;
 use std::test::Fail;
 

@@ -1,6 +1,6 @@
 // The tables as a user reads them, of a store that has one of each.
-use crate::same::same;
 use hd_model::{Addr, Id, Kind, Memory, Slot, Strength};
+use hd_same::same;
 use hd_seen::{
     PLACES, SeenBlock, SeenEntry, SeenExtra, SeenHandle, SeenObject, SeenRegion, Snapshot,
 };

@@ -1,19 +1,21 @@
-// Comparisons of what is found with what is wanted. They are proved once for all types: where an
-// `assert_eq!` is written, it costs seconds.
+//! Comparisons of what is found with what is wanted, for tests. They are proved once for all types:
+//! where an `assert_eq!` is written, it costs seconds.
+#![tactic(auto)]
+
 ghost use Rattle.std.specs.Prelude.{◌≡◌, true};
 
 use std::fmt::{Debug, Display};
 use std::process::Abort;
 
 /// Two values are equal.
-pub(crate) fn same<T: PartialEq + Debug + Drop>(rt: &impl Abort, found: T, want: T)
+pub fn same<T: PartialEq + Debug + Drop>(rt: &impl Abort, found: T, want: T)
     ensures { T.eq found want ≡ true }
 {
     assert_eq!(rt; found, want);
 }
 
 /// The same, at a place of a table that a failure names.
-pub(crate) fn same_at<T, A>(rt: &impl Abort, at: A, found: T, want: T)
+pub fn same_at<T, A>(rt: &impl Abort, at: A, found: T, want: T)
 where
     T: PartialEq + Debug + Drop,
     A: Display + Drop,

@@ -1,5 +1,6 @@
-use crate::push_paths;
+// Paths in a small graph.
 use hd_model::{Addr, Id, Kind, Slot};
+use hd_path::push_paths;
 use hd_seen::{SeenEntry, SeenExtra, SeenHandle, SeenObject, Snapshot};
 use std::alloc::Global;
 use std::test::Fail;

@@ -1,0 +1,5 @@
+//! Tests alone: calls of a host.
+#![tactic(auto)]
+
+#[cfg(test)]
+mod host;
