@@ -2,10 +2,10 @@
 ghost use Rattle.std.specs.Prelude.{◌≡◌, ◌<◌, ◌≤◌, false, IfOk};
 ghost use Rattle.hd_model.specs.{Kinds.is_paired, Valid.IsValidMake};
 
+use crate::same::same;
 use hd_host::{ExtraInfo, Fault, Found, Handle, Host, Limits, Root, Stats};
 use hd_model::limits::{BLOCKS, FIELDS, HEAP, OLDEST, REGISTERS};
 use hd_model::{Grown, Id, Kind, Make, Memory, Report, Slot, Strength};
-use hd_same::same;
 use std::process::Abort;
 use std::test::Fail;
 

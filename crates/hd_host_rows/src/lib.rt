@@ -3,3 +3,5 @@
 
 #[cfg(test)]
 mod host;
+#[cfg(test)]
+mod same;

@@ -1,10 +1,10 @@
 ghost use Rattle.std.specs.Prelude.{◌≡◌, ◌*◌, ◌<◌, length};
 
+use crate::same::{same, same_at};
 use crate::table::{TABLE, block, lower as lower_in};
 use hd_ages::{AgeMap, count_due, pass_due};
 use hd_model::limits::CLUMPS;
 use hd_model::{Kind, Memory, Steps};
-use hd_same::{same, same_at};
 use hd_seg::Seg;
 use std::marker::Brand;
 use std::process::Abort;

@@ -1,13 +1,13 @@
 // Texts that are judged: worked rows, and what callers in threads print of a host and of a load.
 use crate::collecting::host;
 use crate::row::{Row, assert_rows, runs};
+use crate::same::same;
 use crate::script::read;
 use hd_audit::{Verdict, audit};
 use hd_io::{MemorySink, NoPace};
 use hd_model::Memory;
 use hd_model::limits::{BLOCKS, HEAP};
 use hd_run::run;
-use hd_same::same;
 use hd_script::{Scripts, generate};
 use std::alloc::Global;
 use std::process::Abort;

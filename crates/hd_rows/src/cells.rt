@@ -1,5 +1,5 @@
+use crate::same::{same, same_at};
 use hd_cells::{CELLS, FIELDS, HEADER, Header, Region};
-use hd_same::{same, same_at};
 use std::process::Abort;
 
 // Puts objects into a region, each with an identity, a number of fields and whether it is

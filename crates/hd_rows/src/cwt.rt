@@ -2,11 +2,11 @@
 ghost use Rattle.std.specs.Prelude.{◌≡◌, ◌↔◌, ◌<◌, ℕ, IfOk, IfSome, IsNone};
 ghost use Rattle.hd_cwt.specs.WeakTable.{HasKey};
 
+use crate::same::{same, same_at};
 use crate::table::{TABLE, dependents};
 use hd_cwt::Cwt;
 use hd_model::limits::ROWS;
 use hd_model::{Id, Memory, Slot, Steps};
-use hd_same::{same, same_at};
 use hd_seg::{Extra, Seg};
 use std::alloc::Global;
 use std::marker::Brand;

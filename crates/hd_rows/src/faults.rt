@@ -1,8 +1,8 @@
 // Reads and writes that fail or move few bytes, input that is cut, and the limits of a script.
 use crate::collecting::host;
 use crate::row::{ROOM, Row, assert_rows, assert_run, runs, status_of};
+use crate::same::same;
 use hd_io::{MemorySink, MemorySource, StillSink, StillSource};
-use hd_same::same;
 use std::alloc::{AllocError, Global};
 use std::process::Abort;
 use std::sync::Wait;

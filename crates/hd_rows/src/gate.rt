@@ -4,10 +4,10 @@ ghost use Rattle.hd_model.specs.Valid.{IsValid, IsValidMake};
 ghost use Rattle.hd_gate.specs.Shared.{IsCallerOf, AreAll, IsSameCaller};
 ghost use Rattle.std.specs.Thread.{IsSync};
 
+use crate::same::same;
 use hd_gate::{Alone, Caller, Callers, Closed, Shared};
 use hd_model::limits::{BLOCKS, CALLERS, HEAP};
 use hd_model::{Cmd, Entry, Id, Kind, Make, Memory, Refusal, Reply, Report};
-use hd_same::same;
 use hd_world::World;
 use std::alloc::Global;
 use std::process::Abort;

@@ -2,10 +2,10 @@ ghost use Rattle.std.specs.Prelude.{◌≡◌, ◌≤◌, true};
 ghost use Rattle.hd_model.specs.Heap.{has_object};
 
 use crate::checks::is_object_at;
+use crate::same::same;
 use hd_heap::{Extent, Heap, NewFault, ObjectHeader};
 use hd_model::limits::{FIELDS, OLDEST, REGION};
 use hd_model::{Addr, Id, Memory};
-use hd_same::same;
 use std::alloc::Global;
 use std::process::Abort;
 use std::test::Fail;

@@ -1,9 +1,9 @@
 // What no clause says: the calls succeed while memory lasts. Faults in mid-stream are reported.
+use crate::same::{same, same_at};
 use hd_io::{
     Failed, MemorySink, MemorySource, NoPace, Pace, ReadFault, Sink, Source, StdSink, StdSource,
     StillSink, StillSource, read_all, write_all,
 };
-use hd_same::{same, same_at};
 use std::alloc::Global;
 use std::io;
 use std::io::{Read, Write};

@@ -53,6 +53,8 @@ mod rows;
 #[cfg(test)]
 mod run;
 #[cfg(test)]
+mod same;
+#[cfg(test)]
 mod script;
 #[cfg(test)]
 mod seg;

@@ -1,5 +1,5 @@
+use crate::same::{same, same_at};
 use hd_mask::{bit, count, lowest, take_lowest};
-use hd_same::{same, same_at};
 
 // Rows 0, 2, 3, 40 and 63.
 const SOME_ROWS: u64 = 0x8000_0100_0000_000d;

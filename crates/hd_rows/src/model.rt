@@ -1,5 +1,5 @@
+use crate::same::same;
 use hd_model::{Cmd, Entry, Grown, Journal, Kind, Make, Refusal, Reply, Strength};
-use hd_same::same;
 use std::test::Fail;
 
 fn entry(caller: u32, cmd: Cmd, reply: Reply) -> Entry {

@@ -3,13 +3,13 @@ ghost use Rattle.hd_model.specs.Marking.{IsSettled};
 ghost use Rattle.hd_model.specs.Heap.{objects_of};
 ghost use Rattle.hd_rows.specs.Toy.{toy_basis, is_in};
 
+use crate::same::same;
 use crate::table::{TABLE, block, is_young, lower, names_objects, open, put, put_all};
 use crate::toy::Toy;
 use hd_ages::AgeMap;
 use hd_dep::{clear, rescan};
 use hd_model::limits::{CLUMP, CLUMPS};
 use hd_model::{Addr, Kind, Slot, Steps, Strength};
-use hd_same::same;
 use hd_scan::{Task, pass};
 use hd_seg::{Extra, Row, Seg};
 use std::alloc::Global;

@@ -1,8 +1,8 @@
 ghost use Rattle.std.specs.Prelude.{◌≡◌};
 
+use crate::same::same;
 use hd_model::{Kind, Slot};
 use hd_pool::Pool;
-use hd_same::same;
 use std::process::Abort;
 use std::test::Fail;
 

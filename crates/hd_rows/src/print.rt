@@ -1,10 +1,10 @@
 // The texts as a user reads them, and that the calls succeed.
 ghost use Rattle.std.specs.Prelude.{◌≡◌, ◌<◌, All, IfOk};
 
+use crate::same::{same, same_at};
 use hd_io::{Failed, MemorySink};
 use hd_model::{Cmd, Entry, Grown, Id, Journal, Make, Memory, Refusal, Reply, Report};
 use hd_print::{Line, command_line, end_line, entry_line, load_line, write_entries};
-use hd_same::{same, same_at};
 use std::alloc::Global;
 use std::process::Abort;
 use std::test::Fail;

@@ -6,12 +6,12 @@ ghost use Rattle.hd_model.specs.Marking.{IsKeeping};
 ghost use Rattle.hd_rows.specs.Mirror.{mirrored};
 
 use crate::checks::{are_alone, is_closed, is_object_at};
+use crate::same::same;
 use hd_final::Final;
 use hd_heap::Heap;
 use hd_mark::Marks;
 use hd_model::limits::{OLDEST, REGION};
 use hd_model::{Addr, Forward, Id, Marker, Memory};
-use hd_same::same;
 use std::alloc::Global;
 use std::process::Abort;
 use std::test::Fail;

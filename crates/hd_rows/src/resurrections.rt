@@ -3,12 +3,12 @@ ghost use Rattle.hd_model.specs.Heap.{HasIdentities, has_object, object_at};
 ghost use Rattle.hd_model.specs.Names.{HasClosedFields};
 
 use crate::checks::{are_alone, is_closed, is_object_at};
+use crate::same::same;
 use hd_final::Final;
 use hd_heap::Heap;
 use hd_mark::Marks;
 use hd_model::limits::REGION;
 use hd_model::{Addr, Id, Memory};
-use hd_same::same;
 use std::alloc::Global;
 use std::process::Abort;
 use std::test::Fail;

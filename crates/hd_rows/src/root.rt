@@ -8,12 +8,12 @@ ghost use Rattle.hd_rows.specs.Roots.{NamesIn};
 
 use crate::checks::{is_closed, is_object_at};
 use crate::heap::{new, store};
+use crate::same::same;
 use crate::table::{TABLE, dependents, secondary_in};
 use hd_heap::Heap;
 use hd_model::limits::ROWS;
 use hd_model::{Addr, Slot};
 use hd_root::search;
-use hd_same::same;
 use hd_seg::{Extra, Row, Seg};
 use std::alloc::{AllocError, Global};
 use std::process::Abort;

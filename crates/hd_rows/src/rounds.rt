@@ -1,10 +1,10 @@
 ghost use Rattle.std.specs.Prelude.{◌≡◌, ◌*◌, length, IfOk};
 ghost use Rattle.hd_plan.specs.Plan.{HasNoEmptyRegion};
 
+use crate::same::same;
 use crate::state::{State, collected, due, first_root, handle, new, open, set};
 use hd_model::limits::{CLUMPS, FIELDS};
 use hd_model::{Kind, Memory};
-use hd_same::same;
 use std::alloc::Global;
 use std::process::Abort;
 use std::test::Fail;

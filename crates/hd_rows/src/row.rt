@@ -1,7 +1,7 @@
 // Runs of the whole program, and what must come of them.
+use crate::same::same_at;
 use hd_io::{MemorySink, MemorySource, NoPace, Sink, Source};
 use hd_run::top;
-use hd_same::same_at;
 use std::alloc::{AllocError, Global};
 use std::process::Abort;
 use std::sync::Wait;

@@ -1,8 +1,8 @@
 // What no clause says: that calls succeed while memory lasts, and the texts as a user reads them.
+use crate::same::same;
 use crate::script::read;
 use hd_io::{MemorySink, MemorySource, NoPace, Pace};
 use hd_run::{Kept, Outcome, load, run, solo, top};
-use hd_same::same;
 use hd_script::Scripts;
 use std::alloc::{AllocError, Global};
 use std::sync::Wait;

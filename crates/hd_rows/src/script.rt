@@ -1,5 +1,5 @@
+use crate::same::{same, same_at};
 use hd_model::{Cmd, Kind, Make, Memory, Strength};
-use hd_same::{same, same_at};
 use hd_script::{
     ScriptFault, Scripts, faults_come_first, generate, lines_make_the_bytes,
     lists_follow_the_lines, loads_have_their_line, parse, words_decide,

@@ -1,9 +1,9 @@
 ghost use Rattle.std.specs.Prelude.{◌≡◌};
 
+use crate::same::{same, same_at};
 use crate::table::{TABLE, block, put};
 use hd_model::limits::ROWS;
 use hd_model::{Addr, Grown, Kind, Memory, Slot};
-use hd_same::{same, same_at};
 use hd_seg::{BlockKind, Extra, Row, Seg};
 use std::process::Abort;
 

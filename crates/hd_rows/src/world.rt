@@ -3,8 +3,8 @@ ghost use Rattle.std.specs.Prelude.{◌≡◌, ◌<◌, ◌≤◌};
 ghost use Rattle.hd_model.specs.declared.limits.TheConstants.{HEAP, BLOCKS};
 ghost use Rattle.hd_model.specs.Valid.{IsValid};
 
+use crate::same::{same, same_at};
 use hd_model::{Cmd, Entry, Id, Memory, Refusal, Reply, Report};
-use hd_same::{same, same_at};
 use hd_script::parse;
 use hd_world::World;
 use std::process::Abort;

@@ -1,6 +1,5 @@
 // The tables as a user reads them, of a store that has one of each.
 use hd_model::{Addr, Id, Kind, Memory, Slot, Strength};
-use hd_same::same;
 use hd_seen::{
     PLACES, SeenBlock, SeenEntry, SeenExtra, SeenHandle, SeenObject, SeenRegion, Snapshot,
 };
@@ -177,9 +176,9 @@ fn shown(alloc: Global, seen: &Snapshot) -> Result<Vec<u8>, Memory> {
 #[test]
 fn one_of_each_is_shown(rt: HostRuntime) -> Result<(), Fail> {
     let seen = snapshot(rt.alloc())?;
-    match shown(rt.alloc(), &seen) {
-        Ok(text) => same(&rt, text.as_slice(), TEXT.as_bytes()),
-        Err(_) => same(&rt, "out of memory", ""),
-    }
+    let Ok(text) = shown(rt.alloc(), &seen) else {
+        panic!(rt; "out of memory");
+    };
+    assert!(rt; text.as_slice() == TEXT.as_bytes());
     Ok(())
 }

@@ -1,21 +1,19 @@
-//! Comparisons of what is found with what is wanted, for tests. They are proved once for all types:
-//! where an `assert_eq!` is written, it costs seconds.
-#![tactic(auto)]
-
+// Comparisons of what is found with what is wanted. They are proved once for all types: where an
+// `assert_eq!` is written, it costs seconds.
 ghost use Rattle.std.specs.Prelude.{◌≡◌, true};
 
 use std::fmt::{Debug, Display};
 use std::process::Abort;
 
 /// Two values are equal.
-pub fn same<T: PartialEq + Debug + Drop>(rt: &impl Abort, found: T, want: T)
+pub(crate) fn same<T: PartialEq + Debug + Drop>(rt: &impl Abort, found: T, want: T)
     ensures { T.eq found want ≡ true }
 {
     assert_eq!(rt; found, want);
 }
 
 /// The same, at a place of a table that a failure names.
-pub fn same_at<T, A>(rt: &impl Abort, at: A, found: T, want: T)
+pub(crate) fn same_at<T, A>(rt: &impl Abort, at: A, found: T, want: T)
 where
     T: PartialEq + Debug + Drop,
     A: Display + Drop,
