@@ -91,7 +91,8 @@ class Rust:
             block = self.block(lines, at, indent)
             if what == "impl":
                 owner = self.owner_of(head["rest"])
-                if "ghost" in block and " for " in block.split("{")[0]:
+                # What commands use of a machine stands below what callers see of it, and is nothing to believe.
+                if "ghost" in block and " for " in block.split("{")[0] and "impl Parts for" not in block:
                     self.items[owner] += self.ghosts(block, owner == "World")
                 at += 1
             elif what == "fn":

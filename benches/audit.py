@@ -1,15 +1,23 @@
 #!/usr/bin/env python3
-"""Times how long `audit` takes for texts of 100,000 lines with a collection every 100, over 10,000 live objects.
+"""Times how long `audit` takes for texts of 100,000 lines with a collection every 100, over 10,000 live objects; and for texts that
+do one command again and again once the objects are made, with the instructions of each (callgrind, where valgrind is there).
 
     audit.py PROGRAM
 """
+import re
 import resource
+import shutil
 import subprocess
 import sys
 
 LINES = 100_000
 LIVE = 10_000
 EVERY = 100
+
+# For how many commands of a text of `AGAIN` the time is asked, how many are counted, and the most seconds.
+OFTEN = 90_000
+COUNTED = 9
+SECONDS = 60
 
 
 def handles():
@@ -50,6 +58,49 @@ def script(make):
         yield command
 
 
+def idle():
+    """One list of objects, which are old."""
+    yield from chain()
+    yield from ("collect 2", "collect 2")
+
+
+def anchored():
+    """The same objects, with a strong handle each."""
+    for _ in range(LIVE):
+        yield from ("copy r1 r0", "new r0 2", "set r0 0 r1", "hnew h0 strong r0")
+
+
+# What is made, and the command that comes again and again.
+AGAIN = ((idle, "collect 0"), (anchored, "gcroot r0"))
+
+
+def given_to_audit(program, commands):
+    """What `audit` reads: a script, and the text of its run."""
+    lines = "\n".join(commands) + "\n"
+    return lines + "=\n" + seconds([program, "solo", "--slots"], lines)[0]
+
+
+def instructions(program, given):
+    """The instructions of a whole audit."""
+    words = ["valgrind", "--tool=callgrind", "--callgrind-out-file=/dev/null", program, "audit"]
+    ran = subprocess.run(words, input=given, capture_output=True, text=True, check=True)
+    return int(re.search(r"Collected : (\d+)", ran.stderr).group(1))
+
+
+def again(program, make, command):
+    """A row: the processor's time of a text as long as it may be, what OFTEN commands would take, and the instructions of each."""
+    made = list(make())
+    often = LINES - len(made)
+    before = seconds([program, "audit"], given_to_audit(program, made))[1]
+    verdict, audit = seconds([program, "audit"], given_to_audit(program, made + [command] * often))
+    row = f"{make.__name__}, {often:,} `{command}`: audit {audit:.2f} s, {verdict.strip()}"
+    row += f", so {(audit - before) * OFTEN / often:.1f} s of at most {SECONDS} for {OFTEN:,}"
+    if shutil.which("valgrind"):
+        counts = [instructions(program, given_to_audit(program, made + [command] * count)) for count in (0, COUNTED)]
+        row += f", {(counts[1] - counts[0]) // COUNTED:,} instructions a command"
+    return row
+
+
 def seconds(words, given):
     """What was printed, and the processor's time."""
     before = resource.getrusage(resource.RUSAGE_CHILDREN)
@@ -69,6 +120,8 @@ def main(words):
         verdict, audit = seconds([words[0], "audit"], lines + "=\n" + text)
         live = text.splitlines()[-1]
         print(f"{make.__name__}: solo {solo:.2f} s, audit {audit:.2f} s, {verdict.strip()}, {live}", flush=True)
+    for make, command in AGAIN:
+        print(again(words[0], make, command), flush=True)
 
 
 if __name__ == "__main__":

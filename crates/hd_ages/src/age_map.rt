@@ -8,8 +8,8 @@ ghost use Rattle.hd_ages.specs.Word.{IsWord, ages_in};
 
 use crate::word;
 use crate::word::ALL_OLDEST;
-use hd_model::Memory;
 use hd_model::limits::{BLOCKS, CLUMPS, OLDEST};
+use hd_model::{Memory, filled};
 use std::alloc::Global;
 use std::marker::Model;
 
@@ -40,14 +40,11 @@ impl AgeMap {
         requires { blocks ≤ BLOCKS }
         ensures { IfOk result (λ ages. ages ≡ replicate (CLUMPS * blocks) OLDEST) }
     {
-        let mut words = Vec::new(alloc);
-        match words.resize(blocks as usize, ALL_OLDEST) {
-            Ok(()) => Ok(AgeMap {
-                words,
-                youngest: OLDEST,
-            }),
-            Err(_) => Err(Memory),
-        }
+        let words = filled(alloc, ALL_OLDEST, blocks)?;
+        Ok(AgeMap {
+            words,
+            youngest: OLDEST,
+        })
     }
 
     /// The number of blocks.

@@ -1,6 +1,6 @@
 -- The secondaries that are listed by their targets, and the pairs that rows make.
-use Rattle.hd_model.proofs.Basics.{Bool, Contains, Contains-append_cases, Contains-append_left, Contains-append_right, FinMap, IsSome, List, None, Option, Some, [], append-nil, append_assoc, ap, cases_eq, cond, empty, eq-eqb, false, false≢true, get, get-empty, get_or, inl, inr, insert, map, nat_cmp, ne_eqb, none-some, option_map, option_or, refl, remove, subst, suc, sym, true, unwrap_or, zero, ℕ, ⊎_elim, ◌++◌, ◌==◌, ◌∙◌, ◌∷◌, ◌≡◌, ◌≢◌, ◌⊎◌}
-use Rattle.std.proofs.Common.{Err, Global, IfOk, MatchResult, Ok, Result, Vec, drop, length, ◌+◌, ◌<◌, ◌≤◌}
+use Rattle.hd_model.proofs.Basics.{Bool, Contains, Contains-append_cases, Contains-append_left, Contains-append_right, FinMap, IsSome, List, None, Option, Some, [], append-nil, append_assoc, ap, cases_eq, cond, empty, eq-eqb, false, false≢true, get, get-empty, get_or, inl, inr, insert, is_some, map, nat_cmp, ne_eqb, none-some, option_map, option_or, refl, remove, same_Some, subst, sym, true, unwrap_or, ℕ, ⊎_elim, ◌++◌, ◌==◌, ◌∙◌, ◌∷◌, ◌≡◌, ◌≢◌, ◌⊎◌}
+use Rattle.std.proofs.Common.{Global, Vec, drop, length, ◌+◌, ◌<◌, ◌≤◌}
 use Rattle.std.proofs.lemmas.List.{at_drop_all, at_drop_more}
 use Rattle.hd_model.proofs.Members.{not_in_none, first_in, later_in, member_cases}
 use Rattle.hd_model.proofs.ReadAfterWrite.{get_inserted, get_beside, get_left}
@@ -11,7 +11,10 @@ use Rattle.hd_model.specs.Role.{Role, attaches, holds, long, role, short}
 use Rattle.hd_model.specs.Scene.{fields_in, scene_of}
 use Rattle.hd_model.specs.State.{Handle, State, WeakEntry, row_of, secondary_of, weak_handle}
 use Rattle.hd_model.specs.declared.data.Id.{Id}
+use Rattle.hd_model.proofs.WeakSlots.{handle_row}
 use Rattle.hd_audit.specs.Attaching.{Adds, ListsAttached, pair_in, pair_of, pairs_in, secondaries, seconds}
+use Rattle.hd_audit.specs.Listed.{IsLive, Lists}
+use Rattle.hd_audit.specs.Marking.{attaching_at}
 use Rattle.hd_audit.specs.declared.marks.Attached.{Attached}
 
 -- ---- pairs by their first part
@@ -89,86 +92,76 @@ adds_one lists list from to items x =
     ∙ ap (λ (l : List ℕ). old x ++ l) (sym (seconds_beside x (from, to) [] (λ e. ne (sym e)))))
     (cases_eq x from)
 
--- what the first pairs are added to is what all are added to
-adds_next : {A : Type 0} (f : A → Handle Id) (rows : List (Option A)) (i : ℕ) (a b later : Attached)
-    → i < length rows → Adds a b (pair_in (option_map f (get_or rows i None)))
-    → Adds b later (pairs_in (map (option_map f) (drop (i + 1) rows)))
-    → Adds a later (pairs_in (map (option_map f) (drop i rows)))
-adds_next f rows i a b later within first rest =
-    let row = pair_in (option_map f (get_or rows i None)) in
-    let others = pairs_in (map (option_map f) (drop (i + 1) rows)) in
-    subst (λ ps. Adds a later ps)
-    (sym (at_drop_more (λ l. pairs_in (map (option_map f) l)) rows i None within))
-    (adds_then a b later row others first rest)
+-- a loop over numbers, each of which may have a pair: to add the pairs of those that are left is to add those
+-- of all to what there was
+module _ (f : ℕ → Option (Handle Id)) (xs : List ℕ) (i : ℕ) where
+  abbrev pub AddsRest : Attached → Attached → Type 0
+  AddsRest first now =
+      (later : Attached) → Adds now later (pairs_in (map f (drop i xs)))
+      → Adds first later (pairs_in (map f xs))
 
-adds_last : {A : Type 0} (f : A → Handle Id) (rows : List (Option A)) (i : ℕ) (a : Attached)
-    → length rows ≤ i → Adds a a (pairs_in (map (option_map f) (drop i rows)))
-adds_last f rows i a past =
-    subst (λ ps. Adds a a ps) (sym (at_drop_all (λ l. pairs_in (map (option_map f) l)) rows i past))
-    (adds_none a)
+  pub rest_last : (first a : Attached) → AddsRest first a → length xs ≤ i
+      → Adds first a (pairs_in (map f xs))
+  rest_last first a so_far past =
+      so_far a (subst (λ ps. Adds a a ps) (sym (at_drop_all (λ l. pairs_in (map f l)) xs i past))
+      (adds_none a))
 
--- a loop over rows: to add the pairs of those that are left is to add those of all to what there was
-abbrev pub AddsRest : {A : Type 0} → (A → Handle Id) → List (Option A) → ℕ → Attached → Attached → Type 0
-AddsRest f rows i first now =
-    (later : Attached) → Adds now later (pairs_in (map (option_map f) (drop i rows)))
-    → Adds first later (pairs_in (map (option_map f) rows))
-
-pub rest_next : {A : Type 0} (f : A → Handle Id) (rows : List (Option A)) (i : ℕ) (first a b : Attached)
-    → AddsRest f rows i first a → i < length rows → Adds a b (pair_in (option_map f (get_or rows i None)))
-    → AddsRest f rows (i + 1) first b
-rest_next f rows i first a b so_far within adds later rest =
-    so_far later (adds_next f rows i a b later within adds rest)
-
-pub rest_last : {A : Type 0} (f : A → Handle Id) (rows : List (Option A)) (i : ℕ) (first a : Attached)
-    → AddsRest f rows i first a → length rows ≤ i → Adds first a (pairs_in (map (option_map f) rows))
-rest_last f rows i first a so_far past = so_far a (adds_last f rows i a past)
+pub rest_next : (f : ℕ → Option (Handle Id)) (xs : List ℕ) (i : ℕ) (first a b : Attached)
+    → AddsRest f xs i first a → i < length xs → Adds a b (pair_in (f (get_or xs i 0)))
+    → AddsRest f xs (i + 1) first b
+rest_next f xs i first a b so_far within adds later rest =
+    so_far later
+    (subst (λ ps. Adds a later ps) (sym (at_drop_more (λ l. pairs_in (map f l)) xs i 0 within))
+    (adds_then a b later (pair_in (f (get_or xs i 0))) (pairs_in (map f (drop (i + 1) xs))) adds rest))
 
 -- nothing is listed yet
-pub none_listed : (x : ℕ) → secondaries (record { lists = empty }) x ≡ []
-none_listed x =
-    ap (λ (o : Option (Vec ℕ Global)). unwrap_or (option_map (λ l. l.items) o) []) (get-empty nat_cmp x)
+pub none_listed : (lists : FinMap nat_cmp (Vec ℕ Global)) → lists ≡ empty → (x : ℕ)
+    → secondaries (record { lists = lists }) x ≡ []
+none_listed lists none x =
+    ap (λ (m : FinMap nat_cmp (Vec ℕ Global)). secondaries (record { lists = m }) x) none
+    ∙ ap (λ (o : Option (Vec ℕ Global)). unwrap_or (option_map (λ l. l.items) o) []) (get-empty nat_cmp x)
 
-pub from_none : (lists : FinMap nat_cmp (Vec ℕ Global)) (a : Attached) (ps : List (ℕ × ℕ)) → lists ≡ empty
-    → Adds (record { lists = lists }) a ps → (x : ℕ) → secondaries a x ≡ seconds x ps
-from_none lists a ps e adds x =
-    adds x ∙ ap (λ (l : List ℕ). l ++ seconds x ps)
-    (ap (λ (m : FinMap nat_cmp (Vec ℕ Global)). secondaries (record { lists = m }) x) e ∙ none_listed x)
+pub from_none : (first a : Attached) (ps : List (ℕ × ℕ)) → ((x : ℕ) → secondaries first x ≡ [])
+    → Adds first a ps → (x : ℕ) → secondaries a x ≡ seconds x ps
+from_none first a ps none adds x = adds x ∙ ap (λ (l : List ℕ). l ++ seconds x ps) (none x)
 
--- an insertion that succeeded
-pub if_inserted : {E : Type 0} (P Q R : Type 0) (r : Result (Unit {0}) E) → MatchResult r (λ _. P) (λ _. Q)
-    → (P → R) → IfOk r (λ _. R)
-if_inserted P Q R (Ok x) m f = f m
-if_inserted P Q R (Err e) m f = tt
+-- ---- pairs of numbers
 
--- ---- rows and their pairs
+module _ (f : ℕ → Option (Handle Id)) where
+  -- the pair of one of a list, and of which one a pair is
+  pub listed_pair : (xs : List ℕ) (k : ℕ) (h : Handle Id) (p : ℕ × ℕ) → Contains xs k → f k ≡ Some h
+      → Contains (pair_in (Some h)) p → Contains (pairs_in (map f xs)) p
+  listed_pair [] k h p c e has = absurd (not_in_none k c)
+  listed_pair (x ∷ xs) k h p c e has =
+      ⊎_elim
+      (λ same. Contains-append_left (pair_in (f x)) (pairs_in (map f xs)) p
+      (subst (λ o. Contains (pair_in o) p) (sym (ap f same ∙ e)) has))
+      (λ later. Contains-append_right (pair_in (f x)) (pairs_in (map f xs)) p
+      (listed_pair xs k h p later e has)) (member_cases x xs k c)
 
-pub row_pair : (rows : List (Option (Handle Id))) (k : ℕ) (h : Handle Id) (p : ℕ × ℕ)
-    → get_or rows k None ≡ Some h
-    → Contains (pair_in (Some h)) p → Contains (pairs_in rows) p
-row_pair [] k h p e c = absurd (none-some h e)
-row_pair (row ∷ rows) zero h p e c =
-    Contains-append_left (pair_in row) (pairs_in rows) p (subst (λ o. Contains (pair_in o) p) (sym e) c)
-row_pair (row ∷ rows) (suc k) h p e c =
-    Contains-append_right (pair_in row) (pairs_in rows) p (row_pair rows k h p e c)
+  pub record IsOf (xs : List ℕ) (p : ℕ × ℕ) : Type 0 where
+    pub number : ℕ
+    pub handle : Handle Id
+    pub listed : Contains xs number
+    pub is : f number ≡ Some handle
+    pub has : Contains (pair_in (Some handle)) p
 
--- a pair of rows is that of one
-pub record IsOfRow (rows : List (Option (Handle Id))) (p : ℕ × ℕ) : Type 0 where
-  pub index : ℕ
-  pub handle : Handle Id
-  pub is : get_or rows index None ≡ Some handle
-  pub has : Contains (pair_in (Some handle)) p
-
-pub of_row : (rows : List (Option (Handle Id))) (p : ℕ × ℕ) → Contains (pairs_in rows) p → IsOfRow rows p
-of_row [] p c = absurd (not_in_none p c)
-of_row (row ∷ rows) p c =
-    ⊎_elim (λ here. first row here)
-    (λ later. let r = of_row rows p later in
-    record { index = suc r.index; handle = r.handle; is = r.is; has = r.has })
-    (Contains-append_cases (pair_in row) (pairs_in rows) p c)
-  where
-    first : (o : Option (Handle Id)) → Contains (pair_in o) p → IsOfRow (o ∷ rows) p
-    first None h = absurd (not_in_none p h)
-    first (Some handle) h = record { index = 0; handle = handle; is = refl; has = h }
+  pub pair_listed : (xs : List ℕ) (p : ℕ × ℕ) → Contains (pairs_in (map f xs)) p → IsOf xs p
+  pair_listed [] p c = absurd (not_in_none p c)
+  pair_listed (x ∷ xs) p c =
+      ⊎_elim (λ here. first (f x) refl here)
+      (λ later. let r = pair_listed xs p later in record {
+        number = r.number;
+        handle = r.handle;
+        listed = later_in x xs r.number r.listed;
+        is = r.is;
+        has = r.has;
+      }) (Contains-append_cases (pair_in (f x)) (pairs_in (map f xs)) p c)
+    where
+      first : (o : Option (Handle Id)) → f x ≡ o → Contains (pair_in o) p → IsOf (x ∷ xs) p
+      first None e h = absurd (not_in_none p h)
+      first (Some handle) e h =
+          record { number = x; handle = handle; listed = first_in x xs; is = e; has = h }
 
 attaching_is : (r : Role) → is_attaching r ≡ true → r ≡ attaches
 attaching_is holds e = absurd (false≢true e)
@@ -210,10 +203,6 @@ has_pair h x y p =
 
 -- ---- the rows of a state
 
-pub row_by_handle : (s : State) (slot : ℕ) (h : Handle Id) → get s.handles slot ≡ Some h
-    → row_of s slot ≡ Some h
-row_by_handle s slot h e = ap (λ o. option_or o (option_map weak_handle (get s.weak slot))) e
-
 row_by_entry : (s : State) (slot : ℕ) (h : Handle Id) → get s.handles slot ≡ None
     → option_map weak_handle (get s.weak slot) ≡ Some h → row_of s slot ≡ Some h
 row_by_entry s slot h none e = ap (λ o. option_or o (option_map weak_handle (get s.weak slot))) none ∙ e
@@ -228,65 +217,74 @@ row_is s slot h e = by (get s.handles slot) refl e
     by None was k = inr k
     by (Some g) was k = inl (was ∙ k)
 
-held_slot : {A B : Type 0} (f : A → B) (o : Option A) (b : B) → option_map f o ≡ Some b → IsSome o
-held_slot f None b e = absurd (none-some b e)
-held_slot f (Some a) b e = refl
+-- what an entry attaches is what its row does
+attaching_row : (o : Option (Option (WeakEntry Id))) (h : Handle Id)
+    → option_map (λ (e : WeakEntry Id). weak_handle (Some e)) (unwrap_or o None) ≡ Some h
+    → option_map weak_handle o ≡ Some h
+attaching_row None h e = absurd (none-some h e)
+attaching_row (Some None) h e = absurd (none-some h e)
+attaching_row (Some (Some x)) h e = e
 
--- what slots attach, read of the slots or of the map by slot
-pub attached_slots : {A : Type 0} (g : A → Option (WeakEntry Id)) (xs : List (Option A)) (k : ℕ)
-    → option_map weak_handle (get_or (map (option_map g) xs) k None)
-    ≡ get_or (map (option_map (λ x. weak_handle (g x))) xs) k None
-attached_slots g [] k = refl
-attached_slots g (None ∷ xs) zero = refl
-attached_slots g (Some x ∷ xs) zero = refl
-attached_slots g (x ∷ xs) (suc k) = attached_slots g xs k
+row_attaching : (o : Option (Option (WeakEntry Id))) (h : Handle Id) (x : Id)
+    → option_map weak_handle o ≡ Some h → h.target ≡ Some x
+    → (option_map (λ (e : WeakEntry Id). weak_handle (Some e)) (unwrap_or o None) ≡ Some h) × IsSome o
+row_attaching None h x e t = absurd (none-some h e)
+row_attaching (Some None) h x e t =
+    absurd (none-some x (ap (λ (g : Handle Id). g.target) (same_Some (weak_handle None) h e) ∙ t))
+row_attaching (Some (Some y)) h x e t = (e, refl)
 
-module _ (s : State) (a : Attached) (rows slots : List (Option (Handle Id)))
-    (handles_are : (k : ℕ) → get s.handles k ≡ get_or rows k None)
-    (weak_is : (k : ℕ) → option_map weak_handle (get s.weak k) ≡ get_or slots k None)
+module _ (s : State) (a : Attached) (slots entries : List ℕ) (live : Lists (IsLive s.handles) slots)
+    (held : Lists (λ k. IsSome (get s.weak k)) entries)
     (apart : (k : ℕ) → IsSome (get s.weak k) → get s.handles k ≡ None)
-    (lists : (x : ℕ) → secondaries a x ≡ seconds x (pairs_in rows ++ pairs_in slots)) where
-  attached_at : (k : ℕ) (h : Handle Id) (x y : Id) → row_of s k ≡ Some h
-      → Contains (pair_in (Some h)) (x.0, y.0)
-      → IsAttached (scene_of s).handle x y
-  attached_at k h x y stored c =
-      let p = pair_is h x y c in
-      record {
-        slot = k;
-        handle = h;
-        is_stored = stored;
-        attaches = p.attaches;
-        target = p.target;
-        secondary = p.secondary;
-      }
+    (lists : (x : ℕ) → secondaries a x
+    ≡ seconds x (pairs_in (map (get s.handles) slots) ++ pairs_in (map (attaching_at s.weak) entries)))
+  where
+    abbrev by_handles : List (ℕ × ℕ)
+    by_handles = pairs_in (map (get s.handles) slots)
 
-  pub lists_attached : ListsAttached s a
-  lists_attached = record {
-    listed = λ x y c.
-        ⊎_elim
-        (λ k. let r = of_row rows (x.0, y.0) k in
-        attached_at r.index r.handle x y
-        (row_by_handle s r.index r.handle (handles_are r.index ∙ r.is)) r.has)
-        (λ k. let r = of_row slots (x.0, y.0) k in
-        let e : option_map weak_handle (get s.weak r.index) ≡ Some r.handle = weak_is r.index ∙ r.is in
-        attached_at r.index r.handle x y
-        (row_by_entry s r.index r.handle
-        (apart r.index (held_slot weak_handle (get s.weak r.index) r.handle e)) e)
-        r.has)
-        (Contains-append_cases (pairs_in rows) (pairs_in slots) (x.0, y.0)
-        (pair_from x.0 y.0 (pairs_in rows ++ pairs_in slots) (subst (λ l. Contains l y.0) (lists x.0) c)));
-    all = λ x y t.
-        let c = has_pair t.handle x y
-        (record { attaches = t.attaches; target = t.target; secondary = t.secondary }) in
-        subst (λ l. Contains l y.0) (sym (lists x.0))
-        (second_of x.0 y.0 (pairs_in rows ++ pairs_in slots)
-        (⊎_elim
-        (λ e. Contains-append_left (pairs_in rows) (pairs_in slots) (x.0, y.0)
-        (row_pair rows t.slot t.handle (x.0, y.0) (sym (handles_are t.slot) ∙ e) c))
-        (λ e. Contains-append_right (pairs_in rows) (pairs_in slots) (x.0, y.0)
-        (row_pair slots t.slot t.handle (x.0, y.0) (sym (weak_is t.slot) ∙ e) c))
-        (row_is s t.slot t.handle t.is_stored)));
-  }
+    abbrev by_entries : List (ℕ × ℕ)
+    by_entries = pairs_in (map (attaching_at s.weak) entries)
+
+    attached_at : (k : ℕ) (h : Handle Id) (x y : Id) → row_of s k ≡ Some h
+        → Contains (pair_in (Some h)) (x.0, y.0) → IsAttached (scene_of s).handle x y
+    attached_at k h x y stored c =
+        let p = pair_is h x y c in
+        record {
+          slot = k;
+          handle = h;
+          is_stored = stored;
+          attaches = p.attaches;
+          target = p.target;
+          secondary = p.secondary;
+        }
+
+    pub lists_attached : ListsAttached s a
+    lists_attached = record {
+      listed = λ x y c.
+          ⊎_elim
+          (λ k. let r = pair_listed (get s.handles) slots (x.0, y.0) k in
+          attached_at r.number r.handle x y (handle_row s r.number r.handle r.is) r.has)
+          (λ k. let r = pair_listed (attaching_at s.weak) entries (x.0, y.0) k in
+          attached_at r.number r.handle x y
+          (row_by_entry s r.number r.handle
+          (apart r.number (held.each r.number r.listed))
+          (attaching_row (get s.weak r.number) r.handle r.is))
+          r.has)
+          (Contains-append_cases by_handles by_entries (x.0, y.0)
+          (pair_from x.0 y.0 (by_handles ++ by_entries) (subst (λ l. Contains l y.0) (lists x.0) c)));
+      all = λ x y t.
+          let c = has_pair t.handle x y
+          (record { attaches = t.attaches; target = t.target; secondary = t.secondary }) in
+          subst (λ l. Contains l y.0) (sym (lists x.0))
+          (second_of x.0 y.0 (by_handles ++ by_entries)
+          (⊎_elim
+          (λ e. Contains-append_left by_handles by_entries (x.0, y.0)
+          (listed_pair (get s.handles) slots t.slot t.handle (x.0, y.0) (live.all t.slot (ap is_some e)) e c))
+          (λ e. let row = row_attaching (get s.weak t.slot) t.handle x e t.target in
+          Contains-append_right by_handles by_entries (x.0, y.0)
+          (listed_pair (attaching_at s.weak) entries t.slot t.handle (x.0, y.0) (held.all t.slot row.1) row.0
+          c)) (row_is s t.slot t.handle t.is_stored)));
+    }
 
 -- ---- edges
 

@@ -24,10 +24,12 @@ use Rattle.hd_model.specs.State.{Numbers, State, register_of, with_place, withou
 use Rattle.hd_model.specs.Step.{Step, TakesWay, Way, adds_entry, decided, gives_back, makes_handle, replies_place, way_of, way_of_adding, with_growth, with_made}
 use Rattle.hd_model.specs.Valid.{IsValid}
 use Rattle.hd_audit.specs.declared.choice.Choice.{Choice}
-use Rattle.hd_audit.specs.declared.made.Made.{Made}
+use Rattle.hd_commands.specs.declared.done.Done.{Done}
 use Rattle.hd_audit.specs.Before.{GivesBlock, HasExactly, HasOne, ReturnsFree, TakesSlot}
 use Rattle.hd_audit.specs.Choice.{HasChoice}
-use Rattle.hd_audit.specs.Commands.{entry_by, made_of, pinned_in}
+use Rattle.hd_commands.specs.Handles.{pinned_in}
+use Rattle.hd_commands.specs.Done.{entry_by}
+use Rattle.hd_commands.specs.Done.{done_of}
 use Rattle.hd_audit.specs.Judge.{Judge}
 use Rattle.hd_audit.proofs.PlaceWays.{at_place, may_of, outcome_of, place_again, place_refused}
 use Rattle.hd_audit.proofs.StepWays.{same_entry}
@@ -84,7 +86,7 @@ module _ (n : Numbers) (s : State) (caller : ℕ) (c : Cmd) (known : caller < n.
     )
 
     -- one entry, where the machine comes to it whatever a line states
-    pub one_entry : (new : State) (made : Made)
+    pub one_entry : (new : State) (made : Done)
         → ((choice : Choice) → (x : Cmd) → (TakesWay n s (entry_by caller x made) new (way_of s caller c))
         × ((e : Entry) (t : State) → TakesWay n s e t (way_of s caller c) → e.caller ≡ caller → e.cmd ≡ x
         → HasChoice e choice → e ≡ entry_by caller x made))
@@ -101,7 +103,7 @@ module _ (n : Numbers) (s : State) (caller : ℕ) (c : Cmd) (known : caller < n.
     }
 
     -- one entry, where the state decides its outcome
-    outcome_one : (wanted : Outcome) (made : Made) → way_of s caller c ≡ decided wanted
+    outcome_one : (wanted : Outcome) (made : Done) → way_of s caller c ≡ decided wanted
         → made ≡ record { reply = wanted.reply; slot = wanted.slot; grown = Zero }
         → HasOne n s caller c (entry_by caller c made)
     outcome_one wanted made is same = record {
@@ -109,15 +111,15 @@ module _ (n : Numbers) (s : State) (caller : ℕ) (c : Cmd) (known : caller < n.
       command = refl;
       only = by_way (decided wanted) is (λ e. e ≡ entry_by caller c made)
           (λ e t by of out. same_entry e caller c made by of
-          (out.slot ∙ sym (ap (λ (m : Made). m.slot) same))
-          (out.grown ∙ sym (ap (λ (m : Made). m.grown) same))
-          (out.reply ∙ sym (ap (λ (m : Made). m.reply) same)))
+          (out.slot ∙ sym (ap (λ (m : Done). m.slot) same))
+          (out.grown ∙ sym (ap (λ (m : Done). m.grown) same))
+          (out.reply ∙ sym (ap (λ (m : Done). m.reply) same)))
           (λ e by of eq. (
             wanted.after,
             record {
-              reply = ap (λ (x : Entry). x.reply) eq ∙ ap (λ (m : Made). m.reply) same;
-              slot = ap (λ (x : Entry). x.slot) eq ∙ ap (λ (m : Made). m.slot) same;
-              grown = ap (λ (x : Entry). x.grown) eq ∙ ap (λ (m : Made). m.grown) same;
+              reply = ap (λ (x : Entry). x.reply) eq ∙ ap (λ (m : Done). m.reply) same;
+              slot = ap (λ (x : Entry). x.slot) eq ∙ ap (λ (m : Done). m.slot) same;
+              grown = ap (λ (x : Entry). x.grown) eq ∙ ap (λ (m : Done). m.grown) same;
               after = refl;
             },
           ));
@@ -208,11 +210,11 @@ module _ (n : Numbers) (s : State) (caller : ℕ) (c : Cmd) (known : caller < n.
 
       -- it is refused
       pub address_refused : (refused : Refusal) → pinned_in s caller h ≡ Err refused
-          → HasOne n s caller c (entry_by caller c (made_of (Err refused)))
+          → HasOne n s caller c (entry_by caller c (done_of (Err refused)))
       address_refused refused pinned =
-          one_entry s (made_of (Err refused)) (λ choice x.
+          one_entry s (done_of (Err refused)) (λ choice x.
           let its = place_refused caller h choice here refused pinned x in (
-            subst (TakesWay n s (entry_by caller x (made_of (Err refused))) s) (sym is) its.does,
+            subst (TakesWay n s (entry_by caller x (done_of (Err refused))) s) (sym is) its.does,
             λ e t takes by of chosen. its.only e t (subst (TakesWay n s e t) is takes) by of chosen,
           ))
 
@@ -221,7 +223,7 @@ module _ (n : Numbers) (s : State) (caller : ℕ) (c : Cmd) (known : caller < n.
           → HasOne n s caller c
           (entry_by caller c (record { reply = reply.Place own; slot = None; grown = Zero }))
       address_again id own pinned has =
-          let made : Made = record { reply = reply.Place own; slot = None; grown = Zero } in
+          let made : Done = record { reply = reply.Place own; slot = None; grown = Zero } in
           one_entry s made (λ choice x.
           let its = place_again caller h choice here id own pinned has x in (
             subst (TakesWay n s (entry_by caller x made) s) (sym is) its.does,
@@ -251,7 +253,7 @@ module _ (n : Numbers) (s : State) (caller : ℕ) (c : Cmd) (known : caller < n.
           back : (e : Entry) → e.caller ≡ caller → e.cmd ≡ c → ReturnsFree s id e
               → (after : State) × TakesWay n s e after (replies_place h)
           back e by of free =
-              let made : Made = record { reply = reply.Place free.0; slot = None; grown = Zero } in
+              let made : Done = record { reply = reply.Place free.0; slot = None; grown = Zero } in
               let same = same_entry e caller c made by of free.3 free.4 free.2 in
               let new : Judge = record { numbers = n; state = with_place s id free.0 } in (
                 with_place s id free.0,
@@ -298,9 +300,9 @@ module _ (n : Numbers) (s : State) (caller k v : ℕ) (c : Cmd) (known : caller 
   way_is a meets = ap (way_of s caller) is ∙ ap (way_of_adding s caller v) meets
 
   pub adding_refused : (refused : Refusal) → adding_of s caller k ≡ is_refused refused
-      → HasOne n s caller c (entry_by caller c (made_of (Err refused)))
+      → HasOne n s caller c (entry_by caller c (done_of (Err refused)))
   adding_refused refused meets =
-      outcome_one n s caller c known valid (refuses refused s) (made_of (Err refused))
+      outcome_one n s caller c known valid (refuses refused s) (done_of (Err refused))
       (way_is (is_refused refused) meets) refl
 
   pub adding_idle : (slot : Slot) (key : Id) → adding_of s caller k ≡ in_idle slot key

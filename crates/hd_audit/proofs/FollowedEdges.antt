@@ -1,18 +1,15 @@
 -- An object is taken, and its edges are followed: what its fields reference, and what is attached to it.
-use Rattle.std.proofs.Common.{length, refl, subst, ℕ, ◌++◌, ◌+◌, ◌-◌, ◌<◌, ◌^◌, ◌∷◌, ◌≡◌, ◌⊎◌, []}
+use Rattle.std.proofs.Common.{length, subst, ℕ, ◌++◌, ◌+◌, ◌-◌, ◌<◌, ◌^◌, ◌∷◌, ◌≡◌, ◌⊎◌, []}
 use Rattle.std.specs.FinMap.{get, len}
 use Rattle.std.specs.List.{Contains}
-use Rattle.hd_model.specs.Anchors.{AnchorOf, EdgeOf}
+use Rattle.hd_model.specs.Anchors.{EdgeOf}
 use Rattle.hd_model.specs.Scene.{fields_in}
 use Rattle.hd_model.specs.State.{State}
 use Rattle.hd_audit.specs.Attaching.{ListsAttached, secondaries}
 use Rattle.hd_audit.specs.Marked.{Marked, with_marks, with_targets}
-use Rattle.hd_audit.specs.Searching.{SearchView, Searching, with_origins, with_referenced}
 use Rattle.hd_audit.specs.declared.marks.Attached.{Attached}
-use Rattle.hd_audit.specs.declared.rooting.Origin.{Origin}
 use Rattle.hd_audit.proofs.AttachedLists.{edge_from, edge_to}
 use Rattle.hd_audit.proofs.MarkedSets.{Closing, IsAmong, closing_step, gains_edges, nearer, number}
-use Rattle.hd_audit.proofs.RootSearch.{nearer_found, reaches_edges, search_step}
 
 module _ (s : State) (a : Attached) (id : ℕ) where
   -- what an edge of the object leads to
@@ -35,26 +32,3 @@ module _ (s : State) (a : Attached) (id : ℕ) where
     marks_nearer =
         nearer IsNext m n o id taken
         (gains_edges n f o (fields_in (get s.objects id)) (secondaries a id) by_fields by_lists)
-
-  -- it was the first one that was found
-  module _ {origin : Origin} {m f g h : SearchView} (taken : m ≡ record f { left = (id, origin) ∷ f.left })
-      (by_fields : g ≡ with_referenced f (fields_in (get s.objects id))
-      (record { from = origin.from; edges = origin.edges + 1 }))
-      (by_lists : h ≡ with_origins g (secondaries a id)
-      (record { from = origin.from; edges = origin.edges + 1 })) where
-    abbrev next : Origin
-    next = record { from = origin.from; edges = origin.edges + 1 }
-
-    pub search_followed : ListsAttached s a → Searching (EdgeOf s) (AnchorOf s) m
-        → Searching (EdgeOf s) (AnchorOf s) h
-    search_followed lists searching =
-        search_step (EdgeOf s) (AnchorOf s) IsNext f h id origin next
-        (subst (λ z. Searching (EdgeOf s) (AnchorOf s) z) taken searching) refl
-        (reaches_edges f g h (fields_in (get s.objects id)) (secondaries a id) next by_fields by_lists)
-        (λ y e. edge_to s a lists (number id) y e) (λ y e. edge_from s a lists (number id) y e)
-
-    pub search_nearer : len m.found < 2 ^ 63
-        → (2 ^ 63 + length h.left) - len h.found < (2 ^ 63 + length m.left) - len m.found
-    search_nearer =
-        nearer_found IsNext m f h next (id, origin) taken
-        (reaches_edges f g h (fields_in (get s.objects id)) (secondaries a id) next by_fields by_lists)

@@ -1,5 +1,5 @@
 -- An idle slot of the weak table, and a block whose slots are all free.
-use Rattle.std.proofs.Common.{Some, ap, arith, is_some, subst, sym, ℕ, ◌*◌, ◌/◌, ◌<◌, ◌∙◌, ◌≡◌, ◌≤◌}
+use Rattle.std.proofs.Common.{IsSome, Some, ap, arith, is_some, subst, sym, ℕ, ◌*◌, ◌/◌, ◌<◌, ◌∙◌, ◌≡◌, ◌≤◌}
 use Rattle.std.specs.FinMap.{get}
 use Rattle.hd_model.specs.declared.data.Kind.{Kind}
 use Rattle.hd_model.specs.declared.data.Slot.{Slot}
@@ -14,9 +14,9 @@ module _ (n : Numbers) (s : State) (w : IsWellFormed n s) where
   used_low : (slot : ℕ) (u : BlockUse) → use_of s (slot / ROWS) ≡ Some u → slot < slots_of n.blocks
   used_low slot u is = omega (arith, (w.handles.blocks (slot / ROWS) (ap is_some is)).1)
 
-  -- an idle slot of the weak table
-  pub idle_is_low : (slot : Slot) → idle_slot s ≡ Some slot → slot.0 < slots_of n.blocks
-  idle_is_low slot e = used_low slot.0 _ (w.weak.kinds slot.0 (ap is_some (idle_found s slot e)))
+  -- a slot of the weak table
+  pub weak_low : (slot : ℕ) → IsSome (get s.weak slot) → slot < slots_of n.blocks
+  weak_low slot some = used_low slot _ (w.weak.kinds slot some)
 
   pub idle_unnamed : (slot : Slot) → idle_slot s ≡ Some slot → IsUnnamed (get s.weak slot.0)
   idle_unnamed slot e = subst IsUnnamed (sym (idle_found s slot e)) tt

@@ -1,69 +1,24 @@
--- Lists that are built in a loop: of the numbers below a bound that pass a test, and of the members of a
--- list that do.
-use Rattle.std.proofs.Common.{Bool, ℕ, ◌+◌, ◌<◌, ◌≤◌, ◌≡◌, ◌≢◌, ◌∙◌, ◌++◌, ◌∷◌, [], ⊎_elim, arith, List, AllPairs, Contains, length, get_or, take, filter, true, false, sym, subst, ap, length-append, cond}
-use Rattle.std.proofs.lemmas.Bool.{cases_eq, cond-true, cond-false, true≢false}
-use Rattle.std.proofs.lemmas.List.{append-nil, take_all, take_more}
-use Rattle.std.proofs.lemmas.List.Elements.{Contains-append_cases, Contains-append_left, Contains-append_right, filter-append}
-use Rattle.hd_model.proofs.Members.{not_in_none, first_in, member_cases, pairs_none, pairs_cons, pairs_append, passing_in, passing_from, pairs_passing}
-use Rattle.hd_audit.specs.Collecting.{Lists}
+-- Lists of the keys of a map, and of the members of a list that pass a test; and how long a list of numbers is.
+use Rattle.hd_model.proofs.Basics.{AllPairs, Bool, Contains, FinMap, IsSome, List, [], ap, arith, cases_eq, entries, entries_sorted, filter, get, is_some, keys, length, nat_cmp, refl, subst, suc, sym, true, zero, ℕ, ⊎_elim, ◌<◌, ◌∷◌, ◌≡◌, ◌≢◌, ◌≤◌}
+use Rattle.hd_model.proofs.MapBuild.{in_keys}
+use Rattle.hd_model.proofs.MapEntries.{get_entry, keys_apart}
+use Rattle.hd_model.proofs.Members.{first_in, later_in, mapped_from, passing_from, passing_in, pairs_passing}
+use Rattle.hd_model.proofs.PropertyCounts.{fewer}
+use Rattle.hd_audit.specs.Listed.{Lists}
 
-pub only_one : {A : Type 0} (x y : A) → Contains (x ∷ []) y → x ≡ y
-only_one x y h = ⊎_elim (λ same. same) (λ later. absurd (not_in_none y later)) (member_cases x [] y h)
-
-one_pair : {A : Type 0} (R : A → A → Type 0) (x : A) → AllPairs R (x ∷ [])
-one_pair R x = pairs_cons R x [] (λ y h. absurd (not_in_none y h)) (pairs_none R)
-
--- a list of the numbers below a bound that have a property
-abbrev pub ListsBelow : (ℕ → Type 0) → ℕ → List ℕ → Type 0
-ListsBelow P i xs = Lists (λ k. (k < i) × P k) xs
-
-module _ (P : ℕ → Type 0) where
-  pub lists_none : ListsBelow P 0 []
-  lists_none = record {
-    apart = pairs_none (λ x y. x ≢ y);
-    each = λ x h. absurd (not_in_none x h);
-    all = λ x h. let low = h.0 in absurd (omega arith);
-  }
-
-  lists_skip : {i : ℕ} {xs : List ℕ} → ListsBelow P i xs → (P i → ⊥) → ListsBelow P (i + 1) xs
-  lists_skip {i} {xs} l never = record {
-    apart = l.apart;
-    each = λ x h. let (low, p) = l.each x h in (omega arith, p);
-    all = λ x h. l.all x
-        (⊎_elim (λ same. absurd (never (subst P same h.1))) (λ other. (let low = h.0 in omega arith, h.1))
-        (cases_eq x i));
-  }
-
-  lists_push : {i : ℕ} {xs : List ℕ} → ListsBelow P i xs → P i → ListsBelow P (i + 1) (xs ++ i ∷ [])
-  lists_push {i} {xs} l p = record {
-    apart = pairs_append (λ x y. x ≢ y) xs (i ∷ []) l.apart (one_pair (λ x y. x ≢ y) i)
-        (λ x y h k same. let low = (l.each x h).0 in let at = only_one i y k in absurd (omega arith));
-    each = λ x h. ⊎_elim (λ early. let (low, q) = l.each x early in (omega arith, q))
-        (λ late. let at = only_one i x late in (omega arith, subst P at p))
-        (Contains-append_cases xs (i ∷ []) x h);
-    all = λ x h. ⊎_elim
-        (λ same. Contains-append_right xs (i ∷ []) x (subst (λ y. Contains (i ∷ []) y) (sym same)
-        (first_in i [])))
-        (λ other. Contains-append_left xs (i ∷ []) x (l.all x (let low = h.0 in omega arith, h.1)))
-        (cases_eq x i);
-  }
-
--- a list of those of the first members of another that pass a test
-module _ (test : ℕ → Bool) (xs : List ℕ) (i : ℕ) (low : i < length xs) (ys : List ℕ)
-    (so_far : ys ≡ filter test (take i xs)) where
-  next_of : filter test (take (i + 1) xs) ≡ ys ++ filter test (get_or xs i 0 ∷ [])
-  next_of =
-      ap (filter test) (take_more xs i 0 low) ∙ filter-append test (take i xs) (get_or xs i 0 ∷ [])
-      ∙ ap (λ zs. zs ++ filter test (get_or xs i 0 ∷ [])) (sym so_far)
-
-  passes_next : test (get_or xs i 0) ≡ true → ys ++ get_or xs i 0 ∷ [] ≡ filter test (take (i + 1) xs)
-  passes_next is =
-      sym (next_of ∙ ap (λ zs. ys ++ zs) (cond-true (test (get_or xs i 0)) (get_or xs i 0 ∷ []) [] is))
-
-  fails_next : test (get_or xs i 0) ≡ false → ys ≡ filter test (take (i + 1) xs)
-  fails_next is =
-      sym (next_of ∙ ap (λ zs. ys ++ zs) (cond-false (test (get_or xs i 0)) (get_or xs i 0 ∷ []) [] is)
-      ∙ append-nil ys)
+-- the keys of a map
+pub keys_listed : {A : Type 0} (m : FinMap nat_cmp A) (ids : List ℕ) → ids ≡ keys m
+    → Lists (λ k. IsSome (get m k)) ids
+keys_listed {A} m ids is = record {
+  apart = subst (λ ks. AllPairs (λ x y. x ≢ y) ks) (sym is) (keys_apart (entries m) (entries_sorted m));
+  each = λ k h. key_there k (subst (λ ks. Contains ks k) is h);
+  all = λ k h. subst (λ ks. Contains ks k) (sym is) (in_keys m k h);
+}
+  where
+    key_there : (k : ℕ) → Contains (keys m) k → IsSome (get m k)
+    key_there k h =
+        let (e, rest) = mapped_from (λ (g : ℕ × A). g.0) (entries m) k h in
+        subst (λ j. IsSome (get m j)) rest.1 (ap is_some (get_entry m e.0 e.1 rest.0))
 
 -- what passes of a list without repetitions that has all that may pass
 pub lists_passing : (test : ℕ → Bool) (xs : List ℕ) → AllPairs (λ x y. x ≢ y) xs
@@ -74,39 +29,24 @@ lists_passing test xs apart all = record {
   all = λ k h. passing_in test xs k (all k h) h;
 }
 
--- a list of the numbers below a bound is one of all, where all are below it
-pub lists_whole : (P : ℕ → Type 0) {n : ℕ} {xs : List ℕ} → ListsBelow P n xs → ((k : ℕ) → P k → k < n)
-    → Lists P xs
-lists_whole P l low = record {
-  apart = l.apart;
-  each = λ k h. (l.each k h).1;
-  all = λ k p. l.all k (low k p, p);
-}
+-- the numbers below a bound
+abbrev upto : ℕ → List ℕ
+upto zero = []
+upto (suc n) = n ∷ upto n
 
--- one step of a loop that tests a number and appends it
-module _ (test : ℕ → Bool) {i : ℕ} {xs : List ℕ} (l : ListsBelow (λ k. test k ≡ true) i xs) where
-  pub lists_next : (b : Bool) → b ≡ test i → (ys : List ℕ) → ys ≡ cond b (xs ++ i ∷ []) xs
-      → ListsBelow (λ k. test k ≡ true) (i + 1) ys
-  lists_next true e ys is =
-      subst (λ zs. ListsBelow (λ k. test k ≡ true) (i + 1) zs) (sym is)
-      (lists_push (λ k. test k ≡ true) l (sym e))
-  lists_next false e ys is =
-      subst (λ zs. ListsBelow (λ k. test k ≡ true) (i + 1) zs) (sym is)
-      (lists_skip (λ k. test k ≡ true) l (λ h. true≢false (sym h ∙ sym e)))
+upto_length : (n : ℕ) → length (upto n) ≡ n
+upto_length zero = refl
+upto_length (suc n) = ap suc (upto_length n)
 
-pub longer : (b : Bool) (i x : ℕ) (xs ys : List ℕ) → length xs ≤ i → ys ≡ cond b (xs ++ x ∷ []) xs
-    → length ys ≤ i + 1
-longer true i x xs ys low is =
-    let size : length ys ≡ length xs + 1 = ap length is ∙ length-append xs (x ∷ []) in omega
-    (arith, low, size)
-longer false i x xs ys low is = let size : length ys ≡ length xs = ap length is in omega (arith, low, size)
+in_upto : (n k : ℕ) → k < n → Contains (upto n) k
+in_upto zero k low = absurd (omega (arith, low))
+in_upto (suc n) k low =
+    ⊎_elim (λ same. subst (λ j. Contains (n ∷ upto n) j) (sym same) (first_in n (upto n)))
+    (λ apart. later_in n (upto n) k (in_upto n k (omega (arith, low, apart)))) (cases_eq k n)
 
-pub filter_next : (test : ℕ → Bool) (xs : List ℕ) (i : ℕ) → i < length xs → {ys zs : List ℕ}
-    → ys ≡ filter test (take i xs) → (b : Bool) → b ≡ test (get_or xs i 0)
-    → zs ≡ cond b (ys ++ get_or xs i 0 ∷ []) ys → zs ≡ filter test (take (i + 1) xs)
-filter_next test xs i low {ys} so_far true e is = is ∙ passes_next test xs i low ys so_far (sym e)
-filter_next test xs i low {ys} so_far false e is = is ∙ fails_next test xs i low ys so_far (sym e)
-
-pub filter_all : (test : ℕ → Bool) (xs : List ℕ) (i : ℕ) → length xs ≤ i → {ys : List ℕ}
-    → ys ≡ filter test (take i xs) → ys ≡ filter test xs
-filter_all test xs i all e = e ∙ ap (filter test) (take_all i xs all)
+-- a list of them without repetitions has at most as many
+pub below_few : (xs : List ℕ) (n : ℕ) → AllPairs (λ x y. x ≢ y) xs → ((x : ℕ) → Contains xs x → x < n)
+    → length xs ≤ n
+below_few xs n apart within =
+    let less : length xs ≤ length (upto n) = fewer xs (upto n) apart (λ x h. in_upto n x (within x h)) in
+    let size : length (upto n) ≡ n = upto_length n in omega (arith, less, size)

@@ -1,11 +1,11 @@
 -- What is marked, what is still to be followed, and how both change.
-use Rattle.hd_model.proofs.Basics.{Bool, Contains, Leads, List, None, Option, Some, [], ap, arith, cond, contains_key, empty, false, false≢true, get, get-empty, inl, inr, insert, is_some, len, length, length-append, nat_cmp, refl, same_Some, subst, sym, true, ℕ, ⊎_elim, ◌++◌, ◌+◌, ◌-◌, ◌<◌, ◌^◌, ◌∙◌, ◌∷◌, ◌≡◌, ◌⊎◌}
+use Rattle.hd_model.proofs.Basics.{Bool, Contains, Contains-append_cases, Contains-append_right, Leads, List, None, Option, Some, [], ap, arith, cond, contains_key, empty, false, false≢true, get, get-empty, inl, inr, insert, is_some, joined, len, length, length-append, nat_cmp, refl, same_Some, subst, sym, true, ℕ, ⊎_elim, ◌++◌, ◌+◌, ◌-◌, ◌<◌, ◌^◌, ◌∙◌, ◌∷◌, ◌≡◌, ◌⊎◌}
 use Rattle.std.proofs.lemmas.List.Elements.{Contains-append_left, Contains-push, Contains-push_cases}
 use Rattle.hd_model.proofs.Members.{not_in_none, first_in, later_in, member_cases}
 use Rattle.hd_model.proofs.MapEntries.{none_from}
 use Rattle.hd_model.proofs.ReadAfterWrite.{get_inserted, len_new, some_cases, still_some}
 use Rattle.hd_model.specs.declared.data.Id.{Id}
-use Rattle.hd_audit.specs.Marked.{Awaits, Closes, Gains, Marked, is_marked, with_mark, with_marks, with_targets}
+use Rattle.hd_audit.specs.Marked.{Awaits, Closes, Gains, Marked, is_marked, with_mark, with_marks, with_rows, with_targets}
 
 abbrev pub number : ℕ → Id
 number y = record { 0 = y }
@@ -112,6 +112,19 @@ gains_targets m (Some x ∷ os) =
     (member_cases (Some x) os (Some (number y)) h))
     (gains_then (λ y. y ≡ x.0) (IsAmong os) m (with_mark m x.0) (with_targets (with_mark m x.0) os)
     (gains_mark m x.0) (gains_targets (with_mark m x.0) os))
+
+-- what is referenced by one of several lists
+pub gains_rows : (m : Marked) (rows : List (List (Option Id))) → Gains (IsAmong (joined rows)) m
+    (with_rows m rows)
+gains_rows m [] = gains_none (IsAmong []) m (λ y h. not_in_none (Some (number y)) h)
+gains_rows m (row ∷ rows) =
+    gains_like (λ y. IsAmong row y ⊎ IsAmong (joined rows) y) (IsAmong (joined (row ∷ rows))) m
+    (with_rows (with_targets m row) rows)
+    (λ y h. ⊎_elim (λ c. Contains-append_left row (joined rows) (Some (number y)) c)
+    (λ c. Contains-append_right row (joined rows) (Some (number y)) c) h)
+    (λ y h. Contains-append_cases row (joined rows) (Some (number y)) h)
+    (gains_then (IsAmong row) (IsAmong (joined rows)) m (with_targets m row)
+    (with_rows (with_targets m row) rows) (gains_targets m row) (gains_rows (with_targets m row) rows))
 
 module _ (E : Id → Id → Type 0) where
   -- nothing is marked

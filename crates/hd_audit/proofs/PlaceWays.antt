@@ -23,7 +23,10 @@ use Rattle.hd_model.specs.Step.{RepliesPlace, IsOutcome, replies_place, pinned_b
 use Rattle.hd_model.proofs.ReadAfterWrite.{get_inserted, get_beside}
 use Rattle.hd_audit.specs.declared.choice.Choice.{Choice}
 use Rattle.hd_audit.specs.Judge.{Judge}
-use Rattle.hd_audit.specs.Commands.{WayComesTo, entry_by, made_of, pinned_in}
+use Rattle.hd_commands.specs.Handles.{pinned_in}
+use Rattle.hd_audit.specs.Commands.{WayComesTo}
+use Rattle.hd_commands.specs.Done.{entry_by}
+use Rattle.hd_commands.specs.Done.{done_of}
 use Rattle.hd_audit.proofs.StepWays.{same_entry}
 
 -- to put what is there changes nothing
@@ -150,7 +153,7 @@ module _ (caller h : ℕ) (choice : Choice) (old : Judge) where
         numbers = refl;
         only = λ e after is by of chosen.
             let same = outcome_of e after (Err refused) by pinned is in
-            same_entry e caller c (made_of (Err refused)) by of same.slot same.grown same.reply;
+            same_entry e caller c (done_of (Err refused)) by of same.slot same.grown same.reply;
       }
 
   pub at_place : (c : Cmd) (new : Judge) (id : Id) (p : ℕ) → pinned_in old.state caller h ≡ Ok id

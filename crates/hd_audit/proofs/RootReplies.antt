@@ -1,5 +1,5 @@
 -- What the search for a root comes to.
-use Rattle.std.proofs.Common.{Err, MatchOption, None, Ok, Option, Some, refl, subst, sym, inl, inr, ℕ, ◌∙◌, ◌≡◌}
+use Rattle.std.proofs.Common.{Err, None, Ok, Option, Some, refl, subst, sym, inl, inr, ℕ, ◌∙◌, ◌≡◌}
 use Rattle.std.proofs.lemmas.Option.{none-some, same_Some}
 use Rattle.std.specs.Option.{option_map_or}
 use Rattle.hd_model.specs.Anchors.{AnchorOf, EdgeOf, IsShortest, IsUnrooted}
@@ -11,8 +11,7 @@ use Rattle.hd_model.specs.declared.data.Refusal.TheVariants as refusal
 use Rattle.hd_model.specs.declared.data.Reply.TheVariants as reply
 use Rattle.hd_audit.specs.Commands.{ComesTo, ComesToRoot}
 use Rattle.hd_audit.specs.Judge.{Judge}
-use Rattle.hd_audit.specs.declared.made.Made.{Made}
-use Rattle.hd_audit.specs.declared.rooting.Origin.{Origin}
+use Rattle.hd_commands.specs.declared.done.Done.{Done}
 
 module _ (j : Judge) (caller r : ℕ) where
   pub root_null : register_of j.state caller r ≡ None → ComesToRoot j caller r (Err refusal.Null)
@@ -25,7 +24,7 @@ module _ (j : Judge) (caller r : ℕ) where
         (refuses refusal.Null j.state)) j j (Err refusal.Null)) (sym was) (refl, refl);
   }
 
-  module _ (goal : Id) (was : register_of j.state caller r ≡ Some goal) (made : Made) where
+  module _ (goal : Id) (was : register_of j.state caller r ≡ Some goal) (made : Done) where
     pub root_chain : (from : Id) (edges : ℕ)
         → made ≡ record { reply = reply.Chain from edges; slot = None; grown = Zero }
         → IsShortest (EdgeOf j.state) (AnchorOf j.state) (λ (x : Id). x.0) goal from edges
@@ -61,27 +60,3 @@ module _ (j : Judge) (caller r : ℕ) where
           (λ (o : Option Id). ComesTo (option_map_or (λ _. reply_with reply.Unrooted j.state) o
           (refuses refusal.Null j.state)) j j (Ok made)) (sym was) (is, refl);
     }
-
-  -- what the search found
-  module _ (goal : Id) (was : register_of j.state caller r ≡ Some goal) (made : Made) (found : Option Origin)
-      (search :
-      MatchOption found (IsUnrooted (EdgeOf j.state) (AnchorOf j.state) goal)
-      (λ o. IsShortest (EdgeOf j.state) (AnchorOf j.state) (λ (x : Id). x.0) goal o.from o.edges)) where
-    pub found_chain : (o : Origin) → found ≡ Some o
-        → made ≡ record { reply = reply.Chain o.from o.edges; slot = None; grown = Zero }
-        → ComesToRoot j caller r (Ok made)
-    found_chain o is made_is =
-        root_chain goal was made o.from o.edges made_is
-        (subst
-        (λ (f : Option Origin). MatchOption f (IsUnrooted (EdgeOf j.state) (AnchorOf j.state) goal)
-        (λ o. IsShortest (EdgeOf j.state) (AnchorOf j.state) (λ (x : Id). x.0) goal o.from o.edges))
-        is search)
-
-    pub found_none : found ≡ None → made ≡ record { reply = reply.Unrooted; slot = None; grown = Zero }
-        → ComesToRoot j caller r (Ok made)
-    found_none is made_is =
-        root_none goal was made made_is
-        (subst
-        (λ (f : Option Origin). MatchOption f (IsUnrooted (EdgeOf j.state) (AnchorOf j.state) goal)
-        (λ o. IsShortest (EdgeOf j.state) (AnchorOf j.state) (λ (x : Id). x.0) goal o.from o.edges))
-        is search)

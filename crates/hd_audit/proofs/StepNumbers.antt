@@ -1,6 +1,5 @@
 -- The numbers of a step's entry that are read off its line are below 2^32.
-use Rattle.std.proofs.Common.{cond, IsSome, List, MatchOption, None, Option, Some, [], ap, arith, is_some, refl, subst, sym, true, true≢false, ℕ, ⊎_elim, ◌&&◌, ◌*◌, ◌+◌, ◌<◌, ◌==◌, ◌^◌, ◌∙◌, ◌∷◌, ◌≡◌, ◌≤◌, nat_lt, length, option_and_then, unwrap_or}
-use Rattle.std.specs.Option.{option_map_or}
+use Rattle.std.proofs.Common.{cond, IsSome, MatchOption, None, Option, Some, ap, arith, is_some, refl, subst, sym, true, true≢false, ℕ, ⊎_elim, ◌*◌, ◌+◌, ◌<◌, ◌^◌, ◌∙◌, ◌≡◌, ◌≤◌, nat_lt, length, option_and_then, unwrap_or}
 use Rattle.std.proofs.lemmas.Option.{none-some, same_Some}
 use Rattle.std.specs.FinMap.{get}
 use Rattle.hd_model.specs.declared.command.Cmd.{Cmd}
@@ -17,16 +16,17 @@ use Rattle.hd_model.specs.declared.data.Kind.TheVariants as kind
 use Rattle.hd_model.specs.declared.data.Reply.TheVariants as reply
 use Rattle.hd_model.specs.declared.data.Refusal.TheVariants as refusal
 use Rattle.hd_model.specs.Anchors.{ReturnsRoot}
-use Rattle.hd_model.specs.Command.{Outcome, add_entry, adding_key, reply_with, idle_slot, in_idle, in_new, is_refused, loaded, on_field, on_handle, on_handle_of, on_object, refuses, slot_of_key, take_first}
+use Rattle.hd_model.specs.Command.{Outcome, reply_with, refuses}
 use Rattle.hd_model.specs.Places.{IsFreePlace, MayReturn}
 use Rattle.hd_model.specs.Role.{pins}
-use Rattle.hd_model.specs.State.{Handle, IsAllFree, IsFree, Numbers, State, block_of, count_of, first_slot, handle_at, handle_register_of, object_by_id, register_of, total_size, use_of}
-use Rattle.hd_model.specs.Step.{RepliesPlace, FindsTableFull, IsOutcome, MayGive, Step, TakesWay, Way, adds_entry, replies_place, replies_root, collects, decided, gives_back, makes_handle, makes_object, pinned_by, pinned_target, way_of, way_of_adding}
+use Rattle.hd_model.specs.State.{Handle, IsAllFree, IsFree, Numbers, State, block_of, first_slot, handle_at, handle_register_of, object_by_id, total_size, use_of}
+use Rattle.hd_model.specs.Step.{RepliesPlace, FindsTableFull, IsOutcome, MayGive, Step, TakesWay, Way, adds_entry, replies_place, replies_root, collects, decided, gives_back, makes_handle, makes_object, pinned_by, pinned_target, way_of}
 use Rattle.hd_model.specs.UserLaws.{HasPlacesApart}
 use Rattle.hd_model.specs.WellFormed.{IsWellFormed}
-use Rattle.hd_model.specs.Kinds.{is_kind, kind_of}
+use Rattle.hd_model.specs.Kinds.{kind_of}
+use Rattle.hd_model.proofs.DecidedOutcomes.{DecidedHas, IsDecided, decided_has}
 use Rattle.hd_model.proofs.WeakSlots.{idle_found}
-use Rattle.hd_model.proofs.Outcomes.{on_field_cases, on_handle_cases, on_handle_of_cases, on_object_cases, option_cases, test_cases}
+use Rattle.hd_model.proofs.Outcomes.{on_handle_cases, on_object_cases, option_cases, test_cases}
 use Rattle.hd_audit.proofs.ChoiceLines.{IsLow, IsLowGrowth, IsLowSlot}
 use Rattle.hd_model.specs.declared.limits.TheConstants.{BLOCKS, CALLERS, ROWS}
 
@@ -45,9 +45,10 @@ place_of reply.NoneQueued = None
 place_of reply.Absent = None
 place_of reply.Unrooted = None
 
-loaded_is : (v : Option Id) → place_of (loaded v) ≡ None
-loaded_is None = refl
-loaded_is (Some id) = refl
+no_address : (r : Reply) → IsDecided r → place_of r ≡ None
+no_address (reply.Place p) h = absurd h
+no_address (reply.Refused r) h = refl
+no_address r h = refl
 
 -- an outcome with a low slot and no address
 record IsPlain (o : Outcome) : Type 0 where
@@ -103,109 +104,11 @@ module _ (n : Numbers) (s : State) (w : IsWellFormed n s) (few : n.blocks ≤ BL
   refused : (r : Refusal) → IsPlain (refuses r s)
   refused r = plain (reply.Refused r) s refl
 
-  done : (t : State) → IsPlain (reply_with reply.Done t)
-  done t = plain reply.Done t refl
-
-  load : (v : Option Id) (t : State) → IsPlain (reply_with (loaded v) t)
-  load v t = plain (loaded v) t (loaded_is v)
-
-  taken : (caller d : ℕ) (queue : List Id) → IsPlain (take_first s caller d queue)
-  taken caller d [] = plain reply.NoneQueued _ refl
-  taken caller d (id ∷ rest) = plain (reply.Object id) _ refl
-
-  -- what the state alone decides has a low slot and no address
-  module _ (caller : ℕ) where
-    on_one : (o : ℕ) (act : Id → Outcome) → ((id : Id) → IsPlain (act id))
-        → IsPlain (on_object s caller o act)
-    on_one o act each = on_object_cases IsPlain s caller o act (λ _. refused _) (λ id _. each id)
-
-    on_part : (o i : ℕ) (act : Id → Outcome) → ((id : Id) → IsPlain (act id))
-        → IsPlain (on_field s caller o i act)
-    on_part o i act each =
-        on_field_cases IsPlain s caller o i act (λ _. refused _) (λ _ _ _. refused _) (λ id _ _. each id)
-
-    on_row : (h : ℕ) (act : Slot → Handle Id → Outcome)
-        → ((slot : Slot) (handle : Handle Id) → handle_at s slot ≡ Some handle → IsPlain (act slot handle))
-        → IsPlain (on_handle s caller h act)
-    on_row h act each =
-        on_handle_cases IsPlain s caller h act (λ _. refused _) (λ _ _ _. refused _)
-        (λ slot handle _ live. each slot handle live)
-
-    on_kind : (h : ℕ) (wanted : Kind) (act : Slot → Handle Id → Outcome)
-        → ((slot : Slot) (handle : Handle Id) → IsPlain (act slot handle))
-        → IsPlain (on_handle_of s caller h wanted act)
-    on_kind h wanted act each =
-        on_handle_of_cases IsPlain s caller h wanted act (λ _. refused _) (λ _ _ _. refused _)
-        (λ _ _ _ _ _. refused _) (λ slot handle _ _ _. each slot handle)
-
-    -- a way that the state alone decides
-    abbrev IsPlainWay : Way → Type 0
-    IsPlainWay (decided o) = IsPlain o
-    IsPlainWay (makes_object d fields fin) = Unit {0}
-    IsPlainWay (makes_handle d make t) = Unit {0}
-    IsPlainWay (collects k) = Unit {0}
-    IsPlainWay (replies_place h) = Unit {0}
-    IsPlainWay (gives_back wanted) = Unit {0}
-    IsPlainWay (adds_entry v key) = Unit {0}
-    IsPlainWay (replies_root r) = Unit {0}
-
-    added_in : (v : ℕ) (key : Id) (slot : Slot) → idle_slot s ≡ Some slot
-        → IsPlain (add_entry s caller v slot key)
-    added_in v key slot is =
-        record { slot = weak_low slot (ap is_some (idle_found s slot is)); reply = refl }
-
-    adding : (v : ℕ) (o : Option Id) → IsPlainWay (way_of_adding s caller v
-        (option_map_or (adding_key s) o (is_refused refusal.Null)))
-    adding v None = refused _
-    adding v (Some key) =
-        option_cases (λ a. IsPlainWay (way_of_adding s caller v a)) (λ _. is_refused refusal.Present)
-        (slot_of_key s key) _
-        (λ _. option_cases (λ a. IsPlainWay (way_of_adding s caller v a)) (λ slot. in_idle slot key)
-        (idle_slot s) (in_new key) (λ _. tt) (λ slot is. added_in v key slot is))
-        (λ _ _. refused _)
-
-    way_plain : (c : Cmd) → IsPlainWay (way_of s caller c)
-    way_plain (cmd.New d fields fin) = tt
-    way_plain (cmd.Set o i v) = on_part o i _ (λ id. done _)
-    way_plain (cmd.Get d o i) = on_part o i _ (λ id. load _ _)
-    way_plain (cmd.Val o v) = on_one o _ (λ id. done _)
-    way_plain (cmd.Read o) = on_one o _ (λ id. plain _ s refl)
-    way_plain (cmd.Copy d r) = done _
-    way_plain (cmd.Clear d) = done _
-    way_plain (cmd.SPut k r) = done _
-    way_plain (cmd.SGet d k) = load _ _
-    way_plain (cmd.Gen o) = on_one o _ (λ id. plain _ s refl)
-    way_plain (cmd.Suppress o) = on_one o _ (λ id. done _)
-    way_plain (cmd.Reregister o) = on_one o _ (λ id. done _)
-    way_plain (cmd.Final d) = taken caller d s.queue
-    way_plain (cmd.Collect k) = tt
-    way_plain (cmd.HNew d make t) = tt
-    way_plain (cmd.HGet d h) = on_row h _ (λ slot handle _. load _ _)
-    way_plain (cmd.HSet h t) =
-        on_row h _ (λ slot handle _. test_cases IsPlain (is_kind handle.kind kind.Dependent
-        && is_some (register_of s caller t)) _ _ (λ _. refused _) (λ _. done _))
-    way_plain (cmd.HSec h r) =
-        on_kind h kind.Dependent _
-        (λ slot handle. option_cases IsPlain _ handle.target _ (λ _. refused _) (λ _ _. done _))
-    way_plain (cmd.HDep d h) = on_kind h kind.Dependent _ (λ slot handle. load _ _)
-    way_plain (cmd.HVar h given) = on_kind h kind.Variable _ (λ slot handle. done _)
-    way_plain (cmd.HFree h) =
-        on_row h _ (λ slot handle live. record { slot = handle_low slot handle live; reply = refl })
-    way_plain (cmd.HPut k h) = done _
-    way_plain (cmd.HPick d k) = done _
-    way_plain (cmd.AddrOf h) = tt
-    way_plain (cmd.HUp h) = on_kind h kind.Counted _ (λ slot handle. plain _ _ refl)
-    way_plain (cmd.HDown h) =
-        on_kind h kind.Counted _ (λ slot handle. test_cases IsPlain (count_of handle.extra == 0) _ _
-        (λ _. refused _) (λ _. plain _ _ refl))
-    way_plain (cmd.Trim wanted) = tt
-    way_plain (cmd.CAdd k v) = adding v (register_of s caller k)
-    way_plain (cmd.CFind d k) =
-        on_one k _ (λ key. option_cases IsPlain _ (slot_of_key s key) _ (λ _. plain _ _ refl)
-        (λ _ _. load _ _))
-    way_plain (cmd.CRemove k) =
-        on_one k _ (λ key. option_cases IsPlain _ (slot_of_key s key) _ (λ _. plain _ _ refl) (λ _ _. done _))
-    way_plain (cmd.GcRoot r) = tt
+  way_plain : (caller : ℕ) (c : Cmd) → DecidedHas IsPlain (way_of s caller c)
+  way_plain caller =
+      decided_has IsPlain s caller (λ r t h. plain r t (no_address r h))
+      (λ slot handle live t. record { slot = handle_low slot handle live; reply = refl })
+      (λ v slot key is. record { slot = weak_low slot (ap is_some (idle_found s slot is)); reply = refl })
 
   -- the numbers of an entry that are read off its line
   record HasLow (e : Entry) : Type 0 where
@@ -275,7 +178,7 @@ module _ (n : Numbers) (s : State) (w : IsWellFormed n s) (few : n.blocks ≤ BL
               (may_low id a.place (a.may id (found e.caller h slot handle id f g same target)));
         })) (λ _. lost _)) a.outcome
 
-    of_way : (e : Entry) (t : State) (way : Way) → IsPlainWay e.caller way → TakesWay n s e t way → HasLow e
+    of_way : (e : Entry) (t : State) (way : Way) → DecidedHas IsPlain way → TakesWay n s e t way → HasLow e
     of_way e t (decided o) low is = of_plain e o t low is
     of_way e t (makes_object d fields fin) low is =
         of_plain e _ t (test_cases IsPlain (nat_lt n.heap (total_size s + (fields + 3))) _ _ (λ _. refused _)

@@ -19,27 +19,29 @@ use Rattle.hd_model.specs.Step.{IsOutcome, Step, TakesWay, replies_root, collect
 use Rattle.hd_model.specs.Anchors.{ReturnsRoot}
 use Rattle.hd_model.proofs.Collections.{one_collection}
 use Rattle.hd_model.proofs.AnchorChains.{one_root}
-use Rattle.hd_audit.specs.declared.made.Made.{Made}
+use Rattle.hd_commands.specs.declared.done.Done.{Done}
 use Rattle.hd_audit.specs.declared.choice.Choice.{Choice}
 use Rattle.hd_audit.specs.Judge.{Judge}
-use Rattle.hd_audit.specs.Commands.{ComesToRoot, IsNoStep, IsTheStep, MayStep, WayComesTo, entry_by, made_of}
+use Rattle.hd_audit.specs.Commands.{ComesToRoot, IsNoStep, IsTheStep, MayStep, WayComesTo}
+use Rattle.hd_commands.specs.Done.{entry_by}
+use Rattle.hd_commands.specs.Done.{done_of}
 
 -- an entry with these parts
-pub same_entry : (e : Entry) (caller : ℕ) (c : Cmd) (made : Made) → e.caller ≡ caller → e.cmd ≡ c
+pub same_entry : (e : Entry) (caller : ℕ) (c : Cmd) (made : Done) → e.caller ≡ caller → e.cmd ≡ c
     → e.slot ≡ made.slot → e.grown ≡ made.grown → e.reply ≡ made.reply → e ≡ entry_by caller c made
 same_entry e caller c made by of slot grown replied =
     λ i. record { caller = by i; cmd = of i; slot = slot i; grown = grown i; reply = replied i }
 
 -- one of the entries that an outcome has
-abbrev done_by : Outcome → Made
+abbrev done_by : Outcome → Done
 done_by wanted = record { reply = wanted.reply; slot = wanted.slot; grown = Zero }
 
 module _ (caller : ℕ) (choice : Choice) (old new : Judge) where
-  outcome_entry : (e : Entry) (after : State) (c : Cmd) (wanted : Outcome) (made : Made) → e.caller ≡ caller
+  outcome_entry : (e : Entry) (after : State) (c : Cmd) (wanted : Outcome) (made : Done) → e.caller ≡ caller
       → e.cmd ≡ c → IsOutcome e wanted after → made ≡ done_by wanted → e ≡ entry_by caller c made
   outcome_entry e after c wanted made by of is same =
-      same_entry e caller c made by of (is.slot ∙ sym (ap (λ (m : Made). m.slot) same))
-      (is.grown ∙ sym (ap (λ (m : Made). m.grown) same)) (is.reply ∙ sym (ap (λ (m : Made). m.reply) same))
+      same_entry e caller c made by of (is.slot ∙ sym (ap (λ (m : Done). m.slot) same))
+      (is.grown ∙ sym (ap (λ (m : Done). m.grown) same)) (is.reply ∙ sym (ap (λ (m : Done). m.reply) same))
 
   pub collect_goes : (n : ℕ) (report : Report) → CollectsState n old.state new.state report
       → new.numbers ≡ old.numbers
@@ -67,16 +69,16 @@ module _ (caller : ℕ) (choice : Choice) (old new : Judge) where
   root_same r (Some goal) found other a b =
       ap (λ x. reply_with x old.state) (one_root old.state goal other found (b goal refl) (a goal refl))
 
-  pub root_goes : (r : ℕ) (result : Result Made Refusal) → new ≡ old → ComesToRoot old caller r result
+  pub root_goes : (r : ℕ) (result : Result Done Refusal) → new ≡ old → ComesToRoot old caller r result
       → WayComesTo caller (replies_root r) choice old new (Some result)
   root_goes r result same comes = λ c. record {
     does = record {
       found = comes.found;
       is_root = comes.is_root;
       outcome = record {
-        reply = ap (λ (m : Made). m.reply) comes.comes.0;
-        slot = ap (λ (m : Made). m.slot) comes.comes.0;
-        grown = ap (λ (m : Made). m.grown) comes.comes.0;
+        reply = ap (λ (m : Done). m.reply) comes.comes.0;
+        slot = ap (λ (m : Done). m.slot) comes.comes.0;
+        grown = ap (λ (m : Done). m.grown) comes.comes.0;
         after = ap (λ (j : Judge). j.state) (same ∙ comes.comes.1);
       };
     };
@@ -90,7 +92,7 @@ module _ (caller : ℕ) (choice : Choice) (old new : Judge) where
         let mine : reply_root old.state e.caller r is.found ≡ reply_root old.state caller r comes.found =
         ap (λ k. reply_root old.state k r is.found) by
         ∙ root_same r (register_of old.state caller r) comes.found is.found comes.is_root asked in
-        outcome_entry e after c (reply_root old.state caller r comes.found) (made_of result) by of
+        outcome_entry e after c (reply_root old.state caller r comes.found) (done_of result) by of
         (subst (λ w. IsOutcome e w after) mine is.outcome) comes.comes.0;
   }
 
@@ -103,9 +105,9 @@ module _ (old new : Judge) (c : Cmd) (choice : Choice) (may : MayStep old choice
       subst (λ x. TakesWay old.numbers old.state e after (way_of old.state choice.caller x)) of
       (subst (λ k. TakesWay old.numbers old.state e after (way_of old.state k e.cmd)) by step.does)
 
-  pub way_steps : (result : Result Made Refusal)
+  pub way_steps : (result : Result Done Refusal)
       → WayComesTo choice.caller (way_of old.state choice.caller c) choice old new (Some result)
-      → IsTheStep old c choice (entry_by choice.caller c (made_of result)) new
+      → IsTheStep old c choice (entry_by choice.caller c (done_of result)) new
   way_steps result goes =
       let here = goes c in record {
         caller = refl;

@@ -2,22 +2,16 @@
 use Rattle.std.specs.Prelude.{◌≡◌, ℕ, ◌==◌, cond, List, [], ◌∷◌, ◌++◌, Option, Some, None, option_map, unwrap_or, Contains}
 use Rattle.std.specs.FinMap.{get}
 use Rattle.hd_model.specs.declared.data.Id.{Id}
-use Rattle.hd_model.specs.State.{Handle, State, secondary_of, weak_handle}
+use Rattle.hd_model.specs.State.{Handle, State, secondary_of}
 use Rattle.hd_model.specs.Role.{role}
 use Rattle.hd_model.specs.Collect.{is_attaching}
 use Rattle.hd_model.specs.Reach.{IsAttached}
 use Rattle.hd_model.specs.Scene.{scene_of}
-use Rattle.hd_audit.specs.View.{entry_of}
-use Rattle.hd_audit.specs.declared.data.WeakEntry.{WeakEntry as Pair}
 use Rattle.hd_audit.specs.declared.marks.Attached.{Attached}
 
 -- the secondaries that are listed by a target
 abbrev pub secondaries : Attached → ℕ → List ℕ
 secondaries a x = unwrap_or (option_map (λ list. list.items) (get a.lists x)) []
-
--- what a slot of the weak table attaches
-abbrev pub attaching : Option Pair → Handle Id
-attaching held = weak_handle (option_map entry_of held)
 
 -- a target and a secondary, where both are there
 abbrev pub pair_of : Option Id → Option Id → List (ℕ × ℕ)

@@ -2,7 +2,9 @@
 use Rattle.std.specs.Prelude.{◌≡◌, ℕ, ◌+◌, ◌<◌, ◌≤◌, ◌↔◌, ◌⊎◌, Bool, true, false, cond, List, [], ◌∷◌, ◌++◌, length, sum_by, slice_get, slice_index, Option, Some, None, option_map, AllPairs, Contains}
 use Rattle.std.specs.FinMap.{get, len}
 use Rattle.hd_model.specs.declared.command.Cmd.{Cmd}
-use Rattle.hd_model.specs.declared.command.Cmd.TheVariants as cmd
+use Rattle.hd_model.specs.declared.class.Class.{Class}
+use Rattle.hd_model.specs.declared.class.Class.TheVariants as class
+use Rattle.hd_model.specs.Class.{class_of}
 use Rattle.hd_model.specs.declared.data.Entry.{Entry}
 use Rattle.hd_model.specs.declared.data.Id.{Id}
 use Rattle.hd_model.specs.declared.data.Kind.{Kind}
@@ -109,39 +111,23 @@ GivesBlock s kind e =
     × (e.grown ≡ Back block))
     ⊎ ((e.reply ≡ reply.Value 0) × (e.slot ≡ None) × (e.grown ≡ Zero))
 
--- the commands that have one entry, which is found by making the step
+-- the commands that have one entry, which is found by making the step, by their class
+abbrev pub class_has_one_step : Class → Bool
+class_has_one_step (class.MakesObject fields) = true
+class_has_one_step (class.TakesSlot make t) = false
+class_has_one_step (class.StoresTarget h t) = true
+class_has_one_step (class.StoresSecondary h) = true
+class_has_one_step class.Frees = true
+class_has_one_step (class.GivesBack kind) = false
+class_has_one_step (class.Collects n) = true
+class_has_one_step (class.RepliesPlace h) = false
+class_has_one_step (class.AddsEntry k v) = false
+class_has_one_step (class.LooksUp k) = true
+class_has_one_step (class.Searches s) = true
+class_has_one_step class.Plain = true
+
 abbrev pub has_one_step : Cmd → Bool
-has_one_step (cmd.New d fields fin) = true
-has_one_step (cmd.Collect n) = true
-has_one_step (cmd.HNew d make t) = false
-has_one_step (cmd.AddrOf s) = false
-has_one_step (cmd.Trim kind) = false
-has_one_step (cmd.CAdd k v) = false
-has_one_step (cmd.CRemove k) = true
-has_one_step (cmd.GcRoot s) = true
-has_one_step (cmd.Set o i v) = true
-has_one_step (cmd.Get d o i) = true
-has_one_step (cmd.Val o n) = true
-has_one_step (cmd.Read o) = true
-has_one_step (cmd.Copy d s) = true
-has_one_step (cmd.Clear d) = true
-has_one_step (cmd.SPut k s) = true
-has_one_step (cmd.SGet d k) = true
-has_one_step (cmd.Gen s) = true
-has_one_step (cmd.Suppress s) = true
-has_one_step (cmd.Reregister s) = true
-has_one_step (cmd.Final d) = true
-has_one_step (cmd.HGet d s) = true
-has_one_step (cmd.HSet s t) = true
-has_one_step (cmd.HSec h s) = true
-has_one_step (cmd.HDep d s) = true
-has_one_step (cmd.HFree s) = true
-has_one_step (cmd.HPut k s) = true
-has_one_step (cmd.HPick d k) = true
-has_one_step (cmd.HVar s strength) = true
-has_one_step (cmd.HUp s) = true
-has_one_step (cmd.HDown s) = true
-has_one_step (cmd.CFind d k) = true
+has_one_step c = class_has_one_step (class_of c)
 
 -- what is said of the entries of a caller's command
 abbrev pub MayHave : Numbers → State → ℕ → Cmd → Entries → Type 0

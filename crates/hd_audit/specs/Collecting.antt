@@ -1,197 +1,130 @@
--- What a collection of the judge finds before it changes anything, as lists, and what it then does to the
--- state.
-use Rattle.std.specs.Prelude.{◌≡◌, ◌≢◌, ℕ, ◌<◌, ◌≤◌, ◌^◌, ◌==◌, ◌&&◌, ◌++◌, ◌+◌, ◌*◌, length, not, nat_le, Bool, true, false, List, map, Option, Some, None, option_map, is_some, Contains, AllPairs, Decides}
-use Rattle.std.specs.FinMap.{FinMap, get}
+-- What a collection of the judge does to handles, entries and objects, each in one pass.
+use Rattle.std.specs.Prelude.{ℕ, ◌+◌, ◌&&◌, ◌++◌, nat_le, not, Bool, false, cond, List, [], ◌∷◌, Option, None}
+use Rattle.std.specs.Option.{option_map_or}
+use Rattle.std.specs.FinMap.{FinMap, get, insert, remove}
 use Rattle.std.specs.Ordering.{nat_cmp}
-use Rattle.hd_model.specs.{declared.data.Id.Id, declared.data.Report.Report}
-use Rattle.hd_model.specs.declared.limits.TheConstants.{BLOCKS, ROWS}
-use Rattle.hd_model.specs.State.{Object, Handle, WeakEntry, State, without_secondary}
+use Rattle.hd_model.specs.declared.data.Id.{Id}
+use Rattle.hd_model.specs.State.{Object, Handle, WeakEntry, secondary}
 use Rattle.hd_model.specs.Role.{Role, holds, short, long, attaches, role}
-use Rattle.hd_model.specs.Collect.{is_lost}
-use Rattle.hd_model.specs.Places.{is_pinned}
-use Rattle.hd_model.specs.Ages.{raised}
-use Rattle.hd_model.specs.Scene.{scene_of}
-use Rattle.hd_model.specs.Reach.{IsReached, IsKept}
+use Rattle.hd_model.specs.Collect.{is_attaching, loses, survivor}
+use Rattle.hd_audit.specs.declared.collecting.Fates.{Fates}
+use Rattle.hd_audit.specs.declared.collecting.Losses.{Losses}
+use Rattle.hd_audit.specs.Listed.{entry_in}
 
 abbrev pub id_of : ℕ → Id
 id_of k = record { 0 = k }
 
-abbrev pub role_number : Role → ℕ
-role_number holds = 0
-role_number short = 1
-role_number long = 2
-role_number attaches = 3
+abbrev pub no_losses : Losses
+no_losses = record { short = 0; long = 0; dep = 0 }
 
--- whether two roles are the same one
-abbrev pub is_role : Role → Role → Bool
-is_role a b = role_number a == role_number b
+abbrev pub no_fates : Fates
+no_fates = record { kept = 0; removed = 0; revived = 0 }
 
--- a list has exactly the things with a property, each once
-pub record Lists {A : Type 0} (P : A → Type 0) (xs : List A) : Type 0 where
-  pub apart : AllPairs (λ x y. x ≢ y) xs
-  pub each : (x : A) → Contains xs x → P x
-  pub all : (x : A) → P x → Contains xs x
+-- 1 for what is so, and 0 for what is not
+abbrev pub one_if : Bool → ℕ
+one_if b = cond b 1 0
 
--- whether there is a handle of a role, and its target is outside a set
-abbrev pub loses_as : Role → (Id → Bool) → Option (Handle Id) → Bool
-loses_as r p None = false
-loses_as r p (Some h) = is_role (role h) r && is_lost p h.target
+-- what a step by number makes of something, for each of a list in turn
+abbrev pub pass : {S : Type 0} → (S → ℕ → S) → S → List ℕ → S
+pass step s [] = s
+pass step s (k ∷ ks) = pass step (step s k) ks
 
--- whether there is an entry, and its key is outside a set
-abbrev pub is_stale : (Id → Bool) → Option (Option (WeakEntry Id)) → Bool
-is_stale p None = false
-is_stale p (Some None) = false
-is_stale p (Some (Some e)) = not (p e.key)
+-- ---- handles
+
+-- a handle without its target, and without its secondary
+abbrev pub emptied : Handle Id → Handle Id
+emptied h = record {
+  kind = h.kind;
+  target = None;
+  extra = cond (is_attaching (role h)) (secondary None) h.extra;
+}
+
+-- one handle more of a role lost its target
+abbrev pub counted : Role → Losses → Losses
+counted holds l = l
+counted short l = record { short = l.short + 1; long = l.long; dep = l.dep }
+counted long l = record { short = l.short; long = l.long + 1; dep = l.dep }
+counted attaches l = record { short = l.short; long = l.long; dep = l.dep + 1 }
+
+-- handles, and how many lost their targets
+pub record Cleared : Type 0 where
+  pub handles : FinMap nat_cmp (Handle Id)
+  pub losses : Losses
+
+abbrev pub cleared_to : FinMap nat_cmp (Handle Id) → Losses → Cleared
+cleared_to handles losses = record { handles = handles; losses = losses }
+
+-- after a slot
+abbrev pub clear_handle : (reach kept : Id → Bool) → Cleared → ℕ → Handle Id → Cleared
+clear_handle reach kept c slot h =
+    cond (loses reach kept h)
+    (cleared_to (insert c.handles slot (emptied h)) (counted (role h) c.losses)) c
+
+abbrev pub cleared_one : (reach kept : Id → Bool) → Cleared → ℕ → Cleared
+cleared_one reach kept c slot = option_map_or (clear_handle reach kept c slot) (get c.handles slot) c
+
+-- ---- entries of the weak table
+
+-- the weak table, and how many entries left it
+pub record Swept : Type 0 where
+  pub held : FinMap nat_cmp (Option (WeakEntry Id))
+  pub count : ℕ
+
+abbrev pub swept_to : FinMap nat_cmp (Option (WeakEntry Id)) → ℕ → Swept
+swept_to held count = record { held = held; count = count }
+
+abbrev pub sweep_entry : (kept : Id → Bool) → Swept → ℕ → WeakEntry Id → Swept
+sweep_entry kept s slot e = cond (kept e.key) s (swept_to (insert s.held slot None) (s.count + 1))
+
+abbrev pub swept_one : (kept : Id → Bool) → Swept → ℕ → Swept
+swept_one kept s slot = option_map_or (sweep_entry kept s slot) (entry_in s.held slot) s
+
+-- ---- objects
 
 -- whether an object that is reached or not is to be resurrected by a collection of n
-abbrev pub resurrects : ℕ → Bool → Option (Object Id) → Bool
-resurrects n reached None = false
-resurrects n reached (Some o) = o.registered && (nat_le o.generation n && not reached)
+abbrev pub wakes : ℕ → Bool → Object Id → Bool
+wakes n reached o = o.registered && (nat_le o.generation n && not reached)
 
--- whether an object that is kept or not is condemned and stays, or is removed
-abbrev pub survives : ℕ → Bool → Option (Object Id) → Bool
-survives n kept None = false
-survives n kept (Some o) = nat_le o.generation n && kept
+-- the same of what is found at an identity
+abbrev pub is_woken : ℕ → (Id → Bool) → FinMap nat_cmp (Object Id) → ℕ → Bool
+is_woken n reach objects k = option_map_or (wakes n (reach (id_of k))) (get objects k) false
 
-abbrev pub is_removed : Bool → Option (Object Id) → Bool
-is_removed kept None = false
-is_removed kept (Some o) = not kept
+-- objects, the queue, and how many objects came to each fate
+pub record Settled : Type 0 where
+  pub objects : FinMap nat_cmp (Object Id)
+  pub queue : List Id
+  pub fates : Fates
 
--- whether an object has a pinned address, and no handle pins it
-abbrev pub is_unpinned : State → ℕ → Bool
-is_unpinned s k = is_some (get s.places k) && not (is_pinned s.handles k)
+abbrev pub settled_to : FinMap nat_cmp (Object Id) → List Id → Fates → Settled
+settled_to objects queue fates = record { objects = objects; queue = queue; fates = fates }
 
--- the same of what a state has at a slot or an identity
-abbrev pub loses_at : Role → (Id → Bool) → State → ℕ → Bool
-loses_at r p s slot = loses_as r p (get s.handles slot)
-
-abbrev pub stale_at : (Id → Bool) → State → ℕ → Bool
-stale_at p s slot = is_stale p (get s.weak slot)
-
-abbrev pub resurrects_at : ℕ → (Id → Bool) → State → ℕ → Bool
-resurrects_at n reach s k = resurrects n (reach (id_of k)) (get s.objects k)
-
-abbrev pub survives_at : ℕ → (Id → Bool) → State → ℕ → Bool
-survives_at n kept s k = survives n (kept (id_of k)) (get s.objects k)
-
-abbrev pub removed_at : (Id → Bool) → State → ℕ → Bool
-removed_at kept s k = is_removed (kept (id_of k)) (get s.objects k)
-
-abbrev pub is_outside : (Id → Bool) → ℕ → Bool
-is_outside p k = not (p (id_of k))
-
--- a list has exactly the numbers that pass a test, each once
-abbrev pub Passing : (ℕ → Bool) → List ℕ → Type 0
-Passing test = Lists (λ k. test k ≡ true)
-
--- what a collection does to a handle that loses its target, to an object that is resurrected, and to one that
--- survives
-abbrev pub emptied : Handle Id → Handle Id
-emptied h = record { kind = h.kind; target = None; extra = without_secondary h.extra }
-
-abbrev pub unregistered_object : Object Id → Object Id
-unregistered_object o = record {
-  fields = o.fields;
-  value = o.value;
-  generation = o.generation;
-  registered = false;
+abbrev pub keep_object : ℕ → Bool → Settled → ℕ → Object Id → Settled
+keep_object n woken s k o = record {
+  objects = insert s.objects k (survivor n woken o);
+  queue = cond woken (s.queue ++ id_of k ∷ []) s.queue;
+  fates = record {
+    kept = s.fates.kept + one_if (nat_le o.generation n);
+    removed = s.fates.removed;
+    revived = s.fates.revived + one_if woken;
+  };
 }
 
-abbrev pub raised_object : ℕ → Object Id → Object Id
-raised_object n o = record {
-  fields = o.fields;
-  value = o.value;
-  generation = raised n o.generation;
-  registered = o.registered;
+abbrev pub remove_object : Settled → ℕ → Settled
+remove_object s k = record {
+  objects = remove s.objects k;
+  queue = s.queue;
+  fates = record { kept = s.fates.kept; removed = s.fates.removed + 1; revived = s.fates.revived };
 }
 
--- a map after another, where a function makes what is at each key of a list of what was there
-pub record ChangesAt {A : Type 0} (f : Option A → Option A) (keys : List ℕ) (old new : FinMap nat_cmp A)
-    : Type 0 where
-  pub there : (k : ℕ) → Contains keys k → get new k ≡ f (get old k)
-  pub beside : (k : ℕ) → (Contains keys k → ⊥) → get new k ≡ get old k
+abbrev pub settle_object : ℕ → (reach kept : Id → Bool) → Settled → ℕ → Object Id → Settled
+settle_object n reach kept s k o =
+    cond (kept (id_of k)) (keep_object n (wakes n (reach (id_of k)) o) s k o) (remove_object s k)
 
--- what is no more
-abbrev pub gone : {A : Type 0} → Option A → Option A
-gone o = None
+abbrev pub settled_one : ℕ → (reach kept : Id → Bool) → Settled → ℕ → Settled
+settled_one n reach kept s k = option_map_or (settle_object n reach kept s k) (get s.objects k) s
 
--- a slot of the weak table becomes idle
-abbrev pub idled : Option (Option (WeakEntry Id)) → Option (Option (WeakEntry Id))
-idled = option_map (λ e. None)
+-- ---- pinned addresses
 
--- what a collection finds: the slots of handles that lose their targets, by role, the slots of entries that
--- leave the weak table, and the identities of objects that are resurrected, that survive, that are removed,
--- and that have a pinned address no more
-pub record Findings : Type 0 where
-  pub short : List ℕ
-  pub long : List ℕ
-  pub dep : List ℕ
-  pub entries : List ℕ
-  pub joins : List ℕ
-  pub kept : List ℕ
-  pub removed : List ℕ
-  pub unpinned : List ℕ
-
--- the report of a collection that found them
-abbrev pub report_of : Findings → Report
-report_of f = record {
-  kept = length f.kept;
-  removed = length f.removed;
-  short = length f.short;
-  long = length f.long;
-  dep = length f.dep + length f.entries;
-  revived = length f.joins;
-}
-
--- a collection of n finds them, where these are reached and kept
-pub record Finds (n : ℕ) (s : State) (reach kept : Id → Bool) (f : Findings) : Type 0 where
-  pub shorts : Passing (loses_at short reach s) f.short
-  pub longs : Passing (loses_at long kept s) f.long
-  pub deps : Passing (loses_at attaches kept s) f.dep
-  pub entries : Passing (stale_at kept s) f.entries
-  pub joins : Passing (resurrects_at n reach s) f.joins
-  pub rising : AllPairs (λ x y. x < y) f.joins
-  pub survivors : Passing (survives_at n kept s) f.kept
-  pub removed : Passing (removed_at kept s) f.removed
-  pub unpinned : Passing (is_unpinned s) f.unpinned
-
--- the state after a collection of n that found these
-pub record Applies (n : ℕ) (f : Findings) (s t : State) : Type 0 where
-  pub handles : ChangesAt (option_map emptied) (f.short ++ f.long ++ f.dep) s.handles t.handles
-  pub weak : ChangesAt idled f.entries s.weak t.weak
-  pub places : ChangesAt gone f.unpinned s.places t.places
-  pub unregistered : FinMap nat_cmp (Object Id)
-  pub risen : FinMap nat_cmp (Object Id)
-  pub joins : ChangesAt (option_map unregistered_object) f.joins s.objects unregistered
-  pub survivors : ChangesAt (option_map (raised_object n)) f.kept unregistered risen
-  pub objects : ChangesAt gone f.removed risen t.objects
-  pub rest : t ≡ record s {
-    objects = t.objects;
-    handles = t.handles;
-    weak = t.weak;
-    places = t.places;
-    queue = s.queue ++ map id_of f.joins;
-  }
-
--- a collection found these by what is reached and what is kept, and each list is short
-pub record IsFound (n : ℕ) (s : State) (f : Findings) : Type 0 where
-  pub reach : Id → Bool
-  pub kept : Id → Bool
-  pub reach_is : (x : Id) → Decides (reach x) (IsReached (scene_of s) n x)
-  pub kept_is : (x : Id) → Decides (kept x) (IsKept (scene_of s) n x)
-  pub finds : Finds n s reach kept f
-
-pub record AreFew (f : Findings) : Type 0 where
-  pub short : length f.short ≤ ROWS * (BLOCKS + 1)
-  pub long : length f.long ≤ ROWS * (BLOCKS + 1)
-  pub dep : length f.dep ≤ ROWS * (BLOCKS + 1)
-  pub entries : length f.entries ≤ ROWS * (BLOCKS + 1)
-  pub joins : length f.joins < 2 ^ 32
-  pub kept : length f.kept < 2 ^ 32
-  pub removed : length f.removed < 2 ^ 32
-
--- no key has two entries
-abbrev pub IsOnce : State → Type 0
-IsOnce s =
-    (a b : ℕ) (d e : WeakEntry Id) → get s.weak a ≡ Some (Some d) → get s.weak b ≡ Some (Some e)
-    → d.key ≡ e.key → a ≡ b
+-- without that of an identity that is outside a set
+abbrev pub without_one : (Id → Bool) → FinMap nat_cmp ℕ → ℕ → FinMap nat_cmp ℕ
+without_one p places k = cond (p (id_of k)) places (remove places k)

@@ -1,18 +1,24 @@
 -- What contracts see of the judge's machine and of its parts.
-use Rattle.std.specs.Prelude.{◌≡◌, ◌≢◌, ℕ, ◌+◌, ◌<◌, ◌^◌, false, [], Option, Some, unwrap_or, sum_by, refl}
-use Rattle.std.specs.Coded.{Coded, code_by, coded×, coded_ℕ, coded_option}
+use Rattle.std.specs.Prelude.{◌≡◌, ◌≢◌, ℕ, ◌+◌, ◌<◌, ◌≤◌, ◌^◌, false, [], Some, unwrap_or, sum_by, refl}
+use Rattle.std.specs.Coded.{Coded, code_by, coded×, coded_ℕ}
 use Rattle.std.specs.FinMap as finmap
 use Rattle.std.specs.FinMap.{FinMap, get, values}
 use Rattle.std.specs.Ordering.{nat_cmp}
 use Rattle.hd_model.specs.{declared.data.Id.Id}
-use Rattle.hd_model.specs.State.{Numbers, State, Object, Handle, WeakEntry, BlockUse, count_of, size_of}
+use Rattle.hd_model.specs.declared.limits.TheConstants.{OLDEST}
+use Rattle.hd_model.specs.State.{Numbers, State, Object, Handle, BlockUse, count_of, size_of}
 use Rattle.hd_model.specs.Places.{Range, range_at, Meet}
-use Rattle.hd_model.specs.Code.{numbers_code, state_code, id_code, handle_code, weak_code, use_code}
+use Rattle.hd_commands.specs.Seen.{Seen}
+use Rattle.hd_model.specs.Code.{numbers_code, state_code, id_code, handle_code, use_code}
 
 -- the numbers of a run, and the state that it came to
 pub record Judge : Type 0 where
   pub numbers : Numbers
   pub state : State
+
+-- what commands see of the judge's machine: it has no ages, and an identity is the name of its object
+abbrev pub seen_by : Judge → Seen Id (Unit {0})
+seen_by j = record { numbers = j.numbers; state = j.state; ages = []; names = λ x. Some x; rest = tt }
 
 -- the state becomes another, and the numbers stay
 abbrev pub Becomes : Judge → State → Judge → Type 0
@@ -35,17 +41,6 @@ table_view_code =
     (λ t. (t.blocks, (t.handles, t.uses))) (λ p. record { blocks = p.0; handles = p.1.0; uses = p.1.1 })
     (λ _. refl)
 
--- the slots that the weak table holds, each with its entry or idle
-pub record WeakView : Type 0 where
-  pub blocks : ℕ
-  pub held : FinMap nat_cmp (Option (WeakEntry Id))
-
-abbrev pub weak_view_code : Coded WeakView
-weak_view_code =
-    code_by (ℕ × FinMap nat_cmp (Option (WeakEntry Id)))
-    (coded× coded_ℕ (finmap.code coded_ℕ (coded_option weak_code))) (λ t. (t.blocks, t.held))
-    (λ p. record { blocks = p.0; held = p.1 }) (λ _. refl)
-
 -- an object by the number of its identity, and the cells of all
 abbrev pub object_in : FinMap nat_cmp (Object Id) → ℕ → Object Id
 object_in objects id =
@@ -58,6 +53,15 @@ cells_of objects = sum_by size_of (values objects)
 pub record IsCounted (used : ℕ) (objects : FinMap nat_cmp (Object Id)) : Type 0 where
   pub count : used ≡ cells_of objects
   pub low : cells_of objects < 2 ^ 32
+
+-- no object is of a generation below one
+abbrev pub AreFrom : ℕ → FinMap nat_cmp (Object Id) → Type 0
+AreFrom generation objects = (id : ℕ) (o : Object Id) → get objects id ≡ Some o → generation ≤ o.generation
+
+-- so is a generation of the machine's
+pub record IsYoungest (generation : ℕ) (objects : FinMap nat_cmp (Object Id)) : Type 0 where
+  pub low : generation ≤ OLDEST
+  pub from : AreFrom generation objects
 
 -- no count of a handle is the last of 32 bits
 abbrev pub HasSmallCounts : State → Type 0

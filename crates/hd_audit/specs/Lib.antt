@@ -12,10 +12,11 @@ pub mod Attaching
 pub mod Marked
 pub mod Pinned
 pub mod AnchorRows
-pub mod Searching
+pub mod Edges
 pub mod SoFar
 pub mod Collecting
-pub mod Found
+pub mod Listed
 pub mod Marking
+pub mod Passed
 pub mod Known
 pub mod Before

@@ -41,6 +41,11 @@ abbrev pub with_targets : Marked → List (Option Id) → Marked
 with_targets m [] = m
 with_targets m (o ∷ os) = with_targets (with_target m o) os
 
+-- so are all that lists reference, in turn
+abbrev pub with_rows : Marked → List (List (Option Id)) → Marked
+with_rows m [] = m
+with_rows m (row ∷ rows) = with_rows (with_targets m row) rows
+
 -- what is to be followed is marked, and the edges of all else that is marked lead to what is marked
 pub record Awaits (E : Id → Id → Type 0) (m : Marked) : Type 0 where
   pub left : (x : Id) → Contains m.left x.0 → is_marked m x ≡ true

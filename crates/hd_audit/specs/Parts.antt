@@ -12,7 +12,7 @@ state_in m = record {
   objects = m.objects;
   handles = m.table.handles;
   blocks = m.table.uses;
-  weak = m.weak.held;
+  weak = m.weak;
   places = m.places;
   registers = m.registers.items;
   handle_registers = m.handle_registers.items;
@@ -30,4 +30,3 @@ pub record IsMachine (m : Inside) : Type 0 where
   pub registers : length m.registers.items ≡ m.callers
   pub handle_registers : length m.handle_registers.items ≡ m.callers
   pub serials : length m.serials.items ≡ m.callers
-  pub same_blocks : m.weak.blocks ≡ m.table.blocks

@@ -4,8 +4,6 @@ ghost use Rattle.std.specs.FinMap.{get};
 ghost use Rattle.std.specs.Option.{option_to_list};
 ghost use Rattle.hd_model.specs.declared.limits.TheConstants.{BLOCKS, FIELDS, HEADER};
 ghost use Rattle.hd_model.specs.declared.command.Cmd.TheVariants.{AddrOf, CAdd};
-ghost use Rattle.hd_model.specs.declared.data.Grown.TheVariants.{Zero};
-ghost use Rattle.hd_model.specs.declared.data.Reply.TheVariants.{Refused};
 ghost use Rattle.hd_model.specs.Command.{idle_slot};
 ghost use Rattle.hd_model.specs.Judged.{AreRight, cut_lines};
 ghost use Rattle.hd_model.specs.State.{IsFree, IsAllFree, handles_of, given_of, handle_at, object_by_id, size_of, use_of};
@@ -17,7 +15,10 @@ ghost use Rattle.hd_audit.specs.Before.{IsBefore, IsGrowthFor, MayHave};
 
 use crate::entry_choice::{Entries, PinnedCells};
 use crate::lines::{Judged, cut_line};
-use crate::making::{is_all_free, is_free, pinned_in};
+use crate::making::{is_all_free, is_free};
+use crate::step::has_one_step;
+use hd_commands::on_handles::pinned_in;
+use hd_commands::{Done, Parts, entry_of};
 use hd_model::limits::HEADER;
 use hd_model::{Cmd, Entry, Grown, Id, Kind, Memory, Refusal, Reply, Slot};
 use hd_print::{Line, end_line};
@@ -143,8 +144,8 @@ impl<'a> Before<'a> {
         ensures { result ≡ end_after self.now }
     {
         let machine = &self.judged.machine;
-        let objects = machine.objects_len() as u32;
-        end_line(machine.live(), objects, self.judged.collections)
+        let objects = machine.objects.len() as u32;
+        end_line(machine.table.len(), objects, self.judged.collections)
     }
 
     /// The entries that a command of a caller may have.
@@ -174,13 +175,16 @@ impl<'a> Before<'a> {
         let machine = &self.judged.machine;
         let cmd = Cmd::CAdd { k, v };
         let Some(key) = machine.register(caller, k) else {
-            return Entries::One(refused(caller, cmd, Refusal::Null));
+            return Entries::One(entry_of(caller, cmd, Err(Refusal::Null)));
         };
         if machine.slot_of(key).is_some() {
-            return Entries::One(refused(caller, cmd, Refusal::Present));
+            return Entries::One(entry_of(caller, cmd, Err(Refusal::Present)));
         }
         match machine.idle() {
-            Some(slot) => Entries::One(done(caller, cmd, Some(slot), Reply::Done)),
+            Some(slot) => {
+                let done = Done::in_slot(slot, Grown::Zero);
+                Entries::One(entry_of(caller, cmd, Ok(done)))
+            }
             None => Entries::InSlot(Kind::Dependent),
         }
     }
@@ -195,10 +199,13 @@ impl<'a> Before<'a> {
         let cmd = Cmd::AddrOf { s };
         let id = match pinned_in(machine, caller, s) {
             Ok(id) => id,
-            Err(refusal) => return Entries::One(refused(caller, cmd, refusal)),
+            Err(refusal) => return Entries::One(entry_of(caller, cmd, Err(refusal))),
         };
-        match machine.place(id) {
-            Some(own) => Entries::One(done(caller, cmd, None, Reply::Place(own))),
+        match machine.places.of(id) {
+            Some(own) => {
+                let done = Done::of(Reply::Place(own));
+                Entries::One(entry_of(caller, cmd, Ok(done)))
+            }
             None => Entries::AtAddress(id),
         }
     }
@@ -221,7 +228,7 @@ impl<'a> Before<'a> {
         ensures limit { result ≤ BLOCKS }
         ensures used { (block : ℕ) → IsSome (use_of self.now.state block) → block ≤ result }
     {
-        self.judged.machine.blocks()
+        self.judged.machine.table.blocks()
     }
 
     /// The number of blocks that have a use.
@@ -229,14 +236,14 @@ impl<'a> Before<'a> {
         ensures value { result ≡ given_of self.now.state }
         ensures few { result ≤ BLOCKS + 1 }
     {
-        self.judged.machine.given()
+        self.judged.machine.table.given()
     }
 
     /// Whether a block, which may be any number, has handles of a kind.
     pub fn is_of(&self, kind: Kind, block: u32) -> bool
         ensures { IsTrue result ↔ (use_of self.now.state block ≡ Some (handles_of kind)) }
     {
-        self.judged.machine.is_of(kind, block)
+        self.judged.machine.table.is_of(kind, block)
     }
 
     /// Whether a block, which may be any number, has a use.
@@ -252,7 +259,7 @@ impl<'a> Before<'a> {
             ↔ (IsSome (handle_at self.now.state slot) ⊎ IsSome (get self.now.state.weak slot.0)) }
     {
         let machine = &self.judged.machine;
-        machine.handle(slot).is_some() || machine.weak_at(slot).is_some()
+        machine.handle(slot).is_some() || machine.weak.at(u64::from(slot.0)).is_some()
     }
 
     /// Whether a slot, which may be any number, is a free one of a kind.
@@ -266,7 +273,7 @@ impl<'a> Before<'a> {
     pub fn idle(&self) -> Option<Slot>
         ensures { result ≡ idle_slot self.now.state }
     {
-        self.judged.machine.idle()
+        self.judged.machine.weak.idle()
     }
 
     /// Whether all slots of a block, which may be any number, are free ones of a kind.
@@ -283,7 +290,7 @@ impl<'a> Before<'a> {
             → block ≤ self.now.numbers.blocks → IsSome (use_of self.now.state block)) }
         ensures few { IfSome result (λ block. block ≤ BLOCKS) }
     {
-        self.judged.machine.least_unused(from)
+        self.judged.machine.table.least_unused(from)
     }
 
     /// The blocks by which the table grows for a kind: none where too few have no use.
@@ -316,7 +323,7 @@ impl<'a> Before<'a> {
         ensures { IfOk result (λ cells. AreTaken self.now.state cells.items) }
     {
         let mut cells = Vec::new(alloc);
-        let ids = self.judged.machine.ids_by_address(alloc)?;
+        let ids = self.judged.machine.places.ids_by_address(alloc)?;
         for id in &ids {
             self.push_cells(Id(*id), &mut cells)?;
         }
@@ -328,7 +335,7 @@ impl<'a> Before<'a> {
         ensures { IfOk result (λ _. cells.new.items
             ≡ cells.old.items ++ option_to_list (pinned_cells self.now.state id)) }
     {
-        let Some(first) = self.judged.machine.place(id) else {
+        let Some(first) = self.judged.machine.places.of(id) else {
             return Ok(());
         };
         let count = self.size(id);
@@ -337,46 +344,4 @@ impl<'a> Before<'a> {
             Err(_) => Err(Memory),
         }
     }
-}
-
-// Whether a command has one entry, which is found by making the step.
-fn has_one_step(cmd: Cmd) -> bool
-    ensures { result ≡ has_one_step cmd }
-{
-    !matches!(
-        cmd,
-        Cmd::HNew { .. } | Cmd::AddrOf { .. } | Cmd::Trim { .. } | Cmd::CAdd { .. }
-    )
-}
-
-// An entry that gives or frees no more than this slot.
-fn done(caller: u32, cmd: Cmd, slot: Option<Slot>, reply: Reply) -> Entry
-    ensures { result ≡ record {
-      caller = caller;
-      cmd = cmd;
-      slot = slot;
-      grown = Zero;
-      reply = reply;
-    } }
-{
-    Entry {
-        caller,
-        cmd,
-        slot,
-        grown: Grown::Zero,
-        reply,
-    }
-}
-
-// The entry of a command that is refused.
-fn refused(caller: u32, cmd: Cmd, refusal: Refusal) -> Entry
-    ensures { result ≡ record {
-      caller = caller;
-      cmd = cmd;
-      slot = None;
-      grown = Zero;
-      reply = Refused refusal;
-    } }
-{
-    done(caller, cmd, None, Reply::Refused(refusal))
 }

@@ -1,12 +1,11 @@
-// Objects and handles as the judge's machine has them.
-ghost use Rattle.std.specs.Prelude.{◌≡◌, None};
-ghost use Rattle.hd_model.specs.declared.data.Kind.TheVariants as kind;
-ghost use Rattle.hd_model.specs.State.{secondary_of, count_of, without_secondary};
+// Objects, entries and uses of blocks as the judge's machine has them.
+ghost use Rattle.std.specs.Prelude.{◌≡◌};
+ghost use Rattle.hd_model.specs.Ages.{raised};
 ghost use Rattle.hd_model.specs.Kinds.{is_kind};
-ghost use Rattle.hd_model.specs.Role as roles;
-ghost use Rattle.hd_audit.specs.View.{edited, extra_of, handle_of, role_as};
+ghost use Rattle.hd_audit.specs.View.{edited};
 
-use hd_model::{Id, Kind, Strength};
+use hd_model::limits::OLDEST;
+use hd_model::{Id, Kind};
 use std::marker::Model;
 
 /// An object: its fields, its value, its generation, and whether it is registered for finalization.
@@ -38,8 +37,9 @@ impl Model for Object {
 #[derive(Clone, Copy)]
 pub(crate) enum Edit {
     Value(u64),
-    Generation(u8),
     Registered(bool),
+    /// A collection of a generation keeps it, and maybe resurrected it.
+    Survives(u8, bool),
 }
 
 impl Object {
@@ -49,28 +49,17 @@ impl Object {
     {
         match edit {
             Edit::Value(value) => self.value = value,
-            Edit::Generation(generation) => self.generation = generation,
             Edit::Registered(registered) => self.registered = registered,
+            Edit::Survives(n, resurrected) => {
+                self.generation = raised(n, self.generation);
+                self.registered = self.registered && !resurrected;
+            }
         }
     }
 }
 
-/// What a handle has beside its target, by its kind.
-#[derive(Clone, Copy)]
-pub(crate) enum Extra {
-    Nothing,
-    Strength(Strength),
-    Secondary(Option<Id>),
-    Count(u32),
-}
-
-/// A handle.
-#[derive(Clone, Copy)]
-pub(crate) struct Handle {
-    pub(crate) kind: Kind,
-    pub(crate) target: Option<Id>,
-    pub(crate) extra: Extra,
-}
+/// A handle, whose objects are referenced by identity.
+pub(crate) type Handle = hd_commands::Handle<Id>;
 
 /// An entry of the weak table.
 #[derive(Clone, Copy)]
@@ -86,86 +75,6 @@ pub(crate) enum BlockUse {
     ExtraData,
 }
 
-/// What a handle is to a collection.
-#[derive(Clone, Copy, PartialEq, Eq)]
-pub(crate) enum Role {
-    Holds,
-    Short,
-    Long,
-    Attaches,
-}
-
-impl Handle {
-    /// Its role.
-    pub(crate) fn role(&self) -> Role
-        ensures { role_as result ≡ roles.role (handle_of self.now) }
-    {
-        match self.kind {
-            Kind::Short => Role::Short,
-            Kind::Long => Role::Long,
-            Kind::Strong | Kind::Pinned => Role::Holds,
-            Kind::Variable => role_of_strength(self.extra),
-            Kind::Counted => role_of_count(self.extra),
-            Kind::Dependent => Role::Attaches,
-        }
-    }
-
-    /// Whether it pins its target.
-    pub(crate) fn pins(&self) -> bool
-        ensures { result ≡ roles.pins (handle_of self.now) }
-    {
-        match self.kind {
-            Kind::Pinned => true,
-            Kind::Variable => strength_pins(self.extra),
-            Kind::Short | Kind::Long | Kind::Strong | Kind::Counted | Kind::Dependent => false,
-        }
-    }
-
-    /// The same after it lost its target, and with that its secondary.
-    pub(crate) fn cleared(self) -> Handle
-        ensures { let extra = without_secondary (extra_of self.extra) in
-            handle_of result ≡ record (handle_of self) { target = None; extra = extra } }
-    {
-        Handle {
-            kind: self.kind,
-            target: None,
-            extra: self.extra.without_secondary(),
-        }
-    }
-
-    /// Its secondary, or null.
-    pub(crate) fn secondary(&self) -> Option<Id>
-        ensures { result ≡ secondary_of (extra_of self.now.extra) }
-    {
-        match self.extra {
-            Extra::Secondary(secondary) => secondary,
-            Extra::Nothing | Extra::Strength(_) | Extra::Count(_) => None,
-        }
-    }
-
-    /// Its count, 0 where it has none.
-    pub(crate) fn count(&self) -> u32
-        ensures { result ≡ count_of (extra_of self.now.extra) }
-    {
-        match self.extra {
-            Extra::Count(count) => count,
-            Extra::Nothing | Extra::Strength(_) | Extra::Secondary(_) => 0,
-        }
-    }
-}
-
-impl Extra {
-    /// The same with null as its secondary, if it has one.
-    pub(crate) fn without_secondary(self) -> Extra
-        ensures { extra_of result ≡ without_secondary (extra_of self) }
-    {
-        match self {
-            Extra::Secondary(_) => Extra::Secondary(None),
-            Extra::Nothing | Extra::Strength(_) | Extra::Count(_) => self,
-        }
-    }
-}
-
 /// Whether two kinds are the same one.
 pub(crate) fn is_kind(a: Kind, b: Kind) -> bool
     ensures { result ≡ is_kind a b }
@@ -173,36 +82,15 @@ pub(crate) fn is_kind(a: Kind, b: Kind) -> bool
     a.number() == b.number()
 }
 
-// The role of a variable handle.
-fn role_of_strength(extra: Extra) -> Role
-    ensures { role_as result ≡ roles.role_of kind.Variable (extra_of extra) }
+/// A generation after a collection of n.
+pub(crate) fn raised(n: u8, generation: u8) -> u8
+    ensures { result ≡ raised n generation }
 {
-    match extra {
-        Extra::Strength(Strength::Short) => Role::Short,
-        Extra::Strength(Strength::Strong | Strength::Pinned) => Role::Holds,
-        Extra::Strength(Strength::Long) => Role::Long,
-        Extra::Nothing | Extra::Secondary(_) | Extra::Count(_) => Role::Long,
-    }
-}
-
-// The role of a ref-counted handle.
-fn role_of_count(extra: Extra) -> Role
-    ensures { role_as result ≡ roles.role_of kind.Counted (extra_of extra) }
-{
-    match extra {
-        Extra::Count(0) => Role::Long,
-        Extra::Count(_) => Role::Holds,
-        Extra::Nothing | Extra::Strength(_) | Extra::Secondary(_) => Role::Long,
-    }
-}
-
-// Whether the strength of a variable handle pins.
-fn strength_pins(extra: Extra) -> bool
-    ensures { result ≡ roles.pins_by kind.Variable (extra_of extra) }
-{
-    match extra {
-        Extra::Strength(Strength::Pinned) => true,
-        Extra::Strength(Strength::Short | Strength::Long | Strength::Strong) => false,
-        Extra::Nothing | Extra::Secondary(_) | Extra::Count(_) => false,
+    if generation > n {
+        generation
+    } else if generation < OLDEST {
+        generation + 1
+    } else {
+        OLDEST
     }
 }

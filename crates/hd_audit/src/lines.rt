@@ -1,7 +1,7 @@
 // The lines of a text, judged in order.
-ghost use Rattle.std.specs.Prelude.{◌≡◌, ℕ, ◌+◌, ◌<◌, ◌≤◌, ◌^◌, if◌then◌else◌, List, [], ◌∷◌, ◌++◌, length, position, replicate, slice_get, slice_index, slice_index_or, bytes_eq, IfOk, IfSome, IsSome};
+ghost use Rattle.std.specs.Prelude.{◌≡◌, ℕ, ◌+◌, ◌<◌, ◌≤◌, ◌^◌, if◌then◌else◌, List, [], ◌∷◌, length, position, slice_get, slice_index, slice_index_or, bytes_eq, IfOk, IfSome, IsSome};
 ghost use Rattle.std.specs.FinMap.{len};
-ghost use Rattle.hd_model.specs.declared.limits.TheConstants.{BLOCKS, CALLERS};
+ghost use Rattle.hd_model.specs.declared.limits.TheConstants.{BLOCKS};
 ghost use Rattle.hd_model.specs.{FullText.full_line, Grammar.is_line_end, Judged.cut_lines};
 ghost use Rattle.hd_model.specs.Text.{is_collect};
 ghost use Rattle.hd_model.specs.Valid.{IsValid};
@@ -10,7 +10,7 @@ ghost use Rattle.hd_audit.specs.SoFar.{Along, TakesLine, Ends};
 
 use crate::choice::Choice;
 use crate::machine::Machine;
-use hd_model::{Class, Cmd, Entry, Memory};
+use hd_model::{Class, Cmd, Entry, Memory, filled};
 use hd_print::{Line, end_line, full_line};
 use hd_script::Scripts;
 use std::alloc::Global;
@@ -88,17 +88,6 @@ fn line_end(bytes: &[u8]) -> Option<usize>
     bytes.iter().position(|b| *b == b'\n')
 }
 
-// A count of 0 for each caller.
-fn no_counts(alloc: Global, callers: u32) -> Result<Vec<u32>, Memory>
-    ensures { IfOk result (λ counts. counts.items ≡ replicate callers 0) }
-{
-    let mut counts = Vec::new(alloc);
-    match counts.resize(callers as usize, 0) {
-        Ok(()) => Ok(counts),
-        Err(_) => Err(Memory),
-    }
-}
-
 /// What was judged so far: the machine after it, the entries of each caller, the commands that are
 /// left, and the collections.
 #[derive(Drop)]
@@ -124,7 +113,7 @@ impl Judged {
     {
         let callers = scripts.callers();
         let left = scripts.total();
-        let done = no_counts(alloc, callers)?;
+        let done = filled(alloc, 0, callers)?;
         let machine = Machine::open(alloc, callers, heap, blocks)?;
         Ok(Judged {
             machine,
@@ -180,8 +169,8 @@ impl Judged {
         requires objects { len self.now.machine.state.objects < 2 ^ 32 }
         ensures { Ends self.now lines rest.now result }
     {
-        let handles = self.machine.live();
-        let objects = self.machine.objects_len() as u32;
+        let handles = self.machine.table.len();
+        let objects = self.machine.objects.len() as u32;
         let (line, after) = cut_line(rest);
         if !is_line(&end_line(handles, objects, self.collections), line) {
             Verdict::NotRun { line: lines + 1 }

@@ -1,23 +1,23 @@
 // The commands whose slot, blocks or address the line states: `hnew`, `trim` and `addr`.
-ghost use Rattle.std.specs.Prelude.{◌≡◌, ℕ, ◌+◌, ◌<◌, ◌≤◌, ◌↔◌, Err, false, IsTrue, IsSome, IfOk, IfSome, MatchOption, Some, None};
+ghost use Rattle.std.specs.Prelude.{◌≡◌, ℕ, ◌+◌, ◌<◌, ◌≤◌, ◌↔◌, Err, false, IsTrue, IfOk, MatchOption, Some, None};
 ghost use Rattle.hd_model.specs.declared.data.Refusal.TheVariants as refusal;
 ghost use Rattle.hd_model.specs.State.{register_of, given_of, first_slot, IsFree, IsAllFree};
 ghost use Rattle.hd_model.specs.Command.{extra_by};
 ghost use Rattle.hd_model.specs.Step.{MayGive, IsLeastUnused, blocks_needed, with_growth, makes_handle, gives_back, replies_place};
 ghost use Rattle.hd_model.specs.{WellFormed.IsWellFormed, Valid.IsValidMake, UserLaws.HasPlacesApart};
-ghost use Rattle.hd_model.specs.Kinds.{is_paired};
-ghost use Rattle.hd_audit.specs.View.{extra_of};
-ghost use Rattle.hd_audit.specs.Commands.{Grows, WayComesTo, pinned_in};
+ghost use Rattle.hd_commands.specs.Handles.{extra_of};
+ghost use Rattle.hd_audit.specs.Commands.{Grows, WayComesTo};
 
 use crate::choice::Choice;
-use crate::data::{BlockUse, Extra, Handle};
+use crate::data::BlockUse;
 use crate::machine::Machine;
-use crate::made::Made;
+use hd_commands::on_handles::pinned_in;
+use hd_commands::{Done, Extra, Handle, Parts};
 use hd_model::limits::{BLOCKS, REGISTERS, ROWS};
 use hd_model::{Grown, Id, Kind, Make, Memory, Refusal, Reply, Slot};
 
 // The extra of a handle with a target. Without one a dependent handle has no secondary either.
-fn extra_by(machine: &Machine, caller: u32, make: Make, target: Option<Id>) -> Extra
+fn extra_by(machine: &Machine, caller: u32, make: Make, target: Option<Id>) -> Extra<Id>
     requires caller { caller < machine.now.numbers.callers }
     requires make { IsValidMake make }
     ensures { extra_of result ≡ extra_by (register_of machine.now.state caller) make target }
@@ -38,8 +38,8 @@ pub(crate) fn is_free(machine: &Machine, kind: Kind, slot: Slot) -> bool
     ensures { IsTrue result ↔ IsFree machine.now.state kind slot }
 {
     machine.handle(slot).is_none()
-        && machine.weak_at(slot).is_none()
-        && machine.is_of(kind, slot.0 / ROWS)
+        && machine.weak.at(u64::from(slot.0)).is_none()
+        && machine.table.is_of(kind, slot.0 / ROWS)
 }
 
 // Whether a block is the least unused one from a number on.
@@ -49,8 +49,8 @@ fn is_least(machine: &Machine, from: u32, block: u32) -> bool
     ensures few { IsTrue result → block ≤ BLOCKS }
 {
     // A read for the proof: no table has more blocks than this.
-    let _limit = machine.blocks();
-    match machine.least_unused(from) {
+    let _limit = machine.table.blocks();
+    match machine.table.least_unused(from) {
         Some(least) => least == block,
         None => false,
     }
@@ -83,31 +83,31 @@ pub(crate) fn may_give(machine: &Machine, kind: Kind, grown: Grown, slot: Slot) 
 }
 
 /// Uses the blocks by which the table grows.
-pub(crate) fn use_blocks(machine: &mut Machine, kind: Kind, grown: Grown)
+pub(crate) fn use_blocks(machine: &mut Machine, kind: Kind, grown: Grown) -> Result<(), Memory>
     requires { Grows machine.old kind grown }
     ensures { let after = with_growth machine.old.state kind grown in
-        machine.new ≡ record machine.old { state = after } }
+        IfOk result (λ _. machine.new ≡ record machine.old { state = after }) }
 {
     match grown {
-        Grown::Zero | Grown::Back(_) => {}
-        Grown::One(block) => machine.give_block(block, BlockUse::HandlesOf(kind)),
+        Grown::Zero | Grown::Back(_) => Ok(()),
+        Grown::One(block) => machine.table.give(block, BlockUse::HandlesOf(kind)),
         Grown::Two(block, other) => {
-            machine.give_block(block, BlockUse::HandlesOf(kind));
-            machine.give_block(other, BlockUse::ExtraData);
+            machine.table.give(block, BlockUse::HandlesOf(kind))?;
+            machine.table.give(other, BlockUse::ExtraData)
         }
     }
 }
 
 /// The refusal of a full table, where too few blocks are without a use.
-pub(crate) fn table_full(machine: &Machine, kind: Kind) -> Option<Result<Made, Refusal>>
+pub(crate) fn table_full(machine: &Machine, kind: Kind) -> Option<Result<Done, Refusal>>
     ensures { let s = machine.now.state in let few = given_of s + blocks_needed kind in
         MatchOption result (few ≤ machine.now.numbers.blocks)
         (λ made. (machine.now.numbers.blocks < few)
         × (made ≡ Err (refusal.TableFull (given_of s)))) }
 {
     let needed = if kind.paired() { 2 } else { 1 };
-    let given = machine.given();
-    if machine.blocks() < given + needed {
+    let given = machine.table.given();
+    if machine.table.blocks() < given + needed {
         Some(Err(Refusal::TableFull { given }))
     } else {
         None
@@ -122,32 +122,32 @@ pub(crate) fn make_handle(
     make: Make,
     t: u8,
     choice: &Choice,
-) -> Option<Result<Made, Refusal>>
+) -> Result<Option<Result<Done, Refusal>>, Memory>
     requires caller { caller < machine.old.numbers.callers }
     requires registers { (d < REGISTERS) × (t < REGISTERS) }
     requires make { IsValidMake make }
     requires formed { IsWellFormed machine.old.numbers machine.old.state }
     ensures { let way = makes_handle d make t in
-        WayComesTo caller way choice.now machine.old machine.new result }
+        IfOk result (WayComesTo caller way choice.now machine.old machine.new) }
 {
     let kind = make.kind();
     let Some(slot) = choice.slot else {
-        return table_full(machine, kind);
+        return Ok(table_full(machine, kind));
     };
     if !may_give(machine, kind, choice.grown, slot) {
-        return None;
+        return Ok(None);
     }
     let target = machine.register(caller, t);
     let extra = extra_by(machine, caller, make, target);
-    use_blocks(machine, kind, choice.grown);
+    use_blocks(machine, kind, choice.grown)?;
     let handle = Handle {
         kind,
         target,
         extra,
     };
-    machine.put_handle(slot, handle);
+    machine.table.put(u64::from(slot.0), handle)?;
     machine.set_handle_register(caller, d, Some(slot));
-    Some(Ok(Made::in_slot(slot, choice.grown)))
+    Ok(Some(Ok(Done::in_slot(slot, choice.grown))))
 }
 
 /// Whether all slots of a block are free slots of a kind.
@@ -155,11 +155,11 @@ pub(crate) fn is_all_free(machine: &Machine, kind: Kind, block: u32) -> bool
     requires { IsWellFormed machine.now.numbers machine.now.state }
     ensures { IsTrue result ↔ IsAllFree machine.now.state kind block }
 {
-    let limit = machine.blocks();
+    let limit = machine.table.blocks();
     if block > limit {
         return false;
     }
-    if !machine.is_of(kind, block) {
+    if !machine.table.is_of(kind, block) {
         return false;
     }
     for row in 0..ROWS {
@@ -175,39 +175,23 @@ pub(crate) fn trim(
     machine: &mut Machine,
     kind: Kind,
     choice: &Choice,
-) -> Option<Result<Made, Refusal>>
+) -> Option<Result<Done, Refusal>>
     requires { IsWellFormed machine.old.numbers machine.old.state }
     ensures { let way = gives_back kind in
         (caller : ℕ) → WayComesTo caller way choice.now machine.old machine.new result }
 {
     let Grown::Back(block) = choice.grown else {
-        return Some(Ok(Made::of(Reply::Value(0))));
+        return Some(Ok(Done::of(Reply::Value(0))));
     };
     if !is_all_free(machine, kind, block) {
         return None;
     }
-    machine.take_block(block);
-    Some(Ok(Made {
+    machine.table.take_back(block);
+    Some(Ok(Done {
         reply: Reply::Value(1),
         slot: None,
         grown: choice.grown,
     }))
-}
-
-/// The object that the handle in hS pins, or why it pins none.
-pub(crate) fn pinned_in(machine: &Machine, caller: u32, h: u8) -> Result<Id, Refusal>
-    requires caller { caller < machine.now.numbers.callers }
-    requires register { h < REGISTERS }
-    ensures { result ≡ pinned_in machine.now.state caller h }
-{
-    let (_, handle) = machine.live_in(caller, h)?;
-    if !handle.pins() {
-        return Err(Refusal::WrongKind);
-    }
-    match handle.target {
-        Some(id) => Ok(id),
-        None => Err(Refusal::Null),
-    }
 }
 
 /// `addr hS`.
@@ -216,7 +200,7 @@ pub(crate) fn reply_place(
     caller: u32,
     h: u8,
     choice: &Choice,
-) -> Result<Option<Result<Made, Refusal>>, Memory>
+) -> Result<Option<Result<Done, Refusal>>, Memory>
     requires caller { caller < machine.old.numbers.callers }
     requires register { h < REGISTERS }
     requires formed { IsWellFormed machine.old.numbers machine.old.state }
@@ -228,12 +212,12 @@ pub(crate) fn reply_place(
         Ok(id) => id,
         Err(refusal) => return Ok(Some(Err(refusal))),
     };
-    if let Some(own) = machine.place(id) {
-        return Ok(Some(Ok(Made::of(Reply::Place(own)))));
+    if let Some(own) = machine.places.of(id) {
+        return Ok(Some(Ok(Done::of(Reply::Place(own)))));
     }
     if !machine.is_free_place(id, choice.place) {
         return Ok(None);
     }
     machine.put_place(id, choice.place)?;
-    Ok(Some(Ok(Made::of(Reply::Place(choice.place)))))
+    Ok(Some(Ok(Done::of(Reply::Place(choice.place)))))
 }

@@ -1,16 +1,21 @@
 // The objects that are marked, the ones whose edges are still to be followed, and the secondaries
 // by target.
-ghost use Rattle.std.specs.Prelude.{◌≡◌, map, option_map, unwrap_or, IfOk, MatchOption, ◌<◌, ◌^◌, [], ◌∷◌, ◌++◌};
+ghost use Rattle.std.specs.Prelude.{◌≡◌, ℕ, map, option_map, unwrap_or, IfOk, MatchOption, ◌<◌, ◌^◌, [], ◌∷◌, ◌++◌};
 ghost use Rattle.std.specs.FinMap as map;
+ghost use Rattle.std.specs.FinMap.{get};
 ghost use Rattle.hd_model.specs.{Anchors.EdgeOf, Collect.is_lost, Scene.fields_in, WellFormed.IsWellFormed};
-ghost use Rattle.hd_audit.specs.View.{handle_of};
-ghost use Rattle.hd_audit.specs.AnchorRows.{IsAnchorId, held_by, referenced};
-ghost use Rattle.hd_audit.specs.Attaching.{Adds, attaching, pair_in, ListsAttached, pair_of, pairs_in, secondaries};
+ghost use Rattle.hd_audit.specs.AnchorRows.{IsAnchorId, referenced};
+ghost use Rattle.hd_commands.specs.Handles.{handle_of};
+ghost use Rattle.hd_audit.specs.Attaching.{Adds, ListsAttached, pair_in, pair_of, pairs_in, secondaries};
+ghost use Rattle.hd_audit.specs.Marking.{attaching_at, held_at, held_by};
 ghost use Rattle.hd_audit.specs.Marked.{Gains, is_marked, with_mark, with_target, with_marks, with_targets, Awaits, Closes};
 
-use crate::data::{Handle, Role, WeakEntry};
+use crate::data::Handle;
 use crate::machine::Machine;
-use crate::numbered::Numbered;
+use crate::numbered::{Numbered, copied};
+use crate::table::Table;
+use crate::weak::Weak;
+use hd_commands::Role;
 use hd_model::{Id, Memory};
 use std::alloc::Global;
 use std::collections::VecDeque;
@@ -33,17 +38,13 @@ fn or_empty(alloc: Global, found: Option<Vec<u64>>) -> Vec<u64>
 }
 
 impl Attached {
-    /// Those of the dependent handles and of the entries of the weak table.
-    pub(crate) fn of(machine: &Machine) -> Result<Attached, Memory>
-        requires { IsWellFormed machine.now.numbers machine.now.state }
-        ensures { IfOk result (ListsAttached machine.now.state) }
+    /// None.
+    pub(crate) fn none(alloc: Global) -> Attached
+        ensures { (x : ℕ) → secondaries result x ≡ [] }
     {
-        let mut attached = Attached {
-            lists: Numbered::new(machine.alloc),
-        };
-        attached.add_handles(machine.alloc, machine.table.handles())?;
-        attached.add_slots(machine.alloc, machine.weak.slots())?;
-        Ok(attached)
+        Attached {
+            lists: Numbered::new(alloc),
+        }
     }
 
     /// What is attached to an object.
@@ -76,53 +77,24 @@ impl Attached {
         }
     }
 
-    // Adds the pair of a row, if it has a dependent handle that has both.
-    fn add_row(&mut self, alloc: Global, row: Option<Handle>) -> Result<(), Memory>
-        ensures { let pairs = pair_in (option_map handle_of row) in
-            IfOk result (λ _. Adds self.old self.new pairs) }
-    {
-        let Some(handle) = row else {
-            return Ok(());
-        };
-        match handle.role() {
-            Role::Attaches => self.add(alloc, handle.target, handle.secondary()),
-            Role::Holds | Role::Short | Role::Long => Ok(()),
-        }
-    }
-
-    // Adds the pairs of the handles.
-    fn add_handles(&mut self, alloc: Global, rows: &[Option<Handle>]) -> Result<(), Memory>
-        ensures { let pairs = pairs_in (map (option_map handle_of) rows.now) in
-            IfOk result (λ _. Adds self.old self.new pairs) }
-    {
-        for row in rows {
-            self.add_row(alloc, *row)?;
-        }
-        Ok(())
-    }
-
     // Adds the pair of a slot of the weak table, if it has an entry that has a value.
-    fn add_slot(&mut self, alloc: Global, held: Option<Option<WeakEntry>>) -> Result<(), Memory>
-        ensures { let pairs = pair_in (option_map attaching held) in
+    fn add_slot(&mut self, alloc: Global, weak: &Weak, slot: u64) -> Result<(), Memory>
+        ensures { let pairs = pair_in (attaching_at weak.now slot) in
             IfOk result (λ _. Adds self.old self.new pairs) }
     {
-        match held {
-            Some(Some(entry)) => self.add(alloc, Some(entry.key), entry.value),
-            Some(None) | None => Ok(()),
+        match weak.entry(slot) {
+            Some(entry) => self.add(alloc, Some(entry.key), entry.value),
+            None => Ok(()),
         }
     }
 
-    // Adds the pairs of the weak table.
-    fn add_slots(
-        &mut self,
-        alloc: Global,
-        slots: &[Option<Option<WeakEntry>>],
-    ) -> Result<(), Memory>
-        ensures { let pairs = pairs_in (map (option_map attaching) slots.now) in
+    // Adds the pairs of slots of the weak table.
+    fn add_slots(&mut self, alloc: Global, weak: &Weak, slots: &[u64]) -> Result<(), Memory>
+        ensures { let pairs = pairs_in (map (attaching_at weak.now) slots.now) in
             IfOk result (λ _. Adds self.old self.new pairs) }
     {
-        for held in slots {
-            self.add_slot(alloc, *held)?;
+        for slot in slots {
+            self.add_slot(alloc, weak, *slot)?;
         }
         Ok(())
     }
@@ -226,13 +198,10 @@ impl Marks {
         ensures { let fields = fields_in (map.get machine.now.state.objects id) in
             IfOk result (λ _. self.new ≡ with_targets self.old fields) }
     {
-        let Some(object) = machine.object(id) else {
-            return Ok(());
-        };
-        for field in &object.fields {
-            self.mark_some(*field)?;
+        match machine.objects.get(id) {
+            Some(object) => self.mark_all(&object.fields),
+            None => Ok(()),
         }
-        Ok(())
     }
 
     // Marks what is attached to an object.
@@ -255,8 +224,19 @@ impl Marks {
         self.marked.keys(alloc)
     }
 
-    // Marks all that are referenced.
-    fn mark_all(&mut self, targets: &[Option<Id>]) -> Result<(), Memory>
+    /// The same objects once more.
+    pub(crate) fn copy(&self, alloc: Global) -> Result<Marks, Memory>
+        requires { self.now.left ≡ [] }
+        ensures { IfOk result (λ copy. copy ≡ self.now) }
+    {
+        Ok(Marks {
+            marked: copied(&self.marked)?,
+            left: Vec::new(alloc),
+        })
+    }
+
+    /// Marks all that are referenced.
+    pub(crate) fn mark_all(&mut self, targets: &[Option<Id>]) -> Result<(), Memory>
         ensures { IfOk result (λ _. self.new ≡ with_targets self.old targets.now) }
     {
         for target in targets {
@@ -274,36 +254,79 @@ impl Marks {
         }
         Ok(())
     }
+}
 
-    // Marks the target of a handle that holds it.
-    fn mark_row(&mut self, row: Option<Handle>) -> Result<(), Memory>
-        ensures { IfOk result (λ _. self.new ≡ with_target self.old (held_by row)) }
-    {
-        let Some(handle) = row else {
-            return Ok(());
-        };
-        match handle.role() {
-            Role::Holds => self.mark_some(handle.target),
-            Role::Short | Role::Long | Role::Attaches => Ok(()),
-        }
-    }
-
-    // Marks what handles hold.
-    fn mark_rows(&mut self, rows: &[Option<Handle>]) -> Result<(), Memory>
-        ensures { IfOk result (λ _. self.new ≡ with_targets self.old (map held_by rows.now)) }
-    {
-        for row in rows {
-            self.mark_row(*row)?;
-        }
-        Ok(())
+/// What a handle holds, if anything.
+pub(crate) fn held_by(handle: Handle) -> Option<Id>
+    ensures { result ≡ held_by (Some (handle_of handle)) }
+{
+    match handle.role() {
+        Role::Holds => handle.target,
+        Role::Short | Role::Long | Role::Attaches => None,
     }
 }
 
-/// Marks what statics reference, what is queued, and what handles hold.
-pub(crate) fn mark_anchors(machine: &Machine, marks: &mut Marks) -> Result<(), Memory>
-    ensures { IfOk result (λ _. Gains (IsAnchorId machine.now.state) marks.old marks.new) }
+// Marks what the handle in a slot holds, or adds what it attaches.
+fn note_handle(
+    alloc: Global,
+    table: &Table,
+    slot: u64,
+    marks: &mut Marks,
+    attached: &mut Attached,
+) -> Result<(), Memory>
+    ensures held { IfOk result (λ _. marks.new
+        ≡ with_target marks.old (held_by (get table.now.handles slot))) }
+    ensures pairs { IfOk result (λ _.
+        Adds attached.old attached.new (pair_in (get table.now.handles slot))) }
 {
+    let Some(handle) = table.handle(slot) else {
+        return Ok(());
+    };
+    match handle.role() {
+        Role::Holds => marks.mark_some(handle.target),
+        Role::Attaches => attached.add(alloc, handle.target, handle.secondary()),
+        Role::Short | Role::Long => Ok(()),
+    }
+}
+
+// Marks what the handles in slots hold, and adds what they attach.
+fn note_handles(
+    alloc: Global,
+    table: &Table,
+    slots: &[u64],
+    marks: &mut Marks,
+    attached: &mut Attached,
+) -> Result<(), Memory>
+    ensures held { IfOk result (λ _. marks.new
+        ≡ with_targets marks.old (map (held_at table.now.handles) slots.now)) }
+    ensures pairs { IfOk result (λ _.
+        Adds attached.old attached.new (pairs_in (map (get table.now.handles) slots.now))) }
+{
+    for slot in slots {
+        note_handle(alloc, table, *slot, marks, attached)?;
+    }
+    Ok(())
+}
+
+/// Marks what statics reference, what is queued, and what handles hold, and returns what is
+/// attached. Each handle is read once.
+pub(crate) fn mark_anchors(
+    machine: &Machine,
+    slots: &[u64],
+    entries: &[u64],
+    marks: &mut Marks,
+) -> Result<Attached, Memory>
+    requires formed { IsWellFormed machine.now.numbers machine.now.state }
+    requires slots { slots.now ≡ map.keys machine.now.state.handles }
+    requires entries { entries.now ≡ map.keys machine.now.state.weak }
+    ensures gains { IfOk result (λ _. Gains (IsAnchorId machine.now.state) marks.old marks.new) }
+    ensures listed { IfOk result (ListsAttached machine.now.state) }
+{
+    let alloc = machine.alloc;
+    let mut attached = Attached::none(alloc);
     marks.mark_all(&machine.statics)?;
     marks.mark_queue(&machine.queue)?;
-    marks.mark_rows(machine.table.handles())
+    note_handles(alloc, &machine.table, slots, marks, &mut attached)?;
+    attached.add_slots(alloc, &machine.weak, entries)?;
+    Ok(attached)
 }

@@ -127,3 +127,38 @@ impl<V: Drop> Numbered<V> {
         self.tree.remove(&key)
     }
 }
+
+impl<V: Copy + Drop> Numbered<V> {
+    /// The value at a key, by itself.
+    pub(crate) fn at(&self, key: u64) -> Option<V>
+        ensures { result ≡ map.get self.now key }
+    {
+        match self.get(key) {
+            Some(value) => Some(*value),
+            None => None,
+        }
+    }
+
+    /// The values, by rising key.
+    pub(crate) fn values(&self, alloc: Global) -> Result<Vec<V>, Memory>
+        ensures { IfOk result (λ values. values.items ≡ map.values self.now) }
+    {
+        let mut values = Vec::new(alloc);
+        for value in self.tree.values() {
+            let Ok(_) = values.push(*value) else {
+                return Err(Memory);
+            };
+        }
+        Ok(values)
+    }
+}
+
+/// The same keys once more.
+pub(crate) fn copied(keys: &Numbered<()>) -> Result<Numbered<()>, Memory>
+    ensures { IfOk result (λ copy. copy ≡ keys.now) }
+{
+    match keys.tree.clone() {
+        Ok(tree) => Ok(Numbered { tree }),
+        Err(_) => Err(Memory),
+    }
+}

@@ -55,10 +55,7 @@ impl Places {
     pub(crate) fn of(&self, id: Id) -> Option<u32>
         ensures { result ≡ get self.now id.0 }
     {
-        match self.by_id.get(id.0) {
-            Some(place) => Some(*place),
-            None => None,
-        }
+        self.by_id.at(id.0)
     }
 
     /// Whether `size` cells from an address on share none with an object that has a pinned one.

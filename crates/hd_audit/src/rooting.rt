@@ -1,25 +1,27 @@
-// The search for why an object lives: breadth first from the anchors, which are taken by identity.
-// So an object is first found along a shortest chain, and along one from the least anchor that
-// has one.
-ghost use Rattle.std.specs.Prelude.{◌≡◌, ℕ, ◌<◌, ◌^◌, ◌↔◌, [], ◌∷◌, Option, Some, IfOk, IfSome, MatchOption, AllPairs, Contains};
-ghost use Rattle.std.specs.FinMap as map;
-ghost use Rattle.hd_model.specs.Anchors.{AnchorOf, EdgeOf, IsShortest, IsUnrooted};
+// The search for why an object lives: a walk breadth first from the anchors, which are taken by
+// identity. So an object is first found along a shortest chain, and along one from the least anchor
+// that has one.
+ghost use Rattle.std.specs.Prelude.{◌≡◌, ℕ, ◌<◌, ◌↔◌, ◌^◌, ◌++◌, Some, IfOk, IfSome, IsTrue, flat_map, MatchOption, AllPairs, Contains};
+ghost use Rattle.std.specs.FinMap.{get, len};
 ghost use Rattle.hd_model.specs.Scene.{fields_in};
+ghost use Rattle.hd_model.specs.Anchors.{AnchorOf, EdgeOf, IsShortest, IsUnrooted};
 ghost use Rattle.hd_model.specs.WellFormed.{IsWellFormed};
 ghost use Rattle.hd_model.specs.declared.data.Id.{Id as Name};
 ghost use Rattle.hd_audit.specs.Attaching.{ListsAttached, secondaries};
 ghost use Rattle.hd_audit.specs.Commands.{ComesToRoot};
-ghost use Rattle.hd_audit.specs.Searching.{Searching, with_origin, with_origins, with_reference, with_referenced, with_starts};
+ghost use Rattle.hd_audit.specs.Edges.{nodes_in};
+ghost use Rattle.hd_commands.specs.Handles.{handle_of};
+ghost use Rattle.hd_audit.specs.Marking.{held_by};
+ghost use Rattle.hd_audit.specs.View.{Row};
 
+use crate::data::Handle;
 use crate::machine::Machine;
-use crate::made::Made;
-use crate::marks::{Attached, Marks, mark_anchors};
-use crate::numbered::Numbered;
+use crate::marks::{Attached, Marks, held_by, mark_anchors};
+use hd_commands::{Done, Parts};
 use hd_model::limits::REGISTERS;
 use hd_model::{Id, Memory, Refusal, Reply};
-use std::alloc::Global;
-use std::collections::VecDeque;
-use std::marker::Model;
+use hd_walk::{Edges, Trail, read_back, walk};
+use std::alloc::{AllocError, Global};
 
 // Where a chain to an object begins, and its number of edges.
 #[derive(Clone, Copy)]
@@ -28,159 +30,138 @@ struct Origin {
     edges: u64,
 }
 
-// The found objects, and those whose edges are still to be followed.
+// The edges of a state: what fields reference, and what is attached.
 #[derive(Drop)]
-struct Search {
-    found: Numbered<Origin>,
-    left: VecDeque<(u64, Origin)>,
+struct Graph<'a> {
+    machine: &'a Machine,
+    attached: &'a Attached,
 }
 
-impl Model for Search {
-    ghost use Rattle.hd_audit.specs.Searching.{SearchView, search_view_code};
+impl<'a> Edges for Graph<'a> {
+    ghost use Rattle.hd_audit.specs.Edges.{IsNode, in_any_order, leads_in};
 
-    ghost Value = { SearchView };
+    ghost node = { λ g. IsNode g.machine.now g.attached.now };
 
-    ghost coded = { search_view_code };
+    ghost edge = { λ g. leads_in g.machine.now.state };
 
-    ghost view = { λ s. record { left = s.left.items; found = s.found } };
-}
+    ghost order = { in_any_order };
 
-impl Search {
-    fn open(alloc: Global) -> Search
-        ensures { result ≡ record { found = map.empty; left = [] } }
-    {
-        Search {
-            found: Numbered::new(alloc),
-            left: VecDeque::new(alloc),
-        }
-    }
-
-    // Adds an object, if it is not among the found ones.
-    fn add(&mut self, id: u64, origin: Origin) -> Result<(), Memory>
-        ensures { IfOk result (λ _. self.new ≡ with_origin self.old id origin) }
-    {
-        if self.found.has(id) {
-            return Ok(());
-        }
-        self.found.insert(id, origin)?;
-        match self.left.push_back((id, origin)) {
-            Ok(_) => Ok(()),
-            Err(_) => Err(Memory),
-        }
-    }
-
-    // Adds what is referenced, if anything.
-    fn add_some(&mut self, target: Option<Id>, origin: Origin) -> Result<(), Memory>
-        ensures { IfOk result (λ _. self.new ≡ with_reference self.old target origin) }
-    {
-        match target {
-            Some(id) => self.add(id.0, origin),
-            None => Ok(()),
-        }
-    }
-
-    // Adds the anchors.
-    fn start(&mut self, anchors: &[u64]) -> Result<(), Memory>
-        ensures started { IfOk result (λ _. self.new ≡ with_starts self.old anchors.now) }
-        ensures small { IfOk result (λ _. (x : ℕ) → Contains anchors.now x → x < 2 ^ 64) }
-    {
-        for id in anchors {
-            let origin = Origin {
-                from: Id(*id),
-                edges: 0,
-            };
-            self.add(*id, origin)?;
-        }
-        Ok(())
-    }
-
-    // Follows the edges of all that is left.
-    fn close(&mut self, machine: &Machine, attached: &Attached) -> Result<(), Memory>
-        requires attached { ListsAttached machine.now.state attached.now }
-        requires searching { let s = machine.now.state in
-            Searching (EdgeOf s) (AnchorOf s) self.old }
-        ensures searching { let s = machine.now.state in
-            IfOk result (λ _. Searching (EdgeOf s) (AnchorOf s) self.new) }
-        ensures none { IfOk result (λ _. self.new.left ≡ []) }
-    {
-        'objects: while let Some((id, origin)) = self.take() {
-            let next = Origin {
-                from: origin.from,
-                edges: origin.edges + 1,
-            };
-            self.follow_fields(machine, id, next)?;
-            self.follow_secondaries(attached, id, next)?;
-        }
-        Ok(())
-    }
-
-    // Takes an object whose edges are to be followed.
-    fn take(&mut self) -> Option<(u64, Origin)>
-        ensures few { map.len self.old.found < 2 ^ 63 }
-        ensures taken { MatchOption result ((self.old.left ≡ []) × (self.new ≡ self.old))
-            (λ p. self.old ≡ record self.new { left = p ∷ self.new.left }) }
-    {
-        // Read for the proof: a map has fewer than 2^63 entries.
-        let _count = self.found.len();
-        self.left.pop_front()
-    }
-
-    // The origin of an object, if it is found.
-    fn origin(&self, id: u64) -> Option<Origin>
-        ensures { result ≡ map.get self.now.found id }
-    {
-        match self.found.get(id) {
-            Some(origin) => Some(*origin),
-            None => None,
-        }
-    }
-
-    // Adds what the fields of an object reference.
-    fn follow_fields(&mut self, machine: &Machine, id: u64, next: Origin) -> Result<(), Memory>
-        ensures { let fields = fields_in (map.get machine.now.state.objects id) in
-            IfOk result (λ _. self.new ≡ with_referenced self.old fields next) }
-    {
-        let Some(object) = machine.object(id) else {
-            return Ok(());
-        };
-        for field in &object.fields {
-            self.add_some(*field, next)?;
-        }
-        Ok(())
-    }
-
-    // Adds what is attached to an object.
-    fn follow_secondaries(
-        &mut self,
-        attached: &Attached,
-        id: u64,
-        next: Origin,
-    ) -> Result<(), Memory>
-        ensures { let listed = secondaries attached.now id in
-            IfOk result (λ _. self.new ≡ with_origins self.old listed next) }
-    {
-        let Some(list) = attached.list(id) else {
-            return Ok(());
-        };
-        for secondary in list {
-            self.add(*secondary, next)?;
-        }
-        Ok(())
+    fn list(&self, at: u64, targets: &mut Vec<u64>) -> Result<(), AllocError> {
+        push_fields(self.machine, at, targets)?;
+        push_attached(self.attached, at, targets)
     }
 }
 
-// The anchors, by identity.
-fn anchors(machine: &Machine) -> Result<Vec<u64>, Memory>
-    ensures rising { IfOk result (λ ids. AllPairs (λ x y. x < y) ids.items) }
-    ensures each { IfOk result (λ ids. (x : Name) → Contains ids.items x.0
-        ↔ AnchorOf machine.now.state x) }
+// Appends what the fields of an object reference.
+fn push_fields(machine: &Machine, at: u64, targets: &mut Vec<u64>) -> Result<(), AllocError>
+    ensures { let fields = fields_in (get machine.now.state.objects at) in
+        IfOk result (λ _. targets.new.items ≡ targets.old.items ++ flat_map nodes_in fields) }
 {
-    let mut marks = Marks::open(machine.alloc);
-    mark_anchors(machine, &mut marks)?;
-    marks.ids(machine.alloc)
+    match machine.objects.get(at) {
+        Some(object) => push_targets(&object.fields, targets),
+        None => Ok(()),
+    }
 }
 
-// Where a shortest chain to an object begins, if there is one.
+// Appends what is attached to an object.
+fn push_attached(attached: &Attached, at: u64, targets: &mut Vec<u64>) -> Result<(), AllocError>
+    ensures { IfOk result (λ _. targets.new.items
+        ≡ targets.old.items ++ secondaries attached.now at) }
+{
+    match attached.list(at) {
+        Some(list) => push_all(list, targets),
+        None => Ok(()),
+    }
+}
+
+// Appends what fields reference.
+fn push_targets(fields: &[Option<Id>], targets: &mut Vec<u64>) -> Result<(), AllocError>
+    ensures { IfOk result (λ _. targets.new.items ≡ targets.old.items ++ flat_map nodes_in fields.now) }
+{
+    for field in fields {
+        push_target(*field, targets)?;
+    }
+    Ok(())
+}
+
+// Appends what is referenced, if anything.
+fn push_target(field: Option<Id>, targets: &mut Vec<u64>) -> Result<(), AllocError>
+    ensures { IfOk result (λ _. targets.new.items ≡ targets.old.items ++ nodes_in field) }
+{
+    if let Some(id) = field {
+        targets.push(id.0)?;
+    }
+    Ok(())
+}
+
+// Appends a list.
+fn push_all(list: &[u64], targets: &mut Vec<u64>) -> Result<(), AllocError>
+    ensures { IfOk result (λ _. targets.new.items ≡ targets.old.items ++ list.now) }
+{
+    for id in list {
+        targets.push(*id)?;
+    }
+    Ok(())
+}
+
+// Whether one of a list of handles holds an object.
+fn is_held(handles: &[Handle], goal: Id) -> bool
+    ensures { IsTrue result → (h : Row) × (Contains handles.now h
+        × (held_by (Some (handle_of h)) ≡ Some goal)) }
+{
+    for handle in handles {
+        if holds(*handle, goal) {
+            return true;
+        }
+    }
+    false
+}
+
+// Whether a handle holds an object.
+fn holds(handle: Handle, goal: Id) -> bool
+    ensures { IsTrue result → held_by (Some (handle_of handle)) ≡ Some goal }
+{
+    match held_by(handle) {
+        Some(id) => id.0 == goal.0,
+        None => false,
+    }
+}
+
+// Where a shortest chain to an object begins, from the anchors on, if there is one.
+fn chain_to(
+    alloc: Global,
+    graph: &Graph<'_>,
+    anchors: &[u64],
+    goal: Id,
+) -> Result<Option<Origin>, AllocError>
+    requires formed { IsWellFormed graph.now.machine.now.numbers graph.now.machine.now.state }
+    requires listed { ListsAttached graph.now.machine.now.state graph.now.attached.now }
+    requires rising { AllPairs (λ x y. x < y) anchors.now }
+    requires all { (x : Name)
+        → Contains anchors.now x.0 ↔ AnchorOf graph.now.machine.now.state x }
+    ensures shortest { let edge = EdgeOf graph.now.machine.now.state in
+        let anchor = AnchorOf graph.now.machine.now.state in
+        IfOk result (λ found. MatchOption found (IsUnrooted edge anchor goal)
+        (λ o. IsShortest edge anchor (λ (x : Name). x.0) goal o.from o.edges)) }
+    ensures few { IfOk result (λ found.
+        IfSome found (λ o. o.edges < len graph.now.machine.now.state.objects)) }
+{
+    let mut trail = Trail::open(alloc);
+    trail.add_all(anchors, None)?;
+    let end = walk(alloc, graph, &mut trail, 0, Some(goal.0))?;
+    // For the proof: each is found once.
+    let _count = trail.len();
+    let Some(last) = end else {
+        return Ok(None);
+    };
+    let chain = read_back(alloc, &trail, last)?;
+    Ok(Some(Origin {
+        from: Id(chain[0]),
+        edges: chain.len() as u64 - 1,
+    }))
+}
+
+// The same of the anchors of a state.
 fn root_of(machine: &Machine, goal: Id) -> Result<Option<Origin>, Memory>
     requires { IsWellFormed machine.now.numbers machine.now.state }
     ensures shortest { let edge = EdgeOf machine.now.state in
@@ -190,18 +171,33 @@ fn root_of(machine: &Machine, goal: Id) -> Result<Option<Origin>, Memory>
     ensures few { IfOk result (λ found. IfSome found (λ o. o.edges < 2 ^ 32)) }
 {
     // For the proof: each object takes some of the cells.
-    let _used = machine.used();
-    let attached = Attached::of(machine)?;
-    let anchors = anchors(machine)?;
-    let mut search = Search::open(machine.alloc);
-    search.start(&anchors)?;
-    search.close(machine, &attached)?;
-    Ok(search.origin(goal.0))
+    let _used = machine.objects.used();
+    let alloc = machine.alloc;
+    let handles = machine.table.handles(alloc)?;
+    if is_held(&handles, goal) {
+        return Ok(Some(Origin {
+            from: goal,
+            edges: 0,
+        }));
+    }
+    let slots = machine.table.slots(alloc)?;
+    let entries = machine.weak.slots(alloc)?;
+    let mut marks = Marks::open(alloc);
+    let attached = mark_anchors(machine, &slots, &entries, &mut marks)?;
+    let anchors = marks.ids(alloc)?;
+    let graph = Graph {
+        machine,
+        attached: &attached,
+    };
+    match chain_to(alloc, &graph, &anchors, goal) {
+        Ok(found) => Ok(found),
+        Err(_) => Err(Memory),
+    }
 }
 
 impl Machine {
     /// `gcroot rS`.
-    pub(crate) fn reply_root(&self, caller: u32, s: u8) -> Result<Result<Made, Refusal>, Memory>
+    pub(crate) fn reply_root(&self, caller: u32, s: u8) -> Result<Result<Done, Refusal>, Memory>
         requires caller { caller < self.now.numbers.callers }
         requires register { s < REGISTERS }
         requires formed { IsWellFormed self.now.numbers self.now.state }
@@ -214,9 +210,9 @@ impl Machine {
         match found {
             Some(Origin { from, edges }) => {
                 let arrows = edges as u32;
-                Ok(Ok(Made::of(Reply::Chain { from, arrows })))
+                Ok(Ok(Done::of(Reply::Chain { from, arrows })))
             }
-            None => Ok(Ok(Made::of(Reply::Unrooted))),
+            None => Ok(Ok(Done::of(Reply::Unrooted))),
         }
     }
 }

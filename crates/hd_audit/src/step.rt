@@ -3,31 +3,13 @@ ghost use Rattle.std.specs.Prelude.{◌≡◌, true, Some, IfOk, IsTrue};
 ghost use Rattle.hd_model.specs.Step.{way_of};
 ghost use Rattle.hd_audit.specs.declared.choice.Choice.{Choice};
 ghost use Rattle.hd_audit.specs.Before.{has_one_step, HasOne};
-ghost use Rattle.hd_audit.specs.Commands.{MayStep, StepsBy, WayComesTo, entry_by, is_plain, made_of};
+ghost use Rattle.hd_audit.specs.Commands.{MayStep, StepsBy, WayComesTo, is_plain};
 
 use crate::choice::Choice;
-use crate::data::Edit;
 use crate::machine::Machine;
-use crate::made::Made;
 use crate::{entries, making};
+use hd_commands::{Done, entry_of, on_handles, on_objects};
 use hd_model::{Cmd, Entry, Memory, Refusal, Reply};
-
-// The entry of a command that came to something.
-fn entry_of(caller: u32, cmd: Cmd, made: Result<Made, Refusal>) -> Entry
-    ensures { result ≡ entry_by caller cmd (made_of made) }
-{
-    let made = match made {
-        Ok(made) => made,
-        Err(refusal) => Made::of(Reply::Refused(refusal)),
-    };
-    Entry {
-        caller,
-        cmd,
-        slot: made.slot,
-        grown: made.grown,
-        reply: made.reply,
-    }
-}
 
 impl Machine {
     /// Takes the step of a caller's command with the choice that a line states, and returns its
@@ -52,8 +34,18 @@ impl Machine {
     }
 }
 
+/// Whether a command has one entry, which is found by making the step.
+pub(crate) fn has_one_step(cmd: Cmd) -> bool
+    ensures { result ≡ has_one_step cmd }
+{
+    !matches!(
+        cmd,
+        Cmd::HNew { .. } | Cmd::AddrOf { .. } | Cmd::Trim { .. } | Cmd::CAdd { .. }
+    )
+}
+
 // What a command that has one entry comes to, whatever a line states.
-fn settled(machine: &mut Machine, caller: u32, cmd: Cmd) -> Result<Result<Made, Refusal>, Memory>
+fn settled(machine: &mut Machine, caller: u32, cmd: Cmd) -> Result<Result<Done, Refusal>, Memory>
     requires may { MayStep machine.old caller cmd }
     requires one { has_one_step cmd ≡ true }
     ensures { let way = way_of machine.old.state caller cmd in
@@ -66,7 +58,7 @@ fn settled(machine: &mut Machine, caller: u32, cmd: Cmd) -> Result<Result<Made, 
     match cmd {
         Cmd::Collect { n } => {
             let report = machine.collect(n)?;
-            Ok(Ok(Made::of(Reply::Report(report))))
+            Ok(Ok(Done::of(Reply::Report(report))))
         }
         Cmd::GcRoot { s } => Ok(machine.reply_root(caller, s)?),
         Cmd::New { d, fields, fin } => Ok(machine.make_object(caller, d, fields, fin)?),
@@ -96,60 +88,53 @@ fn make(
     caller: u32,
     cmd: Cmd,
     choice: &Choice,
-) -> Result<Option<Result<Made, Refusal>>, Memory>
+) -> Result<Option<Result<Done, Refusal>>, Memory>
     requires { MayStep machine.old caller cmd }
     ensures { let way = way_of machine.old.state caller cmd in
         IfOk result (WayComesTo caller way choice.now machine.old machine.new) }
 {
-    if is_plain(cmd) {
-        return Ok(Some(decide(machine, caller, cmd)));
+    if has_one_step(cmd) {
+        return Ok(Some(settled(machine, caller, cmd)?));
     }
     match cmd {
-        Cmd::HNew { d, make, t } => Ok(making::make_handle(machine, caller, d, make, t, choice)),
+        Cmd::HNew { d, make, t } => making::make_handle(machine, caller, d, make, t, choice),
         Cmd::CAdd { k, v } => entries::add_entry(machine, caller, k, v, choice),
         Cmd::Trim { kind } => Ok(making::trim(machine, kind, choice)),
         Cmd::AddrOf { s } => making::reply_place(machine, caller, s, choice),
-        Cmd::Collect { n } => {
-            let report = machine.collect(n)?;
-            Ok(Some(Ok(Made::of(Reply::Report(report)))))
-        }
-        Cmd::GcRoot { s } => Ok(Some(machine.reply_root(caller, s)?)),
-        Cmd::New { d, fields, fin } => Ok(Some(machine.make_object(caller, d, fields, fin)?)),
-        Cmd::CRemove { k } => Ok(Some(machine.remove_entry(caller, k)?)),
         _ => unreachable!(),
     }
 }
 
 // The same of a command that takes no memory and that the state decides.
-fn decide(machine: &mut Machine, caller: u32, cmd: Cmd) -> Result<Made, Refusal>
+fn decide(machine: &mut Machine, caller: u32, cmd: Cmd) -> Result<Done, Refusal>
     requires may { MayStep machine.old caller cmd }
     requires plain { IsTrue (is_plain cmd) }
     ensures { let way = way_of machine.old.state caller cmd in
         (choice : Choice) → WayComesTo caller way choice machine.old machine.new (Some result) }
 {
     match cmd {
-        Cmd::Set { o, i, v } => machine.put_field(caller, o, i, v),
-        Cmd::Get { d, o, i } => machine.get_field(caller, d, o, i),
-        Cmd::Val { o, n } => machine.edit_in(caller, o, Edit::Value(n)),
-        Cmd::Read { o } => machine.read_value(caller, o),
-        Cmd::Copy { d, s } => Ok(machine.copy_register(caller, d, s)),
-        Cmd::Clear { d } => Ok(machine.assign(caller, d, None, Reply::Done)),
-        Cmd::SPut { k, s } => Ok(machine.put_static(caller, k, s)),
-        Cmd::SGet { d, k } => Ok(machine.get_static(caller, d, k)),
-        Cmd::Gen { s } => machine.read_generation(caller, s),
-        Cmd::Suppress { s } => machine.edit_in(caller, s, Edit::Registered(false)),
-        Cmd::Reregister { s } => machine.edit_in(caller, s, Edit::Registered(true)),
-        Cmd::Final { d } => Ok(machine.take_queued(caller, d)),
-        Cmd::HGet { d, s } => machine.get_target(caller, d, s),
-        Cmd::HSet { s, t } => machine.set_target(caller, s, t),
-        Cmd::HSec { h, s } => machine.set_secondary(caller, h, s),
-        Cmd::HDep { d, s } => machine.get_secondary(caller, d, s),
-        Cmd::HVar { s, strength } => machine.set_strength(caller, s, strength),
-        Cmd::HFree { s } => machine.free_handle(caller, s),
-        Cmd::HPut { k, s } => Ok(machine.put_board(caller, k, s)),
-        Cmd::HPick { d, k } => Ok(machine.pick_board(caller, d, k)),
-        Cmd::HUp { s } => machine.raise_count(caller, s),
-        Cmd::HDown { s } => machine.lower_count(caller, s),
+        Cmd::Set { o, i, v } => on_objects::set_field(machine, caller, o, i, v),
+        Cmd::Get { d, o, i } => on_objects::get_field(machine, caller, d, o, i),
+        Cmd::Val { o, n } => on_objects::set_value(machine, caller, o, n),
+        Cmd::Read { o } => on_objects::read_value(machine, caller, o),
+        Cmd::Copy { d, s } => Ok(on_objects::copy_register(machine, caller, d, s)),
+        Cmd::Clear { d } => Ok(on_objects::clear_register(machine, caller, d)),
+        Cmd::SPut { k, s } => Ok(on_objects::put_static(machine, caller, k, s)),
+        Cmd::SGet { d, k } => Ok(on_objects::get_static(machine, caller, d, k)),
+        Cmd::Gen { s } => on_objects::read_generation(machine, caller, s),
+        Cmd::Suppress { s } => on_objects::set_registered(machine, caller, s, false),
+        Cmd::Reregister { s } => on_objects::set_registered(machine, caller, s, true),
+        Cmd::Final { d } => Ok(on_objects::take_queued(machine, caller, d)),
+        Cmd::HGet { d, s } => on_handles::get_target(machine, caller, d, s),
+        Cmd::HSet { s, t } => on_handles::set_target(machine, caller, s, t),
+        Cmd::HSec { h, s } => on_handles::set_secondary(machine, caller, h, s),
+        Cmd::HDep { d, s } => on_handles::get_secondary(machine, caller, d, s),
+        Cmd::HVar { s, strength } => on_handles::set_strength(machine, caller, s, strength),
+        Cmd::HFree { s } => on_handles::free_handle(machine, caller, s),
+        Cmd::HPut { k, s } => Ok(on_handles::put_board(machine, caller, k, s)),
+        Cmd::HPick { d, k } => Ok(on_handles::pick_board(machine, caller, d, k)),
+        Cmd::HUp { s } => on_handles::raise_count(machine, caller, s),
+        Cmd::HDown { s } => on_handles::lower_count(machine, caller, s),
         Cmd::CFind { d, k } => machine.find_entry(caller, d, k),
         _ => unreachable!(),
     }

@@ -1,14 +1,14 @@
 // The objects, and the cells that they take.
-ghost use Rattle.std.specs.Prelude.{◌≡◌, ◌+◌, ◌<◌, ◌^◌, length, slice_set, None, Some, IsSome, IfOk, MatchResult, option_map, option_copied};
+ghost use Rattle.std.specs.Prelude.{◌≡◌, ◌+◌, ◌<◌, ◌≤◌, ◌^◌, length, slice_set, None, Some, IsSome, IfOk, MatchResult, option_copied};
 ghost use Rattle.std.specs.FinMap as map;
 ghost use Rattle.std.specs.FinMap.{get, insert};
 ghost use Rattle.hd_model.specs.State.{size_of};
-ghost use Rattle.hd_audit.specs.Judge.{object_in, cells_of};
+ghost use Rattle.hd_audit.specs.Judge.{IsYoungest, object_in, cells_of};
 ghost use Rattle.hd_audit.specs.View.{edited};
 
 use crate::data::{Edit, Object};
 use crate::numbered::Numbered;
-use hd_model::limits::HEADER;
+use hd_model::limits::{HEADER, OLDEST};
 use hd_model::{Id, Memory};
 use std::alloc::Global;
 use std::marker::Model;
@@ -19,6 +19,8 @@ pub(crate) struct Objects {
     stored: Numbered<Object>,
     // The cells of all.
     used: u32,
+    // No object is of a generation below this one.
+    youngest: u8,
 }
 
 impl Model for Objects {
@@ -29,7 +31,7 @@ impl Model for Objects {
     ghost use Rattle.std.specs.Coded.{coded_ℕ};
     ghost use Rattle.hd_model.specs.State.{Object};
     ghost use Rattle.hd_model.specs.{declared.data.Id.Id, Code.object_code, Code.id_code};
-    ghost use Rattle.hd_audit.specs.Judge.{IsCounted};
+    ghost use Rattle.hd_audit.specs.Judge.{IsCounted, IsYoungest};
 
     ghost Value = { FinMap nat_cmp (Object Id) };
 
@@ -37,7 +39,7 @@ impl Model for Objects {
 
     ghost view = { λ o. o.stored };
 
-    ghost invariant = { λ o. IsCounted o.used o.stored };
+    ghost invariant = { λ o. IsCounted o.used o.stored × IsYoungest o.youngest o.stored };
 }
 
 impl Objects {
@@ -46,7 +48,11 @@ impl Objects {
         ensures { result ≡ map.empty }
     {
         let stored = Numbered::new(alloc);
-        Objects { stored, used: 0 }
+        Objects {
+            stored,
+            used: 0,
+            youngest: OLDEST,
+        }
     }
 
     /// The number of objects.
@@ -96,8 +102,10 @@ impl Objects {
             (λ _. self.new ≡ self.old) }
     {
         let size = object.fields.len() as u32 + HEADER;
+        let generation = object.generation;
         self.stored.insert(id, object)?;
         self.used += size;
+        self.youngest = least(self.youngest, generation);
         Ok(())
     }
 
@@ -126,6 +134,21 @@ impl Objects {
         object.edit(edit);
     }
 
+    /// A generation that no object is below.
+    pub(crate) fn youngest(&self) -> u8
+        ensures { IsYoungest result self.now }
+    {
+        self.youngest
+    }
+
+    /// No object is below a generation, as `youngest` says from now on.
+    pub(crate) fn raise_youngest(&mut self, generation: u8)
+        requires { IsYoungest generation self.old }
+        ensures { self.new ≡ self.old }
+    {
+        self.youngest = generation;
+    }
+
     /// Takes an object out.
     pub(crate) fn remove(&mut self, id: u64)
         ensures { self.new ≡ map.remove self.old id }
@@ -136,4 +159,11 @@ impl Objects {
         let size = object.fields.len() as u32 + HEADER;
         self.used -= size;
     }
+}
+
+// The less of two generations.
+fn least(a: u8, b: u8) -> u8
+    ensures { (result ≤ a) × (result ≤ b) }
+{
+    if a < b { a } else { b }
 }

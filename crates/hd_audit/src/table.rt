@@ -1,33 +1,34 @@
 // The handles by slot, and the use of each block.
-ghost use Rattle.std.specs.Prelude.{◌≡◌, ℕ, ◌+◌, ◌*◌, ◌/◌, ◌<◌, ◌≤◌, ◌↔◌, replicate, length, Some, None, IsSome, IsTrue, IfOk, IfSome, IfNone, option_map};
+ghost use Rattle.std.specs.Prelude.{◌≡◌, ℕ, ◌+◌, ◌*◌, ◌<◌, ◌≤◌, ◌↔◌, length, Some, None, IsSome, IsTrue, IfOk, IfSome, IfNone, option_map};
 ghost use Rattle.std.specs.FinMap as map;
-ghost use Rattle.std.specs.FinMap.{get, insert, len};
+ghost use Rattle.std.specs.FinMap.{get, insert, keys, len};
 ghost use Rattle.hd_model.specs.State.{handles_of};
-ghost use Rattle.hd_audit.specs.View.{handle_of, use_of};
-ghost use Rattle.hd_audit.specs.Inside.{rows_in, slots_of, IsLeast};
+ghost use Rattle.hd_model.specs.declared.limits.TheConstants.{BLOCKS, ROWS};
+ghost use Rattle.hd_commands.specs.Handles.{handle_of};
+ghost use Rattle.hd_audit.specs.View.{use_of};
+ghost use Rattle.hd_audit.specs.Inside.{slots_of, IsLeast};
+ghost use Rattle.hd_audit.specs.Marking.{AreLive};
 
 use crate::data::{BlockUse, Handle, is_kind};
-use hd_model::limits::{BLOCKS, ROWS};
-use hd_model::{Kind, Memory, Slot};
+use crate::numbered::Numbered;
+use hd_model::{Kind, Memory};
 use std::alloc::Global;
 use std::marker::Model;
 
-/// The handles by slot and the use of each block. The slots are those of all blocks that the table
-/// may have, so a handle is found at once.
+/// The handles by slot and the use of each block that has one.
 #[derive(Drop)]
 pub(crate) struct Table {
+    // The blocks that there may be.
     blocks: u32,
-    handles: Vec<Option<Handle>>,
-    // The live handles.
-    live: u32,
-    uses: Vec<Option<BlockUse>>,
-    // The blocks that have a use.
-    given: u32,
+    handles: Numbered<Handle>,
+    uses: Numbered<BlockUse>,
 }
 
 impl Model for Table {
+    ghost use Rattle.hd_commands.specs.Handles.{handle_of};
+    ghost use Rattle.hd_audit.specs.View.{use_of};
     ghost use Rattle.hd_audit.specs.Judge.{TableView, table_view_code};
-    ghost use Rattle.hd_audit.specs.Inside.{rows_in, uses_in, IsTable};
+    ghost use Rattle.hd_audit.specs.Inside.{seen_as, IsTable};
 
     ghost Value = { TableView };
 
@@ -35,50 +36,33 @@ impl Model for Table {
 
     ghost view = { λ t. record {
       blocks = t.blocks;
-      handles = rows_in t.handles.items;
-      uses = uses_in t.uses.items;
+      handles = seen_as handle_of t.handles;
+      uses = seen_as use_of t.uses;
     } };
 
-    ghost invariant = { λ t. IsTable t.blocks t.handles.items t.live t.uses.items t.given };
-}
-
-/// Nothing at each of the given number of indices.
-pub(crate) fn nothing_at<T: Copy + Drop>(
-    alloc: Global,
-    count: u32,
-) -> Result<Vec<Option<T>>, Memory>
-    ensures { IfOk result (λ items. items.items ≡ replicate count None) }
-{
-    let mut items = Vec::new(alloc);
-    match items.resize(count as usize, None) {
-        Ok(()) => Ok(items),
-        Err(_) => Err(Memory),
-    }
+    ghost invariant = { λ t. IsTable t.blocks t.handles t.uses };
 }
 
 impl Table {
     /// No handles, and no block has a use.
-    pub(crate) fn open(alloc: Global, blocks: u32) -> Result<Table, Memory>
+    pub(crate) fn open(alloc: Global, blocks: u32) -> Table
         requires { blocks ≤ BLOCKS }
-        ensures { IfOk result (λ t.
-            t ≡ record { blocks = blocks; handles = map.empty; uses = map.empty }) }
+        ensures { result ≡ record { blocks = blocks; handles = map.empty; uses = map.empty } }
     {
-        let handles = nothing_at(alloc, ROWS * (blocks + 1))?;
-        let uses = nothing_at(alloc, blocks + 1)?;
-        Ok(Table {
+        let handles = Numbered::new(alloc);
+        let uses = Numbered::new(alloc);
+        Table {
             blocks,
             handles,
-            live: 0,
             uses,
-            given: 0,
-        })
+        }
     }
 
     /// The number of live handles.
     pub(crate) fn len(&self) -> u32
         ensures { result ≡ len self.now.handles }
     {
-        self.live
+        self.handles.len() as u32
     }
 
     /// The number of blocks that there may be.
@@ -90,54 +74,55 @@ impl Table {
     }
 
     /// The handle in a slot, which may be any number.
-    pub(crate) fn handle(&self, slot: Slot) -> Option<Handle>
-        ensures value { option_map handle_of result ≡ get self.now.handles slot.0 }
-        ensures within { IfSome result (λ _. slot.0 < slots_of self.now.blocks) }
+    pub(crate) fn handle(&self, slot: u64) -> Option<Handle>
+        ensures { option_map handle_of result ≡ get self.now.handles slot }
     {
-        if (slot.0 as usize) < self.handles.len() {
-            self.handles[slot.0 as usize]
-        } else {
-            None
-        }
+        self.handles.at(slot)
     }
 
-    /// What is in each slot.
-    pub(crate) fn handles(&self) -> &[Option<Handle>]
-        ensures handles { rows_in result.now ≡ self.now.handles }
-        ensures slots { length result.now ≡ slots_of self.now.blocks }
-        ensures limit { self.now.blocks ≤ BLOCKS }
+    /// The slots that have handles, in rising order.
+    pub(crate) fn slots(&self, alloc: Global) -> Result<Vec<u64>, Memory>
+        ensures each { IfOk result (λ slots. slots.items ≡ keys self.now.handles) }
+        ensures few { IfOk result (λ slots. length slots.items ≤ ROWS * (BLOCKS + 1)) }
     {
-        &self.handles
+        self.handles.keys(alloc)
+    }
+
+    /// The handles, in the order of their slots.
+    pub(crate) fn handles(&self, alloc: Global) -> Result<Vec<Handle>, Memory>
+        ensures { IfOk result (λ handles. AreLive self.now.handles handles.items) }
+    {
+        self.handles.values(alloc)
     }
 
     /// Another handle in a live slot.
-    pub(crate) fn replace(&mut self, slot: Slot, handle: Handle)
-        requires { IsSome (get self.old.handles slot.0) }
-        ensures { let handles = insert self.old.handles slot.0 (handle_of handle) in
+    pub(crate) fn replace(&mut self, slot: u64, handle: Handle)
+        requires { IsSome (get self.old.handles slot) }
+        ensures { let handles = insert self.old.handles slot (handle_of handle) in
             self.new ≡ record self.old { handles = handles } }
     {
-        self.handles[slot.0 as usize] = Some(handle);
+        let Some(old) = self.handles.get_mut(slot) else {
+            return;
+        };
+        *old = handle;
     }
 
     /// A handle in a slot that has none.
-    pub(crate) fn put(&mut self, slot: Slot, handle: Handle)
-        requires free { get self.old.handles slot.0 ≡ None }
-        requires within { slot.0 < slots_of self.old.blocks }
-        ensures { let handles = insert self.old.handles slot.0 (handle_of handle) in
-            self.new ≡ record self.old { handles = handles } }
+    pub(crate) fn put(&mut self, slot: u64, handle: Handle) -> Result<(), Memory>
+        requires { slot < slots_of self.old.blocks }
+        ensures { let handles = insert self.old.handles slot (handle_of handle) in
+            IfOk result (λ _. self.new ≡ record self.old { handles = handles }) }
     {
-        self.handles[slot.0 as usize] = Some(handle);
-        self.live += 1;
+        self.handles.insert(slot, handle)?;
+        Ok(())
     }
 
-    /// Takes the handle out of a live slot.
-    pub(crate) fn take(&mut self, slot: Slot)
-        requires { IsSome (get self.old.handles slot.0) }
-        ensures { let handles = map.remove self.old.handles slot.0 in
+    /// Takes the handle out of a slot.
+    pub(crate) fn take(&mut self, slot: u64)
+        ensures { let handles = map.remove self.old.handles slot in
             self.new ≡ record self.old { handles = handles } }
     {
-        self.handles[slot.0 as usize] = None;
-        self.live -= 1;
+        let _ = self.handles.remove(slot);
     }
 
     /// The number of blocks that have a use.
@@ -146,18 +131,14 @@ impl Table {
         ensures few { result ≤ self.now.blocks + 1 }
         ensures limit { self.now.blocks ≤ BLOCKS }
     {
-        self.given
+        self.uses.len() as u32
     }
 
     /// The use of a block, which may be any number.
     pub(crate) fn use_of(&self, block: u32) -> Option<BlockUse>
         ensures { option_map use_of result ≡ get self.now.uses block }
     {
-        if (block as usize) < self.uses.len() {
-            self.uses[block as usize]
-        } else {
-            None
-        }
+        self.uses.at(u64::from(block))
     }
 
     /// Whether a block has handles of a kind.
@@ -176,8 +157,8 @@ impl Table {
         ensures none { IfNone result ((block : ℕ) → from ≤ block → block ≤ self.now.blocks
             → IsSome (get self.now.uses block)) }
     {
-        for block in from..self.blocks + 1 {
-            if self.uses[block as usize].is_none() {
+        for block in from..self.blocks() + 1 {
+            if self.use_of(block).is_none() {
                 return Some(block);
             }
         }
@@ -185,22 +166,19 @@ impl Table {
     }
 
     /// Gives a block a use.
-    pub(crate) fn give(&mut self, block: u32, given: BlockUse)
-        requires unused { get self.old.uses block ≡ None }
-        requires within { block ≤ self.old.blocks }
+    pub(crate) fn give(&mut self, block: u32, given: BlockUse) -> Result<(), Memory>
+        requires { block ≤ self.old.blocks }
         ensures { let uses = insert self.old.uses block (use_of given) in
-            self.new ≡ record self.old { uses = uses } }
+            IfOk result (λ _. self.new ≡ record self.old { uses = uses }) }
     {
-        self.uses[block as usize] = Some(given);
-        self.given += 1;
+        self.uses.insert(u64::from(block), given)?;
+        Ok(())
     }
 
     /// Takes the use of a block away.
     pub(crate) fn take_back(&mut self, block: u32)
-        requires { IsSome (get self.old.uses block) }
         ensures { self.new ≡ record self.old { uses = map.remove self.old.uses block } }
     {
-        self.uses[block as usize] = None;
-        self.given -= 1;
+        let _ = self.uses.remove(u64::from(block));
     }
 }

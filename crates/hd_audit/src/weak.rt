@@ -1,15 +1,13 @@
 // The weak table: its slots with their entries, the slot of each key, and the idle slots.
-ghost use Rattle.std.specs.Prelude.{◌≡◌, ℕ, ◌<◌, ◌≤◌, length, Some, None, IsSome, IfOk, MatchResult, option_map};
+ghost use Rattle.std.specs.Prelude.{◌≡◌, Some, None, IfOk, IfSome, option_map};
 ghost use Rattle.std.specs.FinMap as map;
-ghost use Rattle.std.specs.FinMap.{get, insert, contains_key};
-ghost use Rattle.hd_model.specs.declared.limits.TheConstants.{BLOCKS};
+ghost use Rattle.std.specs.FinMap.{get, insert, keys};
 ghost use Rattle.hd_audit.specs.View.{entry_of};
-ghost use Rattle.hd_audit.specs.Inside.{held_in, slots_of, slot_with, idle_in, IsUnnamed};
+ghost use Rattle.hd_audit.specs.Inside.{slot_with, idle_in, slot_at, IsUnnamed};
+ghost use Rattle.hd_audit.specs.Listed.{entry_in};
 
 use crate::data::WeakEntry;
 use crate::numbered::Numbered;
-use crate::table::nothing_at;
-use hd_model::limits::ROWS;
 use hd_model::{Id, Memory, Slot};
 use std::alloc::Global;
 use std::marker::Model;
@@ -18,72 +16,75 @@ use std::marker::Model;
 /// the idle slots.
 #[derive(Drop)]
 pub(crate) struct Weak {
-    blocks: u32,
-    slots: Vec<Option<Option<WeakEntry>>>,
+    slots: Numbered<Option<WeakEntry>>,
     by_key: Numbered<u32>,
     idle: Numbered<()>,
 }
 
 impl Model for Weak {
-    ghost use Rattle.hd_audit.specs.Judge.{WeakView, weak_view_code};
-    ghost use Rattle.hd_audit.specs.Inside.{held_in, IsWeak};
+    ghost use Rattle.std.specs.Prelude.{Option};
+    ghost use Rattle.std.specs.FinMap as map;
+    ghost use Rattle.std.specs.FinMap.{FinMap};
+    ghost use Rattle.std.specs.Ordering.{nat_cmp};
+    ghost use Rattle.std.specs.Coded.{coded_ℕ, coded_option};
+    ghost use Rattle.hd_model.specs.State.{WeakEntry};
+    ghost use Rattle.hd_model.specs.{declared.data.Id.Id, Code.weak_code};
+    ghost use Rattle.hd_audit.specs.Inside.{held_as, IsWeak};
 
-    ghost Value = { WeakView };
+    ghost Value = { FinMap nat_cmp (Option (WeakEntry Id)) };
 
-    ghost coded = { weak_view_code };
+    ghost coded = { map.code coded_ℕ (coded_option weak_code) };
 
-    ghost view = { λ w. record { blocks = w.blocks; held = held_in w.slots.items } };
+    ghost view = { λ w. held_as w.slots };
 
-    ghost invariant = { λ w. IsWeak w.blocks w.slots.items w.by_key w.idle };
+    ghost invariant = { λ w. IsWeak w.slots w.by_key w.idle };
 }
 
 impl Weak {
     /// No slots.
-    pub(crate) fn open(alloc: Global, blocks: u32) -> Result<Weak, Memory>
-        requires { blocks ≤ BLOCKS }
-        ensures { IfOk result (λ w. w ≡ record { blocks = blocks; held = map.empty }) }
+    pub(crate) fn open(alloc: Global) -> Weak
+        ensures { result ≡ map.empty }
     {
-        let slots = nothing_at(alloc, ROWS * (blocks + 1))?;
+        let slots = Numbered::new(alloc);
         let by_key = Numbered::new(alloc);
         let idle = Numbered::new(alloc);
-        Ok(Weak {
-            blocks,
+        Weak {
             slots,
             by_key,
             idle,
-        })
-    }
-
-    /// What it holds by each slot.
-    pub(crate) fn slots(&self) -> &[Option<Option<WeakEntry>>]
-        ensures slots { held_in result.now ≡ self.now.held }
-        ensures count { length result.now ≡ slots_of self.now.blocks }
-        ensures limit { self.now.blocks ≤ BLOCKS }
-    {
-        &self.slots
-    }
-
-    /// What it holds by a slot, which may be any number.
-    pub(crate) fn at(&self, slot: Slot) -> Option<Option<WeakEntry>>
-        ensures { option_map (option_map entry_of) result ≡ get self.now.held slot.0 }
-    {
-        if (slot.0 as usize) < self.slots.len() {
-            self.slots[slot.0 as usize]
-        } else {
-            None
         }
     }
 
-    /// Whether it holds a slot, which may be any number.
-    pub(crate) fn holds(&self, slot: Slot) -> bool
-        ensures { result ≡ contains_key self.now.held slot.0 }
+    /// The slots that it holds, in rising order.
+    pub(crate) fn slots(&self, alloc: Global) -> Result<Vec<u64>, Memory>
+        ensures { IfOk result (λ slots. slots.items ≡ keys self.now) }
     {
-        self.at(slot).is_some()
+        self.slots.keys(alloc)
+    }
+
+    /// What it holds by a slot, which may be any number.
+    pub(crate) fn at(&self, slot: u64) -> Option<Option<WeakEntry>>
+        ensures { option_map (option_map entry_of) result ≡ get self.now slot }
+    {
+        self.slots.at(slot)
+    }
+
+    /// The entry in a slot, which may be any number.
+    pub(crate) fn entry(&self, slot: u64) -> Option<WeakEntry>
+        ensures value { option_map entry_of result ≡ entry_in self.now slot }
+        ensures named { IfSome result (λ e. slot_with self.now e.key ≡ Some (slot_at slot)) }
+    {
+        // For the proof: an entry is in the slot of its key.
+        let _slots = &self.slots;
+        match self.at(slot) {
+            Some(entry) => entry,
+            None => None,
+        }
     }
 
     /// The slot with the entry of a key.
     pub(crate) fn slot_of(&self, key: Id) -> Option<Slot>
-        ensures { result ≡ slot_with self.now.held key }
+        ensures { result ≡ slot_with self.now key }
     {
         match self.by_key.get(key.0) {
             Some(slot) => Some(Slot(*slot)),
@@ -93,7 +94,7 @@ impl Weak {
 
     /// The least idle slot.
     pub(crate) fn idle(&self) -> Option<Slot>
-        ensures { result ≡ idle_in self.now.held }
+        ensures { result ≡ idle_in self.now }
     {
         match self.idle.least_from(0) {
             Some(slot) => Some(Slot(slot as u32)),
@@ -101,32 +102,38 @@ impl Weak {
         }
     }
 
-    /// An entry in a slot, which has none, of a key that has none. Without memory nothing is
-    /// changed.
+    /// An entry in a slot, which has none, of a key that has none.
     pub(crate) fn put(&mut self, slot: Slot, entry: WeakEntry) -> Result<(), Memory>
-        requires within { slot.0 < slots_of self.old.blocks }
-        requires free { IsUnnamed (get self.old.held slot.0) }
-        requires fresh { slot_with self.old.held entry.key ≡ None }
-        ensures { let held = insert self.old.held slot.0 (Some (entry_of entry)) in
-            MatchResult result (λ _. self.new ≡ record self.old { held = held })
-            (λ _. self.new ≡ self.old) }
+        requires free { IsUnnamed (get self.old slot.0) }
+        requires fresh { slot_with self.old entry.key ≡ None }
+        ensures { let held = insert self.old slot.0 (Some (entry_of entry)) in
+            IfOk result (λ _. self.new ≡ held) }
     {
+        let number = u64::from(slot.0);
         self.by_key.insert(entry.key.0, slot.0)?;
-        let _ = self.idle.remove(u64::from(slot.0));
-        self.slots[slot.0 as usize] = Some(Some(entry));
-        Ok(())
+        match self.slots.insert(number, Some(entry)) {
+            Ok(()) => {
+                let _ = self.idle.remove(number);
+                Ok(())
+            }
+            Err(Memory) => {
+                let _ = self.by_key.remove(entry.key.0);
+                Err(Memory)
+            }
+        }
     }
 
-    /// The entry of a key leaves its slot, which is idle then. Without memory nothing is changed.
-    pub(crate) fn clear(&mut self, slot: Slot, key: Id) -> Result<(), Memory>
-        requires { slot_with self.old.held key ≡ Some slot }
-        ensures { let held = insert self.old.held slot.0 None in
-            MatchResult result (λ _. self.new ≡ record self.old { held = held })
-            (λ _. self.new ≡ self.old) }
+    /// The entry of a key leaves its slot, which is idle then.
+    pub(crate) fn clear(&mut self, slot: u64, key: Id) -> Result<(), Memory>
+        requires { slot_with self.old key ≡ Some (slot_at slot) }
+        ensures { IfOk result (λ _. self.new ≡ insert self.old slot None) }
     {
-        self.idle.insert(u64::from(slot.0), ())?;
+        self.idle.insert(slot, ())?;
         let _ = self.by_key.remove(key.0);
-        self.slots[slot.0 as usize] = Some(None);
+        let Some(held) = self.slots.get_mut(slot) else {
+            return Ok(());
+        };
+        *held = None;
         Ok(())
     }
 }

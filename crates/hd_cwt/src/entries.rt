@@ -1,5 +1,5 @@
 // The entries of the table: the key of each held slot, and how a key is found.
-ghost use Rattle.std.specs.Prelude.{◌≡◌, ◌≢◌, ℕ, ◌+◌, ◌*◌, ◌/◌, ◌%◌, ◌<◌, ◌≤◌, length, replicate};
+ghost use Rattle.std.specs.Prelude.{◌≡◌, ◌≢◌, ℕ, ◌+◌, ◌*◌, ◌/◌, ◌%◌, ◌<◌, ◌≤◌, length};
 ghost use Rattle.std.specs.Prelude.{slice_index_or, Some, None, IfOk, IfSome, IfNone, IsSome};
 ghost use Rattle.std.specs.FinMap as map;
 ghost use Rattle.std.specs.FinMap.{get};
@@ -10,7 +10,7 @@ ghost use Rattle.hd_cwt.specs.Inside.{HasBucket, entry_at, keyed_in};
 use crate::rings::Rings;
 use hd_mask::{bit, lowest};
 use hd_model::limits::{BLOCKS, ROWS};
-use hd_model::{Id, Memory, Steps};
+use hd_model::{Id, Memory, Steps, filled};
 use std::alloc::Global;
 use std::marker::Model;
 use std::sync::ledger::Ledger;
@@ -183,15 +183,4 @@ fn first_marked(masks: &[u64], from: u32) -> u32
         }
     }
     masks.len() as u32
-}
-
-/// A list of `count` copies of a value.
-pub(crate) fn filled<T: Copy + Drop>(alloc: Global, value: T, count: u32) -> Result<Vec<T>, Memory>
-    ensures { IfOk result (λ v. v.items ≡ replicate count value) }
-{
-    let mut list = Vec::new(alloc);
-    match list.resize(count as usize, value) {
-        Ok(()) => Ok(list),
-        Err(_) => Err(Memory),
-    }
 }

@@ -3,8 +3,7 @@ ghost use Rattle.std.specs.Prelude.{◌≡◌, ◌+◌, ◌-◌, ◌<◌, ◌≤
 ghost use Rattle.hd_cwt.specs.Rings.{node_at};
 ghost use Rattle.hd_cwt.specs.Inside.{IsUnlisted};
 
-use crate::entries::filled;
-use hd_model::Memory;
+use hd_model::{Memory, filled};
 use std::alloc::Global;
 
 /// The slots with a key, and by the number of a slot its place in that list.

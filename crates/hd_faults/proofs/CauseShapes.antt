@@ -2,13 +2,12 @@
 use Rattle.hd_script.proofs.Basics.{Bool, Cmd, List, None, Option, Some, [], ap, arith, bytes_eq, caller, cases_Bool, command, cond, false, is_none, is_some, length, lt-ltb, ltb, option_map, refl, subst, sym, true, ℕ, ⊎_elim, ◌-◌, ◌∷◌, ◌≡◌, ◌≤◌, ◌∙◌}
 use Rattle.std.specs.Prelude.{slice_index_or, ◌||◌}
 use Rattle.std.proofs.lemmas.Slice.Eq.{bytes_eq-Decides}
-use Rattle.std.specs.Option.{option_or}
-use Rattle.hd_model.specs.Grammar.{reading_of, one, two, three}
+use Rattle.hd_model.specs.Grammar.{reading_of, three}
 use Rattle.hd_faults.specs.Causes.{cause_by, cause_of, form_of, operand_cause}
 use Rattle.hd_faults.specs.Forms.{Takes}
 use Rattle.hd_faults.specs.declared.fault.Cause.{Cause}
 use Rattle.hd_faults.specs.declared.fault.Cause.TheVariants as cause
-use Rattle.hd_faults.specs.declared.operand.Operand.{Operand}
+use Rattle.hd_model.specs.declared.operand.Operand.{Operand}
 
 -- a name and its operands
 abbrev pub IsRight : List ℕ → List (List ℕ) → Type 0
@@ -16,30 +15,10 @@ IsRight name operands = is_none (cause_of (name ∷ operands)) ≡ is_some (read
 
 -- ---- operands that have to be there
 
-pub one_right : {A : Type 0} (c : Cause) (f : A → Cmd) (o : Option A)
-    → is_none (cond (is_some o) None (Some c)) ≡ is_some (option_map command (one f o))
-one_right _ f None = refl
-one_right _ f (Some a) = refl
-
 pub number_right : (c : Cause) (o : Option ℕ)
     → is_none (cond (is_some o) None (Some c)) ≡ is_some (option_map caller o)
 number_right _ None = refl
 number_right _ (Some n) = refl
-
-pub two_right : {A B : Type 0} (c d : Cause) (f : A → B → Cmd) (o : Option A) (p : Option B)
-    → is_none (cond (is_some o) (cond (is_some p) None (Some d)) (Some c))
-    ≡ is_some (option_map command (two f o p))
-two_right _ _ f None p = refl
-two_right _ _ f (Some a) None = refl
-two_right _ _ f (Some a) (Some b) = refl
-
--- the same, where another table is looked up next
-pub two_first : {A B : Type 0} (c d : Cause) (f : A → B → Cmd) (o : Option A) (p : Option B)
-    → is_none (cond (is_some o) (cond (is_some p) None (Some d)) (Some c))
-    ≡ is_some (option_map command (option_or (two f o p) None))
-two_first _ _ f None p = refl
-two_first _ _ f (Some a) None = refl
-two_first _ _ f (Some a) (Some b) = refl
 
 pub three_right : {A B C : Type 0} (c d e : Cause) (f : A → B → C → Cmd) (o : Option A) (p : Option B)
     (q : Option C)
@@ -91,10 +70,6 @@ too_many t a b c d e more few =
     subst (λ (y : Bool). is_none (cond (ltb (length operands) t.least || y)
     (Some (cause.Count t.least (length t.operands) (length operands))) (operand_cause 1 t.operands operands))
     ≡ false) (sym over) (either _ _ (ltb (length operands) t.least))
-
--- a command of which each operand has to be there
-abbrev pub plain : List Operand → Takes
-plain operands = record { least = length operands; operands = operands }
 
 -- a fact of a word, by one name that it may be
 pub by_name : (name : List ℕ) (P : List ℕ → Type 0) (w : List ℕ) → P name → (bytes_eq w name ≡ false → P w)

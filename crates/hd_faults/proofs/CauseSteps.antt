@@ -6,7 +6,7 @@ use Rattle.hd_faults.specs.Causes.{cause_by, cause_of, fits, form_of, is_other_c
 use Rattle.hd_faults.specs.Forms.{Takes}
 use Rattle.hd_faults.specs.Placed.{bytes_of}
 use Rattle.hd_faults.specs.declared.fault.Cause.TheVariants as cause
-use Rattle.hd_faults.specs.declared.operand.Operand.{Operand}
+use Rattle.hd_model.specs.declared.operand.Operand.{Operand}
 
 -- ---- names and counts
 

@@ -5,11 +5,11 @@ use Rattle.std.proofs.lemmas.Slice.Eq.{bytes_eq-Decides}
 use Rattle.hd_model.specs.declared.command.Cmd.TheVariants as cmd
 use Rattle.hd_model.specs.declared.data.Make.TheVariants as make
 use Rattle.hd_model.specs.declared.data.Make.{Make}
-use Rattle.hd_model.specs.Grammar.{reading_of, three, two_words, three_words, three_on_objects, three_on_handles, four_words, five_words, hnew_of, make_of, strength_of, object_register_in, handle_register_in}
+use Rattle.hd_model.specs.Grammar.{reading_of, three, two_words, three_words, four_words, five_words, hnew_of, make_of, strength_of, object_register_in, handle_register_in}
 use Rattle.hd_faults.specs.Causes.{cause_by, cause_of, form_of, new_handle}
 use Rattle.hd_faults.specs.Forms.{Takes}
 use Rattle.hd_faults.specs.declared.fault.Cause.{Cause}
-use Rattle.hd_faults.specs.declared.operand.Operand.TheVariants.{Object, Handle, Kind, Strength}
+use Rattle.hd_model.specs.declared.operand.Operand.TheVariants.{Object, Handle, Kind, Strength}
 use Rattle.hd_faults.proofs.CauseShapes.{IsRight, three_right, too_many}
 
 -- ---- `hnew`, whose kind says what it takes
@@ -150,7 +150,7 @@ HnewRight kind operands =
     is_none (cause_by (Some (new_handle kind)) operands) ≡ is_some (reading_of (codes "hnew" ∷ operands))
 
 hnew_reads : (operands : List (List ℕ)) → HnewRight (slice_index_or operands 1 []) operands
-unfolding reading_of two_words three_words three_on_objects three_on_handles four_words five_words make_of
+unfolding reading_of two_words three_words four_words five_words make_of
 hnew_reads [] = refl
 hnew_reads (a ∷ []) = refl
 hnew_reads (a ∷ b ∷ []) = hnew_two a b

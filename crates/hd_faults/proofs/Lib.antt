@@ -1,7 +1,6 @@
 pub mod PlacedWords
 pub mod CauseSteps
 pub mod CauseShapes
-pub mod NamedReadings
 pub mod HnewReadings
 pub mod CauseReadings
 pub mod TextParts

@@ -1,17 +1,13 @@
 -- Why the words of a line have no reading: a function of the words.
 use Rattle.std.specs.Prelude.{ℕ, ◌+◌, ◌-◌, nat_lt, Bool, ◌||◌, if◌then◌else◌, List, [], ◌∷◌, length, slice_index_or, codes, bytes_eq, Option, Some, None, is_some}
-use Rattle.std.specs.Option.{option_or}
-use Rattle.hd_model.specs.declared.limits.TheConstants.{CALLERS, REGISTERS, FIELDS, OLDEST}
-use Rattle.hd_model.specs.Grammar.{look_up, number_of, object_register_in, handle_register_in, make_of, trimmed_kind_of, strength_of, fin_of}
+use Rattle.hd_model.specs.declared.limits.TheConstants.{CALLERS}
+use Rattle.hd_model.specs.Grammar.{is_kind, least, look_up, number_of, object_register_in, handle_register_in, make_of, trimmed_kind_of, strength_of, fin_of}
+use Rattle.hd_model.specs.Rows.{Form, forms}
 use Rattle.hd_faults.specs.declared.fault.Cause.{Cause}
 use Rattle.hd_faults.specs.declared.fault.Cause.TheVariants as cause
-use Rattle.hd_faults.specs.declared.operand.Operand.{Operand}
-use Rattle.hd_faults.specs.declared.operand.Operand.TheVariants.{Object, Handle, Number, Kind, PlainKind, Strength, Fin}
+use Rattle.hd_model.specs.declared.operand.Operand.{Operand}
+use Rattle.hd_model.specs.declared.operand.Operand.TheVariants.{Object, Handle, Number, Kind, PlainKind, Strength, Fin}
 use Rattle.hd_faults.specs.Forms.{Takes}
-
--- a kind of handle
-abbrev pub is_kind : List ℕ → Bool
-is_kind word = is_some (make_of word) || bytes_eq word (codes "var") || bytes_eq word (codes "dep")
 
 -- a word is what an operand has to be
 abbrev pub fits : Operand → List ℕ → Bool
@@ -23,55 +19,17 @@ fits PlainKind word = is_some (trimmed_kind_of word)
 fits Strength word = is_some (strength_of word)
 fits Fin word = is_some (fin_of word)
 
--- each of these operands has to be there
-abbrev pub takes : List Operand → Option Takes
-takes operands = Some (record { least = length operands; operands = operands })
+-- what a command of the grammar takes
+abbrev pub takes : List Operand → Takes
+takes operands = record { least = least operands; operands = operands }
 
--- what commands on objects take
-unfoldable pub on_objects : List ℕ → Option Takes
-on_objects name = look_up name (
-    (codes "new", Some (record { least = 2; operands = Object ∷ Number FIELDS ∷ Fin ∷ [] }))
-    ∷ (codes "set", takes (Object ∷ Number 255 ∷ Object ∷ []))
-    ∷ (codes "get", takes (Object ∷ Object ∷ Number 255 ∷ []))
-    ∷ (codes "val", takes (Object ∷ Number 18446744073709551615 ∷ []))
-    ∷ (codes "read", takes (Object ∷ []))
-    ∷ (codes "copy", takes (Object ∷ Object ∷ []))
-    ∷ (codes "drop", takes (Object ∷ []))
-    ∷ (codes "sput", takes (Number (REGISTERS - 1) ∷ Object ∷ []))
-    ∷ (codes "sget", takes (Object ∷ Number (REGISTERS - 1) ∷ []))
-    ∷ [])
+-- each name but `hnew`, with what it takes
+abbrev pub taken_by : List Form → List (List ℕ × Option Takes)
+taken_by [] = []
+taken_by (form ∷ rest) = (form.word, Some (takes form.operands)) ∷ taken_by rest
 
--- what `caller`, those on finalization and collections, and those on the weak table take
-unfoldable pub on_collections : List ℕ → Option Takes
-on_collections name = look_up name (
-    (codes "caller", takes (Number (CALLERS - 1) ∷ []))
-    ∷ (codes "gen", takes (Object ∷ []))
-    ∷ (codes "suppress", takes (Object ∷ []))
-    ∷ (codes "reregister", takes (Object ∷ []))
-    ∷ (codes "final", takes (Object ∷ []))
-    ∷ (codes "collect", takes (Number OLDEST ∷ []))
-    ∷ (codes "gcroot", takes (Object ∷ []))
-    ∷ (codes "cadd", takes (Object ∷ Object ∷ []))
-    ∷ (codes "cfind", takes (Object ∷ Object ∷ []))
-    ∷ (codes "cremove", takes (Object ∷ []))
-    ∷ [])
-
--- what those on handles take, but for `hnew`
-unfoldable pub on_handles : List ℕ → Option Takes
-on_handles name = look_up name (
-    (codes "hget", takes (Object ∷ Handle ∷ []))
-    ∷ (codes "hset", takes (Handle ∷ Object ∷ []))
-    ∷ (codes "hsec", takes (Handle ∷ Object ∷ []))
-    ∷ (codes "hdep", takes (Object ∷ Handle ∷ []))
-    ∷ (codes "hvar", takes (Handle ∷ Strength ∷ []))
-    ∷ (codes "hfree", takes (Handle ∷ []))
-    ∷ (codes "hput", takes (Number (REGISTERS - 1) ∷ Handle ∷ []))
-    ∷ (codes "hpick", takes (Handle ∷ Number (REGISTERS - 1) ∷ []))
-    ∷ (codes "addr", takes (Handle ∷ []))
-    ∷ (codes "hup", takes (Handle ∷ []))
-    ∷ (codes "hdown", takes (Handle ∷ []))
-    ∷ (codes "trim", takes (PlainKind ∷ []))
-    ∷ [])
+abbrev pub rows : List (List ℕ × Option Takes)
+rows = (codes "caller", Some (takes (Number (CALLERS - 1) ∷ []))) ∷ taken_by forms
 
 -- what an `hnew` takes, by its kind. Where that is no kind, it is at fault, whether or not a word follows.
 abbrev pub new_handle : List ℕ → Takes
@@ -87,7 +45,7 @@ new_handle kind =
 unfoldable pub form_of : List ℕ → List ℕ → Option Takes
 form_of name kind =
     if bytes_eq name (codes "hnew") then Some (new_handle kind)
-    else option_or (on_objects name) (option_or (on_collections name) (on_handles name))
+    else look_up name rows
 
 -- the first operand that is at fault, where they are numbered from `index`
 abbrev pub operand_cause : ℕ → List Operand → List (List ℕ) → Option Cause

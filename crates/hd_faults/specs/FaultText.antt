@@ -5,8 +5,8 @@ use Rattle.hd_faults.specs.declared.explaining.Unread.TheVariants.{TooLarge, Fai
 use Rattle.hd_faults.specs.declared.fault.Cause.{Cause}
 use Rattle.hd_faults.specs.declared.fault.Cause.TheVariants as cause
 use Rattle.hd_faults.specs.declared.fault.LineFault.{LineFault}
-use Rattle.hd_faults.specs.declared.operand.Operand.{Operand}
-use Rattle.hd_faults.specs.declared.operand.Operand.TheVariants.{Object, Handle, Number, Kind, PlainKind, Strength, Fin}
+use Rattle.hd_model.specs.declared.operand.Operand.{Operand}
+use Rattle.hd_model.specs.declared.operand.Operand.TheVariants.{Object, Handle, Number, Kind, PlainKind, Strength, Fin}
 use Rattle.hd_faults.specs.Hints.{names_for, nearest}
 
 -- a digit of a number to the base 16

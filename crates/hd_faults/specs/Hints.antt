@@ -3,8 +3,8 @@ use Rattle.std.specs.Prelude.{ℕ, ◌+◌, ◌/◌, nat_lt, nat_eq, if◌then�
 use Rattle.strsim.specs.Edits.{levenshtein_row}
 use Rattle.hd_faults.specs.declared.fault.Cause.{Cause}
 use Rattle.hd_faults.specs.declared.fault.Cause.TheVariants as cause
-use Rattle.hd_faults.specs.declared.operand.Operand.{Operand}
-use Rattle.hd_faults.specs.declared.operand.Operand.TheVariants.{Object, Handle, Number, Kind, PlainKind, Strength, Fin}
+use Rattle.hd_model.specs.declared.operand.Operand.{Operand}
+use Rattle.hd_model.specs.declared.operand.Operand.TheVariants.{Object, Handle, Number, Kind, PlainKind, Strength, Fin}
 
 -- how many bytes are put in, taken out or replaced to make a name of a word, at least
 abbrev pub edits : List ℕ → List ℕ → ℕ

@@ -6,8 +6,7 @@ ghost use Rattle.hd_faults.specs.declared.fault.Cause.TheVariants as causes;
 
 use crate::fault::{Cause, LineFault};
 use crate::hints::{names_for, nearest};
-use crate::operand::Operand;
-use hd_model::Memory;
+use hd_model::{Memory, Operand};
 use hd_print::Line;
 use std::alloc::{AllocError, Global};
 

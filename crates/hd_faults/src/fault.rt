@@ -8,8 +8,9 @@ ghost use Rattle.hd_faults.specs.declared.fault.Cause.TheVariants as causes;
 ghost use Rattle.hd_faults.specs.Placed.{bytes_of, words_from};
 
 use crate::forms::{Form, form_of};
-use crate::operand::{Operand, fits};
+use crate::operand::fits;
 use crate::words::{Found, content, count_words, next_word, second_word};
+use hd_model::Operand;
 use hd_model::limits::MOST_BYTES;
 
 /// Why a line is at fault.

@@ -1,10 +1,13 @@
 // What each command takes.
-ghost use Rattle.std.specs.Prelude.{◌≡◌, option_map};
+ghost use Rattle.std.specs.Prelude.{◌≡◌, map, option_map};
+ghost use Rattle.hd_model.specs.Grammar.{look_up};
 ghost use Rattle.hd_faults.specs.Causes as causes;
-ghost use Rattle.hd_faults.specs.FormsSeen.{seen};
+ghost use Rattle.hd_faults.specs.FormsSeen.{row_seen, seen};
 
-use crate::operand::{Operand, is_made_kind, spells};
+use hd_model::Operand;
+use hd_model::Operand::{Fin, Handle, Kind, Number, Object, PlainKind, Strength};
 use hd_model::limits::{CALLERS, FIELDS, OLDEST, REGISTERS};
+use hd_script::words::{make, spells};
 
 // The largest numbers that operands may be.
 const LAST_CALLER: u64 = CALLERS as u64 - 1;
@@ -24,6 +27,43 @@ pub(crate) struct Form {
     pub(crate) operands: &'static [Operand],
 }
 
+// A name with what it takes: at least so many operands, and at most these.
+type Row = (&'static str, usize, &'static [Operand]);
+
+const ROWS: [Row; 31] = [
+    ("caller", 1, &[Number(LAST_CALLER)]),
+    ("new", 2, &[Object, Number(MOST_FIELDS), Fin]),
+    ("set", 3, &[Object, Number(LAST_FIELD), Object]),
+    ("get", 3, &[Object, Object, Number(LAST_FIELD)]),
+    ("val", 2, &[Object, Number(u64::MAX)]),
+    ("read", 1, &[Object]),
+    ("copy", 2, &[Object, Object]),
+    ("drop", 1, &[Object]),
+    ("sput", 2, &[Number(LAST_INDEX), Object]),
+    ("sget", 2, &[Object, Number(LAST_INDEX)]),
+    ("gen", 1, &[Object]),
+    ("suppress", 1, &[Object]),
+    ("reregister", 1, &[Object]),
+    ("final", 1, &[Object]),
+    ("collect", 1, &[Number(LAST_GENERATION)]),
+    ("gcroot", 1, &[Object]),
+    ("cadd", 2, &[Object, Object]),
+    ("cfind", 2, &[Object, Object]),
+    ("cremove", 1, &[Object]),
+    ("hget", 2, &[Object, Handle]),
+    ("hset", 2, &[Handle, Object]),
+    ("hsec", 2, &[Handle, Object]),
+    ("hdep", 2, &[Object, Handle]),
+    ("hvar", 2, &[Handle, Strength]),
+    ("hfree", 1, &[Handle]),
+    ("hput", 2, &[Number(LAST_INDEX), Handle]),
+    ("hpick", 2, &[Handle, Number(LAST_INDEX)]),
+    ("addr", 1, &[Handle]),
+    ("hup", 1, &[Handle]),
+    ("hdown", 1, &[Handle]),
+    ("trim", 1, &[PlainKind]),
+];
+
 /// What the command with a name takes, or `caller`. What an `hnew` takes goes by its kind.
 #[tactic(auto, unfolding(crate::specs::Causes::form_of))]
 pub(crate) fn form_of(name: &[u8], kind: &[u8]) -> Option<Form>
@@ -32,123 +72,22 @@ pub(crate) fn form_of(name: &[u8], kind: &[u8]) -> Option<Form>
     if spells(name, "hnew") {
         return Some(new_handle(kind));
     }
-    if let Some(form) = on_objects(name) {
-        return Some(form);
-    }
-    if let Some(form) = on_objects_and_collections(name) {
-        return Some(form);
-    }
-    on_handles(name)
+    find(name, &ROWS)
 }
 
-// What a command takes of which each operand has to be there.
-fn takes(operands: &'static [Operand]) -> Option<Form>
-    ensures { option_map seen result ≡ causes.takes operands.now }
+// What the first row of a name has.
+fn find(name: &[u8], rows: &[Row]) -> Option<Form>
+    ensures { option_map seen result ≡ look_up name.now (map row_seen rows.now) }
 {
-    Some(Form {
-        least: operands.len(),
-        operands,
-    })
-}
-
-#[tactic(auto, unfolding(crate::specs::Causes::on_objects))]
-fn on_objects(name: &[u8]) -> Option<Form>
-    ensures { option_map seen result ≡ causes.on_objects name.now }
-{
-    if spells(name, "new") {
-        Some(Form {
-            least: 2,
-            operands: &[Operand::Object, Operand::Number(MOST_FIELDS), Operand::Fin],
-        })
-    } else if spells(name, "set") {
-        takes(&[
-            Operand::Object,
-            Operand::Number(LAST_FIELD),
-            Operand::Object,
-        ])
-    } else if spells(name, "get") {
-        takes(&[
-            Operand::Object,
-            Operand::Object,
-            Operand::Number(LAST_FIELD),
-        ])
-    } else if spells(name, "val") {
-        takes(&[Operand::Object, Operand::Number(u64::MAX)])
-    } else if spells(name, "read") {
-        takes(&[Operand::Object])
-    } else if spells(name, "copy") {
-        takes(&[Operand::Object, Operand::Object])
-    } else if spells(name, "drop") {
-        takes(&[Operand::Object])
-    } else if spells(name, "sput") {
-        takes(&[Operand::Number(LAST_INDEX), Operand::Object])
-    } else if spells(name, "sget") {
-        takes(&[Operand::Object, Operand::Number(LAST_INDEX)])
-    } else {
-        None
+    'rows: for row in rows {
+        if spells(name, row.0) {
+            return Some(Form {
+                least: row.1,
+                operands: row.2,
+            });
+        }
     }
-}
-
-#[tactic(auto, unfolding(crate::specs::Causes::on_collections))]
-fn on_objects_and_collections(name: &[u8]) -> Option<Form>
-    ensures { option_map seen result ≡ causes.on_collections name.now }
-{
-    if spells(name, "caller") {
-        takes(&[Operand::Number(LAST_CALLER)])
-    } else if spells(name, "gen") {
-        takes(&[Operand::Object])
-    } else if spells(name, "suppress") {
-        takes(&[Operand::Object])
-    } else if spells(name, "reregister") {
-        takes(&[Operand::Object])
-    } else if spells(name, "final") {
-        takes(&[Operand::Object])
-    } else if spells(name, "collect") {
-        takes(&[Operand::Number(LAST_GENERATION)])
-    } else if spells(name, "gcroot") {
-        takes(&[Operand::Object])
-    } else if spells(name, "cadd") {
-        takes(&[Operand::Object, Operand::Object])
-    } else if spells(name, "cfind") {
-        takes(&[Operand::Object, Operand::Object])
-    } else if spells(name, "cremove") {
-        takes(&[Operand::Object])
-    } else {
-        None
-    }
-}
-
-#[tactic(auto, unfolding(crate::specs::Causes::on_handles))]
-fn on_handles(name: &[u8]) -> Option<Form>
-    ensures { option_map seen result ≡ causes.on_handles name.now }
-{
-    if spells(name, "hget") {
-        takes(&[Operand::Object, Operand::Handle])
-    } else if spells(name, "hset") {
-        takes(&[Operand::Handle, Operand::Object])
-    } else if spells(name, "hsec") {
-        takes(&[Operand::Handle, Operand::Object])
-    } else if spells(name, "hdep") {
-        takes(&[Operand::Object, Operand::Handle])
-    } else if spells(name, "hvar") {
-        takes(&[Operand::Handle, Operand::Strength])
-    } else if spells(name, "hfree") {
-        takes(&[Operand::Handle])
-    } else if spells(name, "hput") {
-        takes(&[Operand::Number(LAST_INDEX), Operand::Handle])
-    } else if spells(name, "hpick") {
-        takes(&[Operand::Handle, Operand::Number(LAST_INDEX)])
-    } else if spells(name, "addr") {
-        takes(&[Operand::Handle])
-    } else if spells(name, "hup") {
-        takes(&[Operand::Handle])
-    } else if spells(name, "hdown") {
-        takes(&[Operand::Handle])
-    } else if spells(name, "trim") {
-        takes(&[Operand::PlainKind])
-    } else {
-        None
-    }
+    None
 }
 
 // What an `hnew` takes. Where its kind is none, that is what is at fault.
@@ -158,37 +97,22 @@ fn new_handle(kind: &[u8]) -> Form
     if spells(kind, "var") {
         Form {
             least: 4,
-            operands: &[
-                Operand::Handle,
-                Operand::Kind,
-                Operand::Object,
-                Operand::Strength,
-            ],
+            operands: &[Handle, Kind, Object, Strength],
         }
     } else if spells(kind, "dep") {
         Form {
             least: 4,
-            operands: &[
-                Operand::Handle,
-                Operand::Kind,
-                Operand::Object,
-                Operand::Object,
-            ],
+            operands: &[Handle, Kind, Object, Object],
         }
-    } else if is_made_kind(kind) {
+    } else if make(kind).is_some() {
         Form {
             least: 3,
-            operands: &[Operand::Handle, Operand::Kind, Operand::Object],
+            operands: &[Handle, Kind, Object],
         }
     } else {
         Form {
             least: 3,
-            operands: &[
-                Operand::Handle,
-                Operand::Kind,
-                Operand::Object,
-                Operand::Object,
-            ],
+            operands: &[Handle, Kind, Object, Object],
         }
     }
 }

@@ -3,7 +3,7 @@ ghost use Rattle.std.specs.Prelude.{◌≡◌, ◌+◌, ◌≤◌, map, option_m
 ghost use Rattle.hd_faults.specs.Hints as hints;
 
 use crate::fault::Cause;
-use crate::operand::Operand;
+use hd_model::Operand;
 use std::alloc::{AllocError, Global};
 use strsim::generic_levenshtein;
 

@@ -13,6 +13,6 @@ mod words;
 
 pub use explaining::{Unread, push_fault, push_unread};
 pub use fault::{Cause, LineFault, fault_of_line};
+pub use hd_model::Operand;
 pub use laws::{causes_decide_readings, words_have_columns};
-pub use operand::Operand;
 pub use script::{find_fault, first_line_fault};

@@ -23,7 +23,7 @@ pub use Rattle.hd_gate.specs.Idle.{IsIdle}
 pub use Rattle.hd_gate.specs.Opening.{AreNew, HasEnded, IsFirst, IsNew}
 pub use Rattle.hd_gate.specs.Shared.{AreAll, Begin, CallerView, Found, HadRoom, HasDone, HasParts, LookedFor, OwnMiss, OwnSteps, ReleasesOne, SearchView, SlotCalls, looks_with_gate}
 pub use Rattle.hd_slots.specs.Tied.{IsTied, is_live}
-pub use Rattle.hd_gate.specs.Turns.{Looked, LooksWhere, ReleasesFreed, Stayed, Stepped, Turned, WantsMemory, caller_view_of, freed_in, search_of, with_grown, without_gathered}
+pub use Rattle.hd_gate.specs.Turns.{Looked, LooksWhere, ReleasesFreed, Stayed, Turned, caller_view_of, freed_in, search_of, with_grown, without_gathered}
 pub use Rattle.hd_slots.specs.declared.change.Change.{Change}
 pub use Rattle.hd_slots.specs.declared.change.Change.TheVariants.{Adds, Frees, GivesBack, Keeps, Takes}
 pub use Rattle.hd_model.proofs.ReadAfterWrite.{get_beside, get_inserted, get_left, get_removed}
@@ -47,5 +47,6 @@ pub use Rattle.hd_pool.specs.Pool.{FreeSlots}
 pub use Rattle.hd_store.specs.Growth.{kind_in_use}
 pub use Rattle.hd_store.specs.Offers.{FitsHeap, GrowsFor, GrowsUnoffered, IsOffer, MayOffer, TakesFor, asks_of, handle_slot, needs_new, needs_slot, no_room}
 pub use Rattle.hd_world.specs.World.{MayApply, WorldView}
+pub use Rattle.hd_world.specs.Stepped.{Stepped, WantsMemory}
 pub use Rattle.hd_world.specs.contracts.world.WorldHeld.TheImpl.{ghosts}
 pub use Rattle.hd_model.specs.declared.limits.TheConstants.{BLOCKS, ROWS}

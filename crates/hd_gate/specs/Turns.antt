@@ -1,10 +1,10 @@
 -- What a turn does: what the world under the gate is after it, and what its seat is.
 use Rattle.std.specs.Prelude.{◌≡◌, ◌↔◌, ℕ, ◌+◌, ◌≤◌, Bool, true, false, Option, Some, None, option_map, IsTrue, IsNone, IfSome}
-use Rattle.hd_model.specs.{declared.data.Entry.Entry, declared.data.Grown.Grown, declared.data.Kind.Kind, declared.data.Kind.TheVariants.Dependent, declared.held.Held.Ghosts, declared.data.Reply.Reply, declared.data.Slot.Slot, declared.limits.TheConstants.BLOCKS, declared.command.Cmd.Cmd, Kinds.kind_number, Run.Run, Valid.IsValid, Valid.takes_memory}
+use Rattle.hd_model.specs.{declared.data.Grown.Grown, declared.data.Kind.Kind, declared.data.Kind.TheVariants.Dependent, declared.held.Held.Ghosts, declared.data.Reply.Reply, declared.data.Slot.Slot, declared.limits.TheConstants.BLOCKS, declared.command.Cmd.Cmd, Kinds.kind_number, Valid.IsValid, Valid.takes_memory}
 use Rattle.hd_model.specs.declared.data.Grown.TheVariants.{Zero, One, Two, Back}
 use Rattle.hd_model.specs.State.{State, use_of, block_of}
-use Rattle.hd_store.specs.{Offers.RanOut, Growth.kind_in_use}
-use Rattle.hd_world.specs.{Applied.Applied, StateHeap.IsOfJournal, World.WorldView}
+use Rattle.hd_store.specs.Growth.{kind_in_use}
+use Rattle.hd_world.specs.World.{WorldView}
 use Rattle.hd_custody.specs.{declared.view.View.View, Misses.WholeMiss}
 use Rattle.hd_custody.specs.Views.{Named, Known, numbers_of, granted, closed, Fresh, KindIs}
 use Rattle.hd_custody.specs.Calls.{slot_number, Allocates, Releases}
@@ -57,19 +57,6 @@ pub record Stayed (old new : Known WorldView) (caller : ℕ) (command : Cmd) : T
       ≡ having_seen new.view.seen (caller_view_of old caller old.view.room)
   pub memory : IsTrue (takes_memory command)
   pub fits : HadRoom (caller_view_of old caller old.view.room) (caller_view_of new caller new.view.room) command
-
--- a command of a caller took one step, from the world u, whose journal is a run to its state, to the world w,
--- which is that of its journal
-pub record Stepped (u w : WorldView) (caller : ℕ) (command : Cmd) (offer : Option Slot) (e : Entry) : Type 0
-  where
-    pub applied : Applied u caller command offer w e
-    pub run : Run u.numbers u.journal u.state
-    pub sound : IsOfJournal w
-
--- it ran out of memory, and the world is as it was
-pub record WantsMemory (u w : WorldView) (command : Cmd) : Type 0 where
-  pub out : RanOut u.numbers u.state command u w
-  pub run : Run u.numbers u.journal u.state
 
 -- a slot of the kind was looked for: the one found is free in the world under the gate, where the seat has
 -- that, and none was found only after a whole miss

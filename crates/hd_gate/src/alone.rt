@@ -4,7 +4,6 @@ ghost use Rattle.hd_store.specs.Offers.{FitsHeap};
 ghost use Rattle.hd_gate.specs.Alone.{HasCalled, FindsFullExactly, TrimsExactly};
 
 use crate::change::change_in;
-use crate::step::step;
 use hd_model::{Cmd, Memory, Reply};
 use hd_pool::Pool;
 use hd_slots::{note, offer};
@@ -63,7 +62,7 @@ impl Alone {
     {
         let change = change_in(&self.world, caller, cmd);
         let offered = offer(&mut self.pool, change);
-        let entry = step(&mut self.world, caller, cmd, offered)?;
+        let entry = self.world.apply_uncounted(caller, cmd, offered)?;
         note(&mut self.pool, change, &entry);
         Ok(entry.reply)
     }

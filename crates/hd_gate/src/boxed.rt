@@ -1,10 +1,8 @@
 ghost use Rattle.std.specs.Prelude.{◌≡◌, ◌<◌, IfOk, MatchResult};
 ghost use Rattle.hd_model.specs.Valid.{IsValid};
-ghost use Rattle.hd_gate.specs.Turns.{Stepped, WantsMemory};
 ghost use Rattle.hd_store.specs.Offers.{needs_slot};
-ghost use Rattle.hd_world.specs.World.{MayApply};
+ghost use Rattle.hd_world.specs.{Stepped.Stepped, Stepped.WantsMemory, World.MayApply};
 
-use crate::step::step;
 use hd_model::{Cmd, Entry, Held, Memory, Slot};
 use hd_world::World;
 use std::alloc::Global;
@@ -62,7 +60,7 @@ impl Boxed {
         ensures { MatchResult result (Stepped self.old self.new caller cmd offer)
             (λ _. WantsMemory self.old self.new cmd) }
     {
-        step(&mut self.inside, caller, cmd, offer)
+        self.inside.apply_uncounted(caller, cmd, offer)
     }
 
     pub(crate) fn needs_slot(&self, caller: u32, cmd: Cmd) -> bool

@@ -9,7 +9,6 @@ mod change;
 mod laws;
 mod opening;
 mod shared;
-mod step;
 mod turns;
 
 pub use alone::Alone;

@@ -8,9 +8,8 @@ use Rattle.hd_model.specs.Leads.{IsClosure, Leads}
 use Rattle.hd_model.proofs.EdgeChains.{leads_inside}
 use Rattle.hd_seen.specs.declared.SeenObject.{SeenObject}
 use Rattle.hd_seen.specs.declared.Snapshot.{Snapshot}
-use Rattle.hd_graph.specs.declared.links.Links.{Links}
 use Rattle.hd_graph.specs.Kept.{AreAdded, AreKept, AreLinked, IsEdge, IsReached, IsRegistered, ids_of, is_linked, is_root, registered_of}
-use Rattle.hd_graph.specs.Links.{IsLink, is_marked}
+use Rattle.hd_graph.specs.Follow.{is_marked}
 use Rattle.hd_graph.specs.Marks.{AreMarks}
 
 leads_as : (A B : ℕ → ℕ → Type 0) → ((x y : ℕ) → A x y → B x y) → {x y : ℕ} → Leads A x y → Leads B x y
@@ -24,24 +23,24 @@ inside marks i so =
     ⊎_elim (λ low. low) (λ past. absurd (true≢false (sym so ∙ get_or_past marks i false past)))
     (cases_lt i (length marks))
 
-module _ (s : Snapshot) (l : Links) (roots reach added kept : List Bool)
-    (linked : AreLinked (ids_of s) (is_linked s) l) (count : length roots ≡ length (ids_of s))
+module _ (s : Snapshot) (Edge : ℕ → ℕ → Type 0) (roots reach added kept : List Bool)
+    (linked : AreLinked (ids_of s) (is_linked s) Edge) (count : length roots ≡ length (ids_of s))
     (objects : length (ids_of s) ≡ length s.objects.items)
-    (are : AreMarks (ids_of s) (is_root s) roots) (reached : IsClosure (IsLink l) (is_marked roots) (is_marked
+    (are : AreMarks (ids_of s) (is_root s) roots) (reached : IsClosure Edge (is_marked roots) (is_marked
     reach))
     (same : length reach ≡ length roots) (adds : AreAdded s.objects.items reach added)
-    (closure : IsClosure (IsLink l) (is_marked added) (is_marked kept)) (long : length kept ≡ length added)
+    (closure : IsClosure Edge (is_marked added) (is_marked kept)) (long : length kept ≡ length added)
   where
-    to_edges : {x y : ℕ} → Leads (IsLink l) x y → Leads (IsEdge s) x y
-    to_edges chain = leads_as (IsLink l) (IsEdge s) linked.only chain
+    to_edges : {x y : ℕ} → Leads Edge x y → Leads (IsEdge s) x y
+    to_edges chain = leads_as Edge (IsEdge s) linked.only chain
 
-    to_links : {x y : ℕ} → Leads (IsEdge s) x y → Leads (IsLink l) x y
+    to_links : {x y : ℕ} → Leads (IsEdge s) x y → Leads Edge x y
     to_links chain =
-        leads_as (IsEdge s) (IsLink l) (λ x y (e : IsEdge s x y). linked.each x y e.0 e.1 e.2) chain
+        leads_as (IsEdge s) Edge (λ x y (e : IsEdge s x y). linked.each x y e.0 e.1 e.2) chain
 
     reached_marked : (i : ℕ) → IsReached s i → is_marked reach i ≡ true
     reached_marked i h =
-        leads_inside (IsLink l) (is_marked reach) reached.closed
+        leads_inside Edge (is_marked reach) reached.closed
         (reached.keeps h.0 (are.each h.0 h.1.0.0 ∙ h.1.0.1)) (to_links h.1.1)
 
     marked_reached : (i : ℕ) → is_marked reach i ≡ true → IsReached s i
@@ -90,7 +89,7 @@ module _ (s : Snapshot) (l : Links) (roots reach added kept : List Bool)
       count = omega (arith, long, adds.count, same, count, objects);
       each = λ i low. (
         λ so. let o = closure.only i so in (o.0, (start o.0 o.1.0, to_edges o.1.1)),
-        λ h. leads_inside (IsLink l) (is_marked kept) closure.closed (closure.keeps h.0 (started h.0 h.1.0))
+        λ h. leads_inside Edge (is_marked kept) closure.closed (closure.keeps h.0 (started h.0 h.1.0))
             (to_links h.1.1),
       );
     }

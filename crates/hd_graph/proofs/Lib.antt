@@ -1,6 +1,5 @@
 pub mod TextRows
-pub mod Chains
-pub mod Search
+pub mod FollowSteps
 pub mod MarkSteps
 pub mod LinkSteps
 pub mod GraphTexts

@@ -1,5 +1,5 @@
 -- What a collection of all generations would keep of what is seen. A node is the index of an object.
-use Rattle.std.specs.Prelude.{◌≡◌, ℕ, ◌<◌, ◌||◌, ◌&&◌, ◌↔◌, ◌⊎◌, Bool, true, false, List, length, map, slice_index, slice_index_or, Option, Some}
+use Rattle.std.specs.Prelude.{◌≡◌, ℕ, ◌<◌, ◌||◌, ◌&&◌, ◌↔◌, ◌⊎◌, Bool, true, false, List, length, map, slice_index, slice_index_or, Option, Some, Contains}
 use Rattle.std.specs.List.{list_any}
 use Rattle.hd_model.specs.declared.data.Id.{Id}
 use Rattle.hd_model.specs.Leads.{Leads}
@@ -8,8 +8,8 @@ use Rattle.hd_seen.specs.declared.SeenEntry.{SeenEntry}
 use Rattle.hd_seen.specs.declared.SeenHandle.{SeenHandle}
 use Rattle.hd_seen.specs.declared.SeenObject.{SeenObject}
 use Rattle.hd_seen.specs.declared.Snapshot.{Snapshot}
-use Rattle.hd_graph.specs.declared.links.Links.{Links}
-use Rattle.hd_graph.specs.Links.{AreChained, IsLink}
+use Rattle.hd_walk.specs.Rows.{AreRows, LeadsTo}
+use Rattle.hd_walk.specs.declared.rows.Rows.{Rows}
 use Rattle.hd_graph.specs.Marks.{extra_again, is_held_by, is_of, is_queued}
 
 -- the numbers of the identities of objects
@@ -39,16 +39,25 @@ is_linked s x y =
     || list_any (is_attached_in x y) s.entries.items
 
 -- the edges are those between the indices of numbers that a test relates
-pub record AreLinked (ids : List ℕ) (test : ℕ → ℕ → Bool) (l : Links) : Type 0 where
-  pub only : (i j : ℕ) → IsLink l i j → (i < length ids) × (j < length ids)
+pub record AreLinked (ids : List ℕ) (test : ℕ → ℕ → Bool) (Edge : ℕ → ℕ → Type 0) : Type 0 where
+  pub only : (i j : ℕ) → Edge i j → (i < length ids) × (j < length ids)
       × (test (slice_index ids i) (slice_index ids j) ≡ true)
   pub each : (i j : ℕ) → i < length ids → j < length ids
-      → test (slice_index ids i) (slice_index ids j) ≡ true → IsLink l i j
+      → test (slice_index ids i) (slice_index ids j) ≡ true → Edge i j
 
--- edges are added where a test relates numbers
-pub record LinksBy (ids : List ℕ) (more : ℕ → ℕ → Bool) (l m : Links) : Type 0 where
-  pub chained : AreChained (length ids) m
-  pub linked : (test : ℕ → ℕ → Bool) → AreLinked ids test l → AreLinked ids (λ x y. test x y || more x y) m
+-- rows of nodes have them
+pub record HasLinks (ids : List ℕ) (test : ℕ → ℕ → Bool) (r : Rows) : Type 0 where
+  pub count : r.nodes ≡ length ids
+  pub rows : AreRows r.places.items r.targets.items r.nodes
+  pub linked : AreLinked ids test (LeadsTo r.places.items r.targets.items)
+
+-- pairs as edges, and pairs that are added where a test relates numbers
+abbrev pub IsAmong : List (ℕ × ℕ) → ℕ → ℕ → Type 0
+IsAmong pairs i j = Contains pairs (i, j)
+
+pub record LinksBy (ids : List ℕ) (more : ℕ → ℕ → Bool) (old new : List (ℕ × ℕ)) : Type 0 where
+  pub linked : (test : ℕ → ℕ → Bool) → AreLinked ids test (IsAmong old)
+      → AreLinked ids (λ x y. test x y || more x y) (IsAmong new)
 
 -- ---- roots
 

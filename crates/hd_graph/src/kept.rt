@@ -2,42 +2,56 @@
 ghost use Rattle.std.specs.Prelude.{◌≡◌, ◌<◌, ◌||◌, ℕ, Bool, Option, Some, false, length};
 ghost use Rattle.std.specs.Prelude.{slice_set, IfOk};
 ghost use Rattle.std.specs.List.{list_any};
-ghost use Rattle.hd_graph.specs.Kept.{AreAdded, AreKept, AreLinked, LinksBy, ids_of};
+ghost use Rattle.hd_graph.specs.Kept.{AreAdded, AreKept, HasLinks, LinksBy, ids_of};
 ghost use Rattle.hd_graph.specs.Kept.{is_attached_by};
 ghost use Rattle.hd_graph.specs.Kept.{is_attached_in, is_fields_pair, is_in_row, is_linked};
 ghost use Rattle.hd_graph.specs.Kept.{is_pair, is_root};
 ghost use Rattle.hd_model.specs.declared.data.Id.{Id};
-ghost use Rattle.hd_graph.specs.Links.{AreChained, is_marked};
+ghost use Rattle.hd_graph.specs.Follow.{is_marked};
 ghost use Rattle.hd_graph.specs.Marks.{AreMarks, IsNodeOf, Rises, is_pinned_by};
 
-use crate::links::{Links, add_link, follow, open_links};
+use crate::follow::follow;
 use crate::marks::{index_of, mark_all, mark_held, mark_pinned, mark_queued, secondary};
 use hd_model::Id;
 use hd_seen::{PLACES, SeenEntry, SeenHandle, SeenObject, Snapshot};
+use hd_walk::{Rows, rows_of};
 use std::alloc::{AllocError, Global};
 
 // Adds an edge from a node, where the other end is there.
-fn link_to(ids: &[u64], links: &mut Links, source: usize, to: Option<Id>) -> Result<(), AllocError>
+fn link_to(
+    ids: &[u64],
+    pairs: &mut Vec<(u64, u64)>,
+    source: usize,
+    to: Option<Id>,
+) -> Result<(), AllocError>
     requires rise { Rises ids.now }
-    requires chained { AreChained (length ids.now) links.old }
     requires source { source < length ids.now }
     ensures { (from : Option Id) → IsNodeOf ids.now from (Some source)
-        → IfOk result (λ _. LinksBy ids.now (λ x y. is_pair x y from to) links.old links.new) }
+        → IfOk result (λ _. LinksBy ids.now (λ x y. is_pair x y from to)
+        pairs.old.items pairs.new.items) }
 {
     match index_of(ids, to) {
-        Some(target) => add_link(links, source, target),
+        Some(target) => {
+            pairs.push((source as u64, target as u64))?;
+            Ok(())
+        }
         None => Ok(()),
     }
 }
 
 // Adds an edge where both ends are there.
-fn link(ids: &[u64], links: &mut Links, from: Option<Id>, to: Option<Id>) -> Result<(), AllocError>
-    requires rise { Rises ids.now }
-    requires chained { AreChained (length ids.now) links.old }
-    ensures { IfOk result (λ _. LinksBy ids.now (λ x y. is_pair x y from to) links.old links.new) }
+fn link(
+    ids: &[u64],
+    pairs: &mut Vec<(u64, u64)>,
+    from: Option<Id>,
+    to: Option<Id>,
+) -> Result<(), AllocError>
+    requires { Rises ids.now }
+    ensures { IfOk result (λ _. LinksBy ids.now (λ x y. is_pair x y from to)
+        pairs.old.items pairs.new.items) }
 {
     match index_of(ids, from) {
-        Some(source) => link_to(ids, links, source, to),
+        Some(source) => link_to(ids, pairs, source, to),
         None => Ok(()),
     }
 }
@@ -45,102 +59,118 @@ fn link(ids: &[u64], links: &mut Links, from: Option<Id>, to: Option<Id>) -> Res
 // Adds an edge for each of some fields.
 fn link_fields(
     ids: &[u64],
-    links: &mut Links,
+    pairs: &mut Vec<(u64, u64)>,
     from: Id,
     fields: &[Option<Id>],
 ) -> Result<(), AllocError>
-    requires rise { Rises ids.now }
-    requires chained { AreChained (length ids.now) links.old }
+    requires { Rises ids.now }
     ensures { IfOk result (λ _. LinksBy ids.now
-        (λ x y. list_any (is_pair x y (Some from)) fields.now) links.old links.new) }
+        (λ x y. list_any (is_pair x y (Some from)) fields.now)
+        pairs.old.items pairs.new.items) }
 {
     for field in fields {
-        link(ids, links, Some(from), *field)?;
+        link(ids, pairs, Some(from), *field)?;
     }
     Ok(())
 }
 
 // Adds an edge for each field of an object.
-fn link_object(ids: &[u64], links: &mut Links, object: &SeenObject) -> Result<(), AllocError>
-    requires rise { Rises ids.now }
-    requires chained { AreChained (length ids.now) links.old }
-    ensures { IfOk result (λ _. LinksBy ids.now (λ x y. is_fields_pair x y object.now) links.old
-        links.new) }
+fn link_object(
+    ids: &[u64],
+    pairs: &mut Vec<(u64, u64)>,
+    object: &SeenObject,
+) -> Result<(), AllocError>
+    requires { Rises ids.now }
+    ensures { IfOk result (λ _. LinksBy ids.now (λ x y. is_fields_pair x y object.now)
+        pairs.old.items pairs.new.items) }
 {
-    link_fields(ids, links, object.id, &object.fields)
+    link_fields(ids, pairs, object.id, &object.fields)
 }
 
 // Adds an edge for each field.
-fn link_objects(ids: &[u64], links: &mut Links, objects: &[SeenObject]) -> Result<(), AllocError>
-    requires rise { Rises ids.now }
-    requires chained { AreChained (length ids.now) links.old }
+fn link_objects(
+    ids: &[u64],
+    pairs: &mut Vec<(u64, u64)>,
+    objects: &[SeenObject],
+) -> Result<(), AllocError>
+    requires { Rises ids.now }
     ensures { IfOk result (λ _. LinksBy ids.now
-        (λ x y. list_any (is_fields_pair x y) objects.now) links.old links.new) }
+        (λ x y. list_any (is_fields_pair x y) objects.now)
+        pairs.old.items pairs.new.items) }
 {
     for object in objects {
-        link_object(ids, links, object)?;
+        link_object(ids, pairs, object)?;
     }
     Ok(())
 }
 
 // Adds an edge where a handle attaches something.
-fn link_handle(ids: &[u64], links: &mut Links, handle: &SeenHandle) -> Result<(), AllocError>
-    requires rise { Rises ids.now }
-    requires chained { AreChained (length ids.now) links.old }
-    ensures { IfOk result (λ _. LinksBy ids.now (λ x y. is_attached_by x y handle.now) links.old
-        links.new) }
+fn link_handle(
+    ids: &[u64],
+    pairs: &mut Vec<(u64, u64)>,
+    handle: &SeenHandle,
+) -> Result<(), AllocError>
+    requires { Rises ids.now }
+    ensures { IfOk result (λ _. LinksBy ids.now (λ x y. is_attached_by x y handle.now)
+        pairs.old.items pairs.new.items) }
 {
     let attached = secondary(handle.extra);
-    link(ids, links, handle.target, attached)
+    link(ids, pairs, handle.target, attached)
 }
 
 // Adds an edge for each handle that attaches something.
-fn link_handles(ids: &[u64], links: &mut Links, handles: &[SeenHandle]) -> Result<(), AllocError>
-    requires rise { Rises ids.now }
-    requires chained { AreChained (length ids.now) links.old }
+fn link_handles(
+    ids: &[u64],
+    pairs: &mut Vec<(u64, u64)>,
+    handles: &[SeenHandle],
+) -> Result<(), AllocError>
+    requires { Rises ids.now }
     ensures { IfOk result (λ _. LinksBy ids.now
-        (λ x y. list_any (is_attached_by x y) handles.now) links.old links.new) }
+        (λ x y. list_any (is_attached_by x y) handles.now)
+        pairs.old.items pairs.new.items) }
 {
     for handle in handles {
-        link_handle(ids, links, handle)?;
+        link_handle(ids, pairs, handle)?;
     }
     Ok(())
 }
 
 // Adds an edge for an entry of the weak table.
-fn link_entry(ids: &[u64], links: &mut Links, entry: &SeenEntry) -> Result<(), AllocError>
-    requires rise { Rises ids.now }
-    requires chained { AreChained (length ids.now) links.old }
-    ensures { IfOk result (λ _. LinksBy ids.now (λ x y. is_attached_in x y entry.now) links.old
-        links.new) }
+fn link_entry(ids: &[u64], pairs: &mut Vec<(u64, u64)>, entry: &SeenEntry) -> Result<(), AllocError>
+    requires { Rises ids.now }
+    ensures { IfOk result (λ _. LinksBy ids.now (λ x y. is_attached_in x y entry.now)
+        pairs.old.items pairs.new.items) }
 {
-    link(ids, links, entry.key, entry.value)
+    link(ids, pairs, entry.key, entry.value)
 }
 
 // Adds an edge for each entry of the weak table.
-fn link_entries(ids: &[u64], links: &mut Links, entries: &[SeenEntry]) -> Result<(), AllocError>
-    requires rise { Rises ids.now }
-    requires chained { AreChained (length ids.now) links.old }
+fn link_entries(
+    ids: &[u64],
+    pairs: &mut Vec<(u64, u64)>,
+    entries: &[SeenEntry],
+) -> Result<(), AllocError>
+    requires { Rises ids.now }
     ensures { IfOk result (λ _. LinksBy ids.now
-        (λ x y. list_any (is_attached_in x y) entries.now) links.old links.new) }
+        (λ x y. list_any (is_attached_in x y) entries.now)
+        pairs.old.items pairs.new.items) }
 {
     for entry in entries {
-        link_entry(ids, links, entry)?;
+        link_entry(ids, pairs, entry)?;
     }
     Ok(())
 }
 
 // All edges between objects.
-fn links_of(alloc: Global, ids: &[u64], seen: &Snapshot) -> Result<Links, AllocError>
+fn links_of(alloc: Global, ids: &[u64], seen: &Snapshot) -> Result<Rows, AllocError>
     requires { Rises ids.now }
-    ensures chained { IfOk result (λ links. AreChained (length ids.now) links) }
-    ensures linked { IfOk result (λ links. AreLinked ids.now (is_linked seen.now) links) }
+    ensures { IfOk result (HasLinks ids.now (is_linked seen.now)) }
 {
-    let mut links = open_links(alloc, ids.len())?;
-    link_objects(ids, &mut links, &seen.objects)?;
-    link_handles(ids, &mut links, &seen.handles)?;
-    link_entries(ids, &mut links, &seen.entries)?;
-    Ok(links)
+    let mut pairs = Vec::new(alloc);
+    link_objects(ids, &mut pairs, &seen.objects)?;
+    link_handles(ids, &mut pairs, &seen.handles)?;
+    link_entries(ids, &mut pairs, &seen.entries)?;
+    rows_of(alloc, pairs, ids.len() as u64)
 }
 
 // Marks what registers reference.

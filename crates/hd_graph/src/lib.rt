@@ -10,9 +10,9 @@ ghost use Rattle.hd_graph.specs.Kept.{AreKept, ids_of};
 ghost use Rattle.hd_graph.specs.Marks.{AreMarks, Rises, is_pinned_by};
 
 mod dot;
+mod follow;
 mod kept;
 mod laws;
-mod links;
 mod marks;
 mod objects;
 mod rows;

@@ -1,9 +1,9 @@
 -- A command that the machine never refuses may be asked and has no fault.
-use Rattle.std.proofs.Common.{Bool, List, None, Option, Some, [], ap, false, inl, inr, refl, subst, sym, true, ℕ, ◌<◌, ◌∙◌, ◌∷◌, ◌≡◌}
+use Rattle.std.proofs.Common.{Bool, List, Option, [], ap, false, inl, inr, refl, subst, sym, true, ℕ, ◌<◌, ◌∙◌, ◌∷◌, ◌≡◌}
 use Rattle.std.proofs.lemmas.Bool.{true≢false}
 use Rattle.std.specs.FinMap.{empty}
 use Rattle.hd_model.proofs.AgedRuns.{nothing_at}
-use Rattle.hd_model.specs.{declared.command.Cmd.Cmd, declared.data.Entry.Entry, declared.data.Id.Id, declared.data.Refusal.Refusal, declared.data.Slot.Slot, Aging.is_refused, Class.class_of, Command.loaded, Command.take_first, Places.with_places, Step.StepOf, Valid.takes_memory}
+use Rattle.hd_model.specs.{declared.command.Cmd.Cmd, declared.data.Entry.Entry, declared.data.Id.Id, declared.data.Refusal.Refusal, declared.data.Slot.Slot, Aging.is_refused, Class.class_of, Command.take_first, Places.with_places, Step.StepOf, Valid.takes_memory}
 use Rattle.hd_model.specs.declared.class.Class.TheVariants as class
 use Rattle.hd_model.specs.declared.command.Cmd.TheVariants as cmd
 use Rattle.hd_model.specs.declared.data.Reply.TheVariants as reply
@@ -14,6 +14,7 @@ use Rattle.hd_host.specs.declared.fault.Fault.{Fault}
 use Rattle.hd_host.specs.declared.fault.Fault.TheVariants as fault
 use Rattle.hd_host.specs.{Steps.pointed, View.HostView}
 use Rattle.hd_host.proofs.Asks.{may_ask}
+use Rattle.hd_host.proofs.Refused.{not_refused}
 
 pub may_ask_plainly : {v : HostView} {context : ℕ} {slot : Option Slot} {c : Cmd}
     → context < v.machine.numbers.callers → IsNeverRefused c → MayAsk v context slot c
@@ -39,10 +40,6 @@ plain_is c (gets_static d k valid) = refl
 plain_is c (takes_queued d valid) = refl
 plain_is c (trims kind valid) = refl
 
-done_load : (o : Option Id) → is_refused (loaded o) ≡ false
-done_load None = refl
-done_load (Some x) = refl
-
 done_queue : (s : State) (k d : ℕ) (queue : List Id) → is_refused (take_first s k d queue).reply ≡ false
 done_queue s k d [] = refl
 done_queue s k d (x ∷ xs) = refl
@@ -52,7 +49,7 @@ module _ (n : Numbers) (s : State) (e : Entry) (t : State) where
   done c (copies d r valid) does = ap is_refused does.reply
   done c (clears d valid) does = ap is_refused does.reply
   done c (puts_static k r valid) does = ap is_refused does.reply
-  done c (gets_static d k valid) does = ap is_refused does.reply ∙ done_load _
+  done c (gets_static d k valid) does = ap is_refused does.reply ∙ not_refused _
   done c (takes_queued d valid) does = ap is_refused does.reply ∙ done_queue s e.caller d s.queue
   done c (trims kind valid) (inl gives) = ap is_refused gives.reply
   done c (trims kind valid) (inr none) = ap is_refused none.reply

@@ -12,7 +12,7 @@ use Rattle.hd_store.specs.{Places.Moves, StateHeap.IsStoredAt, Store.Machine}
 use Rattle.hd_host.specs.{Calls.FailsBy, Calls.IsRefused, Faults.fault_of, Steps.HasMoved, Steps.HasNoSlot, Steps.HasStepped, Steps.pointed, View.HostView, View.state_in}
 use Rattle.hd_host.proofs.Registers.{pointed-again}
 
-not_refused : (o : Option Id) → is_refused (loaded o) ≡ false
+pub not_refused : (o : Option Id) → is_refused (loaded o) ≡ false
 not_refused None = refl
 not_refused (Some x) = refl
 

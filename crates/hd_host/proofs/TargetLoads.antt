@@ -1,6 +1,6 @@
 -- A load of the target of a live handle is one command of a host, by the handle register that has its slot.
-use Rattle.std.proofs.Common.{None, Option, Some, false, is_some, option_map, refl, subst, sym, true, ℕ, List, ◌<◌, ◌≡◌}
-use Rattle.hd_model.specs.{declared.data.Id.Id, declared.data.Slot.Slot, Aging.is_refused, Command.loaded}
+use Rattle.std.proofs.Common.{None, Option, Some, is_some, option_map, refl, subst, sym, true, ℕ, List, ◌<◌, ◌≡◌}
+use Rattle.hd_model.specs.{declared.data.Id.Id, declared.data.Slot.Slot, Command.loaded}
 use Rattle.hd_model.specs.declared.command.Cmd.TheVariants as cmd
 use Rattle.hd_model.specs.declared.data.Grown.TheVariants.{Zero}
 use Rattle.hd_model.specs.State.{Handle as Held, handle_at, with_register}
@@ -11,10 +11,7 @@ use Rattle.hd_host.specs.declared.handle.Handle.{Handle}
 use Rattle.hd_host.specs.{Calls.RepliesOf, Handles.handle_of, Inside.IsHost, Replies.is_load, Steps.HasMoved, Steps.HasNoSlot, Steps.pointed, View.HostView}
 use Rattle.hd_host.proofs.CallHost.{host_after, has_stepped, view_of}
 use Rattle.hd_host.proofs.Registers.{pointed-again}
-
-unrefused : (o : Option Id) → is_refused (loaded o) ≡ false
-unrefused None = refl
-unrefused (Some x) = refl
+use Rattle.hd_host.proofs.Refused.{not_refused}
 
 is_loaded : (o : Option Id) → is_load (loaded o) ≡ true
 is_loaded None = refl
@@ -63,7 +60,7 @@ module _ (m : Machine) (p : FreeSlots) (stamps : List ℕ) (host : IsHost m p st
           done = record {
             stepped = has_stepped m p p stamps host context known (Some slot) (cmd.HGet d 0) None (refl, refl)
                 k e did;
-            done = unrefused target;
+            done = not_refused target;
             replies = is_loaded target;
             stamps = refl;
             last = refl;

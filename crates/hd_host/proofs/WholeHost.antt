@@ -1,5 +1,5 @@
 -- What is always true of a host, over what contracts see of it.
-use Rattle.std.proofs.Common.{List, None, Option, Some, [], ap, arith, get_or, get_or-set_same, is_some, length, set, subst, ℕ, ◌*◌, ◌+◌, ◌/◌, ◌<◌, ◌∙◌, ◌≡◌, ◌≤◌}
+use Rattle.std.proofs.Common.{List, None, Some, ap, arith, is_some, length, subst, ℕ, ◌*◌, ◌+◌, ◌/◌, ◌<◌, ◌≡◌, ◌≤◌}
 use Rattle.std.specs.Prelude.{IsSome}
 use Rattle.hd_model.proofs.MapEntries.{some_value}
 use Rattle.hd_model.specs.{declared.data.Slot.Slot, declared.limits.TheConstants.ROWS}
@@ -9,6 +9,7 @@ use Rattle.hd_store.specs.{Offers.HasLimits, Store.Machine}
 use Rattle.hd_host.specs.declared.change.Change.{Change}
 use Rattle.hd_host.specs.{Inside.IsHost, Steps.pointed, View.HostView}
 use Rattle.hd_host.proofs.CallHost.{view_of}
+use Rattle.hd_model.proofs.ReadAfterWrite.{cell_here}
 
 -- the numbers are within the limits, no handle register has a slot but one that was put there, each live slot
 -- is one of the table's, and each slot has a stamp
@@ -21,19 +22,12 @@ pub record IsWhole (v : HostView) : Type 0 where
   pub live : (slot : Slot) → IsSome (handle_at v.machine.state slot) → slot.0 / ROWS ≤ v.machine.numbers.blocks
   pub stamps : length v.stamps ≡ ROWS * (v.machine.numbers.blocks + 1)
 
--- a register of a row that is long enough has what was put there
-has_put : (rows : List (List (Option Slot))) (c : ℕ) (v : Option Slot) → c < length rows
-    → 0 < length (get_or rows c []) → get_or (get_or (set rows c (set (get_or rows c []) 0 v)) c []) 0 None ≡ v
-has_put rows c v low long =
-    ap (λ row. get_or row 0 None) (get_or-set_same rows c (set (get_or rows c []) 0 v) [] low)
-    ∙ get_or-set_same (get_or rows c []) 0 v None long
-
 pub whole : {m : Machine} {p : FreeSlots} {stamps : List ℕ} {last : Change} {v : HostView} → IsHost m p stamps
     → view_of m stamps last ≡ v → IsWhole v
 whole {m = m} host view = subst IsWhole view (record {
   limits = host.limits;
   empty = host.empty;
-  named = λ context slot known. has_put m.state.handle_registers context (Some slot)
+  named = λ context slot known. cell_here m.state.handle_registers context 0 (Some slot) None
       (omega (arith, known, host.tied.well_formed.shape.handle_registers))
       (omega (arith, host.tied.well_formed.shape.each_handle_registers context known));
   live = λ slot live.

@@ -6,7 +6,7 @@ ghost use Rattle.hd_model.specs.{declared.data.Id.Id, declared.data.Slot.Slot, C
 ghost use Rattle.hd_model.specs.State.{Handle as Held, count_of, handle_at};
 ghost use Rattle.hd_host.specs.Calls.{RepliesOf, FailsOf, FailsBy, MakesHandle, FreesHandle};
 ghost use Rattle.hd_host.specs.declared.stamps.TheConstants.{END as end_stamp};
-ghost use Rattle.hd_store.specs.Info.{extra_seen};
+ghost use Rattle.hd_commands.specs.Handles.{extra_of};
 ghost use Rattle.hd_host.specs.{Handles.IsOf, Handles.handle_of, Handles.stamp_of, View.IsAsItWas};
 
 use crate::change::Change;
@@ -228,8 +228,8 @@ impl Host {
 }
 
 // The count of a ref-counted handle, and 0 of any other.
-fn count_of(extra: ExtraInfo) -> u32
-    ensures { result ≡ count_of (extra_seen extra) }
+fn count_of(extra: ExtraInfo<Id>) -> u32
+    ensures { result ≡ count_of (extra_of extra) }
 {
     match extra {
         ExtraInfo::Count(count) => count,

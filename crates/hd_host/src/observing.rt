@@ -3,7 +3,7 @@ ghost use Rattle.std.specs.Prelude.{◌≡◌, ◌<◌, ◌^◌, length, IfSome,
 ghost use Rattle.std.specs.FinMap.{len};
 ghost use Rattle.hd_model.specs.declared.data.Slot.{Slot};
 ghost use Rattle.hd_model.specs.State.{given_of, handle_at, register_of, total_size};
-ghost use Rattle.hd_store.specs.Info.{handle_seen};
+ghost use Rattle.hd_commands.specs.Handles.{handle_of};
 ghost use Rattle.hd_host.specs.declared.fault.Fault.TheVariants.{Stale};
 ghost use Rattle.hd_host.specs.Handles.{IsOf, IsStale, IsNextFrom, HasNoneFrom};
 
@@ -34,7 +34,7 @@ pub struct Stats {
 pub struct Listed {
     pub slot: Slot,
     pub handle: Handle,
-    pub info: HandleInfo,
+    pub info: HandleInfo<Id>,
 }
 
 impl Host {
@@ -65,10 +65,10 @@ impl Host {
     }
 
     /// What a handle is.
-    pub fn handle_info(&self, handle: Handle) -> Result<HandleInfo, Fault>
+    pub fn handle_info(&self, handle: Handle) -> Result<HandleInfo<Id>, Fault>
         ensures { MatchResult result
             (λ info. (slot : Slot) × IsOf self.now handle slot
-            × (handle_at self.now.machine.state slot ≡ Some (handle_seen info)))
+            × (handle_at self.now.machine.state slot ≡ Some (handle_of info)))
             (λ fault. (fault ≡ Stale) × IsStale self.now handle) }
     {
         let Some(slot) = self.slot_of(handle) else {

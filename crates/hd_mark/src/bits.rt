@@ -3,8 +3,8 @@ ghost use Rattle.std.specs.Prelude.{◌≡◌, ◌≢◌, ℕ, ◌*◌, ◌<◌,
 ghost use Rattle.hd_mark.specs.Inside.{is_set};
 
 use hd_mask::bit;
-use hd_model::Memory;
 use hd_model::limits::{REGION, REGIONS};
+use hd_model::{Memory, filled};
 use std::alloc::Global;
 
 // The numbers of one word.
@@ -26,11 +26,8 @@ impl Bits {
         ensures long { IfOk result (λ b. length b.words.items ≡ WORDS * regions) }
         ensures empty { IfOk result (λ b. (i : ℕ) → is_set b.words.items i ≡ false) }
     {
-        let mut words = Vec::new(alloc);
-        match words.resize((WORDS * regions) as usize, 0) {
-            Ok(()) => Ok(Bits { words }),
-            Err(_) => Err(Memory),
-        }
+        let words = filled(alloc, 0, WORDS * regions)?;
+        Ok(Bits { words })
     }
 
     /// Whether a number is a member.

@@ -6,7 +6,7 @@ ghost use Rattle.hd_mark.specs.Inside.{bit_of, IsTable, HasPlaces};
 
 use hd_heap::{Extent, Heap};
 use hd_model::limits::REGION;
-use hd_model::{Addr, Memory};
+use hd_model::{Addr, Memory, filled};
 use std::alloc::Global;
 
 /// The indices of condemned regions among themselves, by the number of the region. An older region
@@ -26,10 +26,7 @@ impl Places {
         requires extent { IsExtent heap.now n extent }
         ensures { IfOk result (HasPlaces heap.now n) }
     {
-        let mut places = Vec::new(alloc);
-        let Ok(()) = places.resize(extent.end as usize, 0) else {
-            return Err(Memory);
-        };
+        let mut places = filled(alloc, 0, extent.end)?;
         if extent.regions == 0 {
             return Ok(Places { places, regions: 0 });
         }

@@ -48,6 +48,7 @@ pub mod WellFormedWrites
 pub mod Effects
 pub mod StepFrames
 pub mod OneState
+pub mod DecidedOutcomes
 pub mod OutcomePlaces
 pub mod Journals
 pub mod StepChains

@@ -1,64 +1,16 @@
 -- What a command does depends on no pinned address, but for `addr` and `collect`.
-use Rattle.hd_model.proofs.Basics.{Adding, AddsEntry, Back, Bool, Cmd, Entry, FinMap, FindsTableFull, GivesBack, Grown, Handle, Id, IsFree, IsLeastUnused, IsOutcome, Kind, List, Make, MakesHandle, MayGive, None, Numbers, One, Option, Outcome, Slot, Some, State, Step, StepOf, TakesWay, Two, Zero, [], adding_of, ap, count_of, false, get, handle_register_of, if◌then◌else◌, in_idle, in_new, inl, inr, is_kind, is_some, kind_of, length, nat_cmp, nat_lt, object_by_id, on_field, on_handle, on_handle_of, on_object, option_map_or, refl, refuses, register_of, slot_of_key, sym, take_first, total_size, touched_by, true, true≢false, way_of_adding, with_entry, with_growth, with_made, with_places, ℕ, ⊎_elim, ◌&&◌, ◌+◌, ◌==◌, ◌∙◌, ◌∷◌, ◌≡◌, Reply}
-use Rattle.hd_model.specs.Command.{is_refused}
+use Rattle.hd_model.proofs.Basics.{AddsEntry, Back, Cmd, Entry, FinMap, FindsTableFull, GivesBack, Grown, Id, IsFree, IsLeastUnused, IsOutcome, Kind, Make, MakesHandle, MayGive, Numbers, One, Outcome, Reply, Slot, State, Step, TakesWay, Two, Way, Zero, adds_entry, ap, collects, decided, false, gives_back, inl, inr, kind_of, makes_handle, makes_object, nat_cmp, nat_lt, refl, register_of, replies_place, subst, sym, total_size, touched_by, true, true≢false, way_of, with_entry, with_growth, with_made, with_places, ℕ, ⊎_elim, ◌+◌, ◌∙◌, ◌≡◌}
+use Rattle.hd_model.proofs.DecidedOutcomes.{SameWay, option_both, test_both, way_both}
+use Rattle.hd_model.proofs.OneState.{CommandOf, way_command}
 use Rattle.hd_model.specs.declared.command.Cmd.TheVariants as cmd
 use Rattle.hd_model.specs.Anchors.{ReturnsRoot}
-use Rattle.hd_model.specs.declared.data.Refusal.TheVariants as refusal
+use Rattle.hd_model.specs.Step.{replies_root}
 use Rattle.hd_model.specs.declared.data.Kind.TheVariants as kind
 
 module _ (p : FinMap nat_cmp ℕ) where
   -- an outcome with these pinned addresses in its state
   abbrev placed : Outcome → Outcome
   placed o = record { reply = o.reply; slot = o.slot; after = with_places o.after p }
-
-  -- what holds of each outcome and itself with these addresses holds of what is built alike from such pairs
-  module _ (P : Outcome → Outcome → Type 0) (leaf : (o : Outcome) → P (placed o) o) where
-    by_option : {A : Type 0} (f g : A → Outcome) (d e : Outcome) (o : Option A) → ((a : A) → P (f a) (g a))
-        → P d e → P (option_map_or f o d) (option_map_or g o e)
-    by_option f g d e None each none = none
-    by_option f g d e (Some a) each none = each a
-
-    by_test : (x y v w : Outcome) (b : Bool) → P x y → P v w → P (if b then x else v) (if b then y else w)
-    by_test x y v w true on off = on
-    by_test x y v w false on off = off
-
-    by_first : (s : State) (c d : ℕ) (q : List Id)
-        → P (take_first (with_places s p) c d q) (take_first s c d q)
-    by_first s c d [] = leaf _
-    by_first s c d (x ∷ q) = leaf _
-
-  module _ (P : Outcome → Outcome → Type 0) (leaf : (o : Outcome) → P (placed o) o) (s : State) (c : ℕ) where
-    abbrev at : State
-    at = with_places s p
-
-    object_placed : (o : ℕ) (f g : Id → Outcome) → ((id : Id) → P (f id) (g id))
-        → P (on_object at c o f) (on_object s c o g)
-    object_placed o f g each =
-        by_option P leaf f g (refuses refusal.Null at) (refuses refusal.Null s) (register_of s c o) each
-        (leaf _)
-
-    field_placed : (o i : ℕ) (f g : Id → Outcome) → ((id : Id) → P (f id) (g id))
-        → P (on_field at c o i f) (on_field s c o i g)
-    field_placed o i f g each =
-        object_placed o
-        _ _ (λ id. by_test P leaf (f id) (g id) (refuses refusal.BadField at) (refuses refusal.BadField s)
-        (nat_lt i (length (object_by_id s id).fields)) (each id) (leaf _))
-
-    handle_placed : (h : ℕ) (f g : Slot → Handle Id → Outcome)
-        → ((slot : Slot) (x : Handle Id) → P (f slot x) (g slot x))
-        → P (on_handle at c h f) (on_handle s c h g)
-    handle_placed h f g each =
-        by_option P leaf _ _ (refuses refusal.EmptyRegister at) (refuses refusal.EmptyRegister s)
-        (handle_register_of s c h)
-        (λ slot. by_option P leaf (f slot) (g slot) (refuses refusal.NotLive at) (refuses refusal.NotLive s)
-        (get s.handles slot.0) (each slot) (leaf _)) (leaf _)
-
-    kind_placed : (h : ℕ) (k : Kind) (f g : Slot → Handle Id → Outcome)
-        → ((slot : Slot) (x : Handle Id) → P (f slot x) (g slot x))
-        → P (on_handle_of at c h k f) (on_handle_of s c h k g)
-    kind_placed h k f g each =
-        handle_placed h _ _ (λ slot x. by_test P leaf (f slot x) (g slot x) (refuses refusal.WrongKind at)
-        (refuses refusal.WrongKind s) (is_kind x.kind k) (each slot x) (leaf _))
 
   module _ (n : Numbers) (s : State) (e : Entry) (t : State) where
     abbrev before : State
@@ -95,11 +47,6 @@ module _ (p : FinMap nat_cmp ℕ) where
     made_placed (Two b o) d given r slot = refl
     made_placed (Back b) d given r slot = refl
 
-    -- an outcome that is alike from both states
-    alike : (o q : Outcome) → IsOutcome e q t
-        → ((P : Outcome → Outcome → Type 0) → ((x : Outcome) → P (placed x) x) → P o q) → IsOutcome e o after
-    alike o q is each = outcome_placed o q (each (λ x y. x ≡ placed y) (λ x. refl)) is
-
     entry_placed : (g : Grown) (v : ℕ) (slot : Slot) (key : Id)
         → with_places (with_entry (with_growth s kind.Dependent g) s e.caller v slot key) p
         ≡ with_entry (with_growth before kind.Dependent g) before e.caller v slot key
@@ -108,52 +55,29 @@ module _ (p : FinMap nat_cmp ℕ) where
     entry_placed (Two b o) v slot key = refl
     entry_placed (Back b) v slot key = refl
 
-    added_placed : (v : ℕ) (a : Adding) → TakesWay n s e t (way_of_adding s e.caller v a)
-        → TakesWay n before e after (way_of_adding before e.caller v a)
-    added_placed v (is_refused r) is = alike _ _ is (λ P leaf. leaf _)
-    added_placed v (in_idle slot key) is = alike _ _ is (λ P leaf. leaf _)
-    added_placed v (in_new key) is = ⊎_elim
-        (λ (x : AddsEntry n s e t v key). inl (record {
-          slot = x.slot;
-          given = x.given;
-          may = give_placed kind.Dependent e.grown x.slot x.may;
-          reply = x.reply;
-          after = ap (λ u. with_places u p) x.after ∙ entry_placed e.grown v x.slot key;
-        }))
-        (λ (x : FindsTableFull n s e t kind.Dependent). inr (record {
-          few = x.few;
-          refused = alike _ _ x.refused (λ P leaf. leaf _);
-        })) is
-
     -- where an object is pinned, and at which address, no chain depends on
     root_placed : (goal : Id) (r : Reply) → ReturnsRoot s goal r → ReturnsRoot before goal r
     root_placed goal r (inl c) =
         inl (record { from = c.from; edges = c.edges; shortest = c.shortest; reply_is = c.reply_is })
     root_placed goal r (inr none) = inr none
 
-    does_placed : (c : Cmd) → (touched_by c).places ≡ false → StepOf n s e t c → StepOf n before e after c
-    does_placed (cmd.New d f fin) h is = (
-      is.0,
-      alike _ _ is.1
-          (λ P leaf. by_test P leaf _ _ _ _ (nat_lt n.heap (total_size s + (f + 3))) (leaf _) (leaf _)),
-    )
-    does_placed (cmd.Set o i v) h is =
-        alike _ _ is (λ P leaf. field_placed P leaf s e.caller o i _ _ (λ id. leaf _))
-    does_placed (cmd.Get d o i) h is =
-        alike _ _ is (λ P leaf. field_placed P leaf s e.caller o i _ _ (λ id. leaf _))
-    does_placed (cmd.Val o v) h is =
-        alike _ _ is (λ P leaf. object_placed P leaf s e.caller o _ _ (λ id. leaf _))
-    does_placed (cmd.Read o) h is =
-        alike _ _ is (λ P leaf. object_placed P leaf s e.caller o _ _ (λ id. leaf _))
-    does_placed (cmd.Gen o) h is =
-        alike _ _ is (λ P leaf. object_placed P leaf s e.caller o _ _ (λ id. leaf _))
-    does_placed (cmd.Suppress o) h is =
-        alike _ _ is (λ P leaf. object_placed P leaf s e.caller o _ _ (λ id. leaf _))
-    does_placed (cmd.Reregister o) h is =
-        alike _ _ is (λ P leaf. object_placed P leaf s e.caller o _ _ (λ id. leaf _))
-    does_placed (cmd.Final d) h is = alike _ _ is (λ P leaf. by_first P leaf s e.caller d s.queue)
-    does_placed (cmd.Collect k) h is = absurd (true≢false h)
-    does_placed (cmd.HNew d given r) h is = ⊎_elim
+    -- the command touches a pinned address
+    touches : (c d : Cmd) → c ≡ d → (touched_by d).places ≡ true → (touched_by c).places ≡ false → ⊥
+    touches c d is does none = true≢false (sym (ap (λ x. (touched_by x).places) is ∙ does) ∙ none)
+
+    abbrev Same : Outcome → Outcome → Type 0
+    Same x y = x ≡ placed y
+
+    way_placed : (c : Cmd) (v w : Way) → SameWay Same v w → CommandOf c w → (touched_by c).places ≡ false
+        → TakesWay n s e t w → TakesWay n before e after v
+    way_placed c (decided o) w same of none way =
+        outcome_placed o same.0 same.1.1 (subst (TakesWay n s e t) same.1.0 way)
+    way_placed c (makes_object d f fin) w same of none way =
+        let is = subst (TakesWay n s e t) same way in (
+          is.0,
+          outcome_placed _ _ (test_both Same _ _ _ _ (nat_lt n.heap (total_size s + (f + 3))) refl refl) is.1,
+        )
+    way_placed c (makes_handle d given r) w same of none way = ⊎_elim
         (λ (x : MakesHandle n s e t d given r). inl (record {
           slot = x.slot;
           given = x.given;
@@ -163,29 +87,13 @@ module _ (p : FinMap nat_cmp ℕ) where
         }))
         (λ (x : FindsTableFull n s e t (kind_of given)). inr (record {
           few = x.few;
-          refused = alike _ _ x.refused (λ P leaf. leaf _);
-        })) is
-    does_placed (cmd.HGet d o) h is =
-        alike _ _ is (λ P leaf. handle_placed P leaf s e.caller o _ _ (λ slot x. leaf _))
-    does_placed (cmd.HSet o v) h is = alike _ _ is (λ P leaf. handle_placed P leaf s e.caller o _ _ (λ slot x.
-        by_test P leaf _ _ _ _ (is_kind x.kind kind.Dependent && is_some (register_of s e.caller v)) (leaf _)
-        (leaf _)))
-    does_placed (cmd.HSec o r) h is =
-        alike _ _ is (λ P leaf. kind_placed P leaf s e.caller o kind.Dependent _ _ (λ slot x.
-        by_option P leaf _ _ _ _ x.target (λ y. leaf _) (leaf _)))
-    does_placed (cmd.HDep d o) h is =
-        alike _ _ is (λ P leaf. kind_placed P leaf s e.caller o kind.Dependent _ _ (λ slot x. leaf _))
-    does_placed (cmd.HVar o given) h is =
-        alike _ _ is (λ P leaf. kind_placed P leaf s e.caller o kind.Variable _ _ (λ slot x. leaf _))
-    does_placed (cmd.HFree o) h is =
-        alike _ _ is (λ P leaf. handle_placed P leaf s e.caller o _ _ (λ slot x. leaf _))
-    does_placed (cmd.AddrOf o) h is = absurd (true≢false h)
-    does_placed (cmd.HUp o) h is =
-        alike _ _ is (λ P leaf. kind_placed P leaf s e.caller o kind.Counted _ _ (λ slot x. leaf _))
-    does_placed (cmd.HDown o) h is =
-        alike _ _ is (λ P leaf. kind_placed P leaf s e.caller o kind.Counted _ _ (λ slot x.
-        by_test P leaf _ _ _ _ (count_of x.extra == 0) (leaf _) (leaf _)))
-    does_placed (cmd.Trim k) h is = ⊎_elim
+          refused = outcome_placed _ _ refl x.refused;
+        })) (subst (TakesWay n s e t) same way)
+    way_placed c (collects k) w same of none way =
+        absurd (touches c (cmd.Collect k) (subst (CommandOf c) same of) refl none)
+    way_placed c (replies_place h) w same of none way =
+        absurd (touches c (cmd.AddrOf h) (subst (CommandOf c) same of) refl none)
+    way_placed c (gives_back k) w same of none way = ⊎_elim
         (λ (x : GivesBack s e t k). inl (record {
           block = x.block;
           free = λ slot here. free_placed k slot (x.free slot here);
@@ -194,23 +102,33 @@ module _ (p : FinMap nat_cmp ℕ) where
           grown = x.grown;
           after = ap (λ u. with_places u p) x.after;
         }))
-        (λ x. inr (alike _ _ x (λ P leaf. leaf _))) is
-    does_placed (cmd.CAdd k v) h is = added_placed v (adding_of s e.caller k) is
-    does_placed (cmd.CFind d k) h is = alike _ _ is (λ P leaf. object_placed P leaf s e.caller k _ _ (λ key.
-        by_option P leaf _ _ _ _ (slot_of_key s key) (λ slot. leaf _) (leaf _)))
-    does_placed (cmd.CRemove k) h is = alike _ _ is (λ P leaf. object_placed P leaf s e.caller k _ _ (λ key.
-        by_option P leaf _ _ _ _ (slot_of_key s key) (λ slot. leaf _) (leaf _)))
-    does_placed (cmd.GcRoot r) h is = record {
-      found = is.found;
-      is_root = λ goal f. root_placed goal is.found (is.is_root goal f);
-      outcome = alike _ _ is.outcome (λ P leaf. object_placed P leaf s e.caller r _ _ (λ goal. leaf _));
-    }
-    does_placed _ h is = alike _ _ is (λ P leaf. leaf _)
+        (λ x. inr (outcome_placed _ _ refl x)) (subst (TakesWay n s e t) same way)
+    way_placed c (adds_entry v key) w same of none way = ⊎_elim
+        (λ (x : AddsEntry n s e t v key). inl (record {
+          slot = x.slot;
+          given = x.given;
+          may = give_placed kind.Dependent e.grown x.slot x.may;
+          reply = x.reply;
+          after = ap (λ u. with_places u p) x.after ∙ entry_placed e.grown v x.slot key;
+        }))
+        (λ (x : FindsTableFull n s e t kind.Dependent). inr (record {
+          few = x.few;
+          refused = outcome_placed _ _ refl x.refused;
+        })) (subst (TakesWay n s e t) same way)
+    way_placed c (replies_root r) w same of none way =
+        let is = subst (TakesWay n s e t) same way in record {
+          found = is.found;
+          is_root = λ goal f. root_placed goal is.found (is.is_root goal f);
+          outcome = outcome_placed _ _
+              (option_both Same _ _ _ _ (register_of s e.caller r) (λ goal _. refl) refl) is.outcome;
+        }
 
     -- a step of a command that touches no pinned address is one with any such addresses
     pub step_placed : (touched_by e.cmd).places ≡ false → Step n s e t → Step n before e after
     step_placed h step = record {
       caller = step.caller;
       valid = step.valid;
-      does = does_placed e.cmd h step.does;
+      does = way_placed e.cmd (way_of before e.caller e.cmd) (way_of s e.caller e.cmd)
+          (way_both Same p s e.caller (λ r u _. refl) (λ slot x _ u. refl) (λ v slot key _. refl) e.cmd)
+          (way_command s e.caller e.cmd) h step.does;
     }

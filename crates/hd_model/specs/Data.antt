@@ -13,3 +13,4 @@ pub use Rattle.hd_model.specs.declared.data.Reply.{Reply}
 pub use Rattle.hd_model.specs.declared.data.Entry.{Entry}
 pub use Rattle.hd_model.specs.declared.command.Cmd.{Cmd}
 pub use Rattle.hd_model.specs.declared.class.Class.{Class}
+pub use Rattle.hd_model.specs.declared.operand.Operand.{Operand}

@@ -1,16 +1,17 @@
 -- The grammar of a script: bytes as lines, lines as words, words as what they say, and the commands of each
 -- caller. It is this project's own format.
-use Rattle.std.specs.Prelude.{◌≡◌, ℕ, ◌+◌, ◌-◌, ◌*◌, ◌≤◌, max, Bool, true, false, ◌&&◌, ◌||◌, ◌==◌, nat_lt, nat_le, if◌then◌else◌, List, [], ◌∷◌, ◌++◌, map, length, fold, filter, sum_by, All, codes, bytes_eq, Option, Some, None, option_map, option_to_list, Result, Ok, Err}
-use Rattle.std.specs.Option.{option_or}
+use Rattle.std.specs.Prelude.{◌≡◌, ℕ, ◌+◌, ◌-◌, ◌*◌, ◌≤◌, max, Bool, true, false, not, ◌&&◌, ◌||◌, ◌==◌, nat_lt, nat_le, if◌then◌else◌, List, [], ◌∷◌, ◌++◌, map, length, fold, filter, sum_by, All, codes, bytes_eq, Option, Some, None, is_some, option_map, option_and_then, option_to_list, Result, Ok, Err}
 use Rattle.std.specs.Char.{is_ascii_digit}
 use Rattle.std.specs.List.{slice_split, before_first, list_all, range_with_len}
 use Rattle.std.specs.Str.Lines.{strip_carriage_return}
-use Rattle.hd_model.specs.declared.limits.TheConstants.{CALLERS, REGISTERS, FIELDS, OLDEST, MOST_COMMANDS}
-use Rattle.hd_model.specs.Data.{Kind, Strength, Make, Cmd}
+use Rattle.hd_model.specs.declared.limits.TheConstants.{CALLERS, REGISTERS, MOST_COMMANDS}
+use Rattle.hd_model.specs.Data.{Kind as KindOf, Strength as StrengthOf, Make, Cmd, Operand}
 use Rattle.hd_model.specs.declared.data.Kind.TheVariants as kind
 use Rattle.hd_model.specs.declared.data.Strength.TheVariants as strength
 use Rattle.hd_model.specs.declared.data.Make.TheVariants as make
 use Rattle.hd_model.specs.declared.command.Cmd.TheVariants as cmd
+use Rattle.hd_model.specs.declared.operand.Operand.TheVariants.{Object, Handle, Number, Kind, PlainKind, Strength, Fin}
+use Rattle.hd_model.specs.Rows.{Form, Makes, ValueOf, forms}
 use Rattle.hd_model.specs.Valid.{IsValid}
 
 -- byte 10 ends a line
@@ -72,7 +73,7 @@ look_up word [] = None
 look_up word (row ∷ rows) = if bytes_eq word row.0 then row.1 else look_up word rows
 
 -- the strength of a variable handle
-unfoldable pub strength_of : List ℕ → Option Strength
+unfoldable pub strength_of : List ℕ → Option StrengthOf
 strength_of word = look_up word (
     (codes "short", Some strength.Short)
     ∷ (codes "long", Some strength.Long)
@@ -91,7 +92,7 @@ make_of word = look_up word (
     ∷ [])
 
 -- a kind of handle whose blocks can be given back: one without extra data
-unfoldable pub trimmed_kind_of : List ℕ → Option Kind
+unfoldable pub trimmed_kind_of : List ℕ → Option KindOf
 trimmed_kind_of word = look_up word (
     (codes "short", Some kind.Short)
     ∷ (codes "long", Some kind.Long)
@@ -103,74 +104,71 @@ trimmed_kind_of word = look_up word (
 unfoldable pub fin_of : List ℕ → Option Bool
 fin_of word = look_up word ((codes "fin", Some true) ∷ [])
 
--- a command of one, two or three parts, where each of them has a reading
-abbrev pub one : {A : Type 0} → (A → Cmd) → Option A → Option Cmd
-one f None = None
-one f (Some a) = Some (f a)
+-- a kind of handle
+abbrev pub is_kind : List ℕ → Bool
+is_kind word = is_some (make_of word) || bytes_eq word (codes "var") || bytes_eq word (codes "dep")
 
-abbrev pub two : {A B : Type 0} → (A → B → Cmd) → Option A → Option B → Option Cmd
-two f None b = None
-two f (Some a) b = one (f a) b
+-- the value of a word that is what an operand has to be
+abbrev pub value_in : (o : Operand) → List ℕ → Option (ValueOf o)
+value_in Object word = object_register_in word
+value_in Handle word = handle_register_in word
+value_in (Number most) word = number_of most word
+value_in Kind word = if is_kind word then Some tt else None
+value_in PlainKind word = trimmed_kind_of word
+value_in Strength word = strength_of word
+value_in Fin word = fin_of word
 
+-- the value of an operand that is left out, if it may be
+abbrev pub left_out : (o : Operand) → Option (ValueOf o)
+left_out Object = None
+left_out Handle = None
+left_out (Number most) = None
+left_out Kind = None
+left_out PlainKind = None
+left_out Strength = None
+left_out Fin = Some false
+
+-- what words make as operands, where each has a value
+abbrev pub made_of : {A : Type 0} → (os : List Operand) → Makes A os → List (List ℕ) → Option A
+made_of [] made [] = Some made
+made_of [] made (word ∷ words) = None
+made_of (o ∷ os) make [] = option_and_then (λ v. made_of os (make v) []) (left_out o)
+made_of (o ∷ os) make (word ∷ words) = option_and_then (λ v. made_of os (make v) words) (value_in o word)
+
+-- how many operands there are at least: up to the last that may not be left out
+abbrev pub least : List Operand → ℕ
+least [] = 0
+least (o ∷ os) = if is_some (left_out o) && (least os == 0) then 0 else 1 + least os
+
+-- there are too few or too many operands
+abbrev pub is_other_count : List Operand → ℕ → Bool
+is_other_count os count = nat_lt count (least os) || nat_lt (length os) count
+
+-- what is made of three parts, where each of them has a reading
 abbrev pub three : {A B C : Type 0} → (A → B → C → Cmd) → Option A → Option B → Option C → Option Cmd
 three f None b c = None
-three f (Some a) b c = two (f a) b c
+three f (Some a) None c = None
+three f (Some a) (Some b) None = None
+three f (Some a) (Some b) (Some c) = Some (f a b c)
 
--- a command of two words
+-- what words make of each form that may have so many, by its word
+abbrev pub commands_by : List (List ℕ) → List (List ℕ × Option Cmd)
+commands_by words =
+    map (λ (f : Form). (f.word, made_of f.operands f.make words))
+    (filter (λ (f : Form). not (is_other_count f.operands (length words))) forms)
+
+-- a command of two words, three words, and so on
 unfoldable pub two_words : List ℕ → List ℕ → Option Cmd
-two_words word a = look_up word (
-    (codes "read", one cmd.Read (object_register_in a))
-    ∷ (codes "drop", one cmd.Clear (object_register_in a))
-    ∷ (codes "gen", one cmd.Gen (object_register_in a))
-    ∷ (codes "suppress", one cmd.Suppress (object_register_in a))
-    ∷ (codes "reregister", one cmd.Reregister (object_register_in a))
-    ∷ (codes "final", one cmd.Final (object_register_in a))
-    ∷ (codes "collect", one cmd.Collect (number_of OLDEST a))
-    ∷ (codes "hfree", one cmd.HFree (handle_register_in a))
-    ∷ (codes "addr", one cmd.AddrOf (handle_register_in a))
-    ∷ (codes "hup", one cmd.HUp (handle_register_in a))
-    ∷ (codes "hdown", one cmd.HDown (handle_register_in a))
-    ∷ (codes "trim", one cmd.Trim (trimmed_kind_of a))
-    ∷ (codes "cremove", one cmd.CRemove (object_register_in a))
-    ∷ (codes "gcroot", one cmd.GcRoot (object_register_in a))
-    ∷ [])
+two_words word a = look_up word (commands_by (a ∷ []))
 
--- a command of three words on objects
-unfoldable pub three_on_objects : List ℕ → List ℕ → List ℕ → Option Cmd
-three_on_objects word a b = look_up word (
-    (codes "new", two (λ d fields. cmd.New d fields false) (object_register_in a) (number_of FIELDS b))
-    ∷ (codes "val", two cmd.Val (object_register_in a) (number_of 18446744073709551615 b))
-    ∷ (codes "copy", two cmd.Copy (object_register_in a) (object_register_in b))
-    ∷ (codes "sput", two cmd.SPut (number_of (REGISTERS - 1) a) (object_register_in b))
-    ∷ (codes "sget", two cmd.SGet (object_register_in a) (number_of (REGISTERS - 1) b))
-    ∷ (codes "cadd", two cmd.CAdd (object_register_in a) (object_register_in b))
-    ∷ (codes "cfind", two cmd.CFind (object_register_in a) (object_register_in b))
-    ∷ [])
-
--- a command of three words on handles
-unfoldable pub three_on_handles : List ℕ → List ℕ → List ℕ → Option Cmd
-three_on_handles word a b = look_up word (
-    (codes "hget", two cmd.HGet (object_register_in a) (handle_register_in b))
-    ∷ (codes "hset", two cmd.HSet (handle_register_in a) (object_register_in b))
-    ∷ (codes "hsec", two cmd.HSec (handle_register_in a) (object_register_in b))
-    ∷ (codes "hdep", two cmd.HDep (object_register_in a) (handle_register_in b))
-    ∷ (codes "hvar", two cmd.HVar (handle_register_in a) (strength_of b))
-    ∷ (codes "hput", two cmd.HPut (number_of (REGISTERS - 1) a) (handle_register_in b))
-    ∷ (codes "hpick", two cmd.HPick (handle_register_in a) (number_of (REGISTERS - 1) b))
-    ∷ [])
-
--- a command of three words. No first word is in both tables.
 unfoldable pub three_words : List ℕ → List ℕ → List ℕ → Option Cmd
-three_words word a b = option_or (three_on_objects word a b) (three_on_handles word a b)
+three_words word a b = look_up word (commands_by (a ∷ b ∷ []))
 
--- a command of four words
 unfoldable pub four_words : List ℕ → List ℕ → List ℕ → List ℕ → Option Cmd
-four_words word a b c = look_up word (
-    (codes "new", three cmd.New (object_register_in a) (number_of FIELDS b) (fin_of c))
-    ∷ (codes "set", three cmd.Set (object_register_in a) (number_of 255 b) (object_register_in c))
-    ∷ (codes "get", three cmd.Get (object_register_in a) (object_register_in b) (number_of 255 c))
-    ∷ (codes "hnew", three cmd.HNew (handle_register_in a) (make_of b) (object_register_in c))
-    ∷ [])
+four_words word a b c =
+    if bytes_eq word (codes "hnew")
+    then three cmd.HNew (handle_register_in a) (make_of b) (object_register_in c)
+    else look_up word (commands_by (a ∷ b ∷ c ∷ []))
 
 -- `hnew hD var rT STRENGTH` and `hnew hD dep rT rS`
 unfoldable pub hnew_of : List ℕ → List ℕ → List ℕ → List ℕ → Option Cmd

@@ -2,6 +2,7 @@ pub mod Data
 pub mod Kinds
 pub mod Indexed
 pub mod State
+pub mod Rows
 pub mod Class
 pub mod Valid
 pub mod Touched

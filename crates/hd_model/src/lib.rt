@@ -11,7 +11,9 @@ mod held;
 mod journal;
 pub mod laws;
 pub mod limits;
+mod lists;
 mod marker;
+mod operand;
 mod steps;
 pub mod weak_laws;
 
@@ -23,5 +25,7 @@ pub use data::{
 pub use forward::Forward;
 pub use held::Held;
 pub use journal::Journal;
+pub use lists::filled;
 pub use marker::{Marker, PromotionLog, is_lost};
+pub use operand::Operand;
 pub use steps::Steps;

@@ -1,10 +1,5 @@
-pub mod LeastWalks
-pub mod RowSteps
-pub mod Depths
-pub mod PairRows
 pub mod NodeIndex
 pub mod LeastLinks
-pub mod NearestStarts
 pub mod GraphChains
 pub mod NumberedChains
 pub mod SeenLinks

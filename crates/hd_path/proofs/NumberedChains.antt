@@ -3,8 +3,9 @@ use Rattle.std.proofs.Common.{All, List, [], ap, arith, length, map, refl, subst
 use Rattle.std.proofs.lemmas.Bool.{cases_lt}
 use Rattle.std.proofs.lemmas.List.{length-map}
 use Rattle.std.proofs.lemmas.List.Elements.{All-cons, All-head, All-nil, All-tail}
-use Rattle.hd_path.specs.Chains.{HasNoChain, IsChain, IsLeastChain, IsNoGreater, IsWalk, arrived, less, none, onward, same}
+use Rattle.hd_path.specs.Chains.{HasNoChain, IsChain, IsLeastChain, IsNoGreater, less, none, same}
 use Rattle.hd_path.specs.Lines.{AreLines, last, more}
+use Rattle.hd_walk.specs.Chains.{IsWalk, arrived, onward}
 
 -- along a walk, lines of one sort give lines of another
 pub lines_up : (f : ℕ → ℕ) (L : ℕ → ℕ → Type 0) (P Q : ℕ → ℕ → List ℕ → Type 0) (goal x : ℕ)

@@ -8,7 +8,7 @@ use Rattle.std.proofs.lemmas.List.Folds.{drop_split}
 use Rattle.hd_model.specs.declared.data.Id.{Id}
 use Rattle.hd_model.specs.declared.data.Kind.TheVariants as kind
 use Rattle.hd_seen.specs.declared.SeenObject.{SeenObject}
-use Rattle.hd_path.specs.Cuts.{IsCut}
+use Rattle.hd_walk.specs.Cuts.{IsCut}
 use Rattle.hd_path.specs.Lines.{edge_line}
 use Rattle.hd_path.specs.Names.{AnchorIn, EdgeIn, IsLeastLink, LeastOf, LinksToNone}
 use Rattle.hd_path.specs.Searches.{IsStepLine}

@@ -17,7 +17,7 @@ use Rattle.hd_seen.specs.declared.Snapshot.{Snapshot}
 use Rattle.hd_path.specs.Chains.{HasNoChain, IsLeastChain}
 use Rattle.hd_path.specs.Graphs.{leads_in}
 use Rattle.hd_path.specs.Lines.{anchor_line, path_line}
-use Rattle.hd_path.specs.Links.{links_in}
+use Rattle.hd_path.specs.Links.{links_in, starts_in}
 use Rattle.hd_path.specs.Paths.{BeginsAt, IsAnchorName, IsEdgeLine, IsPathText, IsPictureOf, LeadsBy, WritesPath, chain, gone, named, unknown, unrooted}
 use Rattle.hd_path.specs.Searches.{IsSearchOf, IsStepLine, WritesChain, made_in, missing_word}
 use Rattle.hd_path.specs.declared.chains.Chain.{Chain}
@@ -56,14 +56,23 @@ module _ (seen : Snapshot) (search : Search) (is : IsSearchOf seen search) (s : 
       let down = edge_down seen s p look is.index i b low leads in
       (down.0, down.1, down.2, is.graph.all i down.0 down.3)
 
+  abbrev starts : List ℕ
+  starts = starts_in look seen.statics seen.queue.items (links_in seen.handles.items seen.entries.items)
+
   start : (i : ℕ) → S i → (i < nodes) × BeginsAt s (f i)
   start i has =
-      start_up seen s p look is.index i (subst (λ (l : List ℕ). Contains l i) is.graph.begins has)
+      start_up seen s p look is.index i
+      (Contains-permutation search.graph.starts.items starts i
+      (IsPermutation-sym starts search.graph.starts.items is.graph.begins) has)
 
   lifted : (b : ℕ) → BeginsAt s b → (i : ℕ) × (i < nodes) × (f i ≡ b) × S i
   lifted b begins =
-      let down = start_down seen s p look is.index b begins in
-      (down.0, down.1, down.2, subst (λ (l : List ℕ). Contains l down.0) (sym is.graph.begins) down.3)
+      let down = start_down seen s p look is.index b begins in (
+        down.0,
+        down.1,
+        down.2,
+        Contains-permutation starts search.graph.starts.items down.0 is.graph.begins down.3,
+      )
 
   rises : (i j : ℕ) → i < j → j < nodes → f i < f j
   rises = number_rises seen s p look is.index

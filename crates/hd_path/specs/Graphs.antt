@@ -1,35 +1,40 @@
--- Graphs as rows in both directions, with the nodes that chains begin at.
-use Rattle.std.specs.Prelude.{◌≡◌, ℕ, ◌<◌, List, All, Contains, Option, Some, None}
+-- Graphs as rows, with the nodes that chains begin at and what is found from them.
+use Rattle.std.specs.Prelude.{◌≡◌, ℕ, ◌<◌, [], ◌∷◌, List, All, AllPairs, Contains, Option, Some, None, reverse}
+use Rattle.std.specs.List.Sorted.{IsPermutation}
 use Rattle.hd_path.specs.Chains.{HasNoChain, IsLeastChain}
-use Rattle.hd_path.specs.Rows.{AreRows, LeadsTo}
+use Rattle.hd_walk.specs.Rows.{AreRows, IsNode, LeadsTo, in_order}
 use Rattle.hd_path.specs.declared.chains.Chain.{Chain}
 use Rattle.hd_path.specs.declared.chains.Graph.{Graph}
+use Rattle.hd_walk.specs.declared.trail.Found.{Found}
+use Rattle.hd_walk.specs.Trail.{IsReadBack, with_all}
+use Rattle.hd_walk.specs.Walk.{HasEnded}
 
-abbrev pub turned_edge : ℕ × ℕ → ℕ × ℕ
-turned_edge e = (e.1, e.0)
-
--- the edges, and the same from the other end
 abbrev pub leads_in : Graph → ℕ → ℕ → Type 0
-leads_in g = LeadsTo g.forward.places.items g.forward.targets.items
+leads_in g = LeadsTo g.rows.places.items g.rows.targets.items
 
-abbrev pub led_in : Graph → ℕ → ℕ → Type 0
-led_in g = LeadsTo g.backward.places.items g.backward.targets.items
+abbrev pub itself : ℕ → ℕ
+itself x = x
 
--- both directions have the same edges, of nodes
+-- rows of nodes, and all that is found from the starts, which rise
 pub record IsSound (g : Graph) : Type 0 where
-  pub forward : AreRows g.forward.places.items g.forward.targets.items g.nodes
-  pub backward : AreRows g.backward.places.items g.backward.targets.items g.nodes
-  pub turned : (x y : ℕ) → leads_in g x y → led_in g y x
-  pub turns : (x y : ℕ) → led_in g y x → leads_in g x y
-  pub starts : All (λ x. x < g.nodes) g.starts.items
+  pub rows : AreRows g.rows.places.items g.rows.targets.items g.rows.nodes
+  pub starts : All (λ x. x < g.rows.nodes) g.starts.items
+  pub ordered : AllPairs in_order g.starts.items
+  pub end : Option ℕ
+  pub ended : HasEnded (IsNode g.rows.places.items g.rows.targets.items g.rows.nodes) (leads_in g) in_order
+      None (with_all [] g.starts.items None) 0 g.trail end
 
 -- a graph with these edges and starts
 pub record IsGraph (nodes : ℕ) (edges : List (ℕ × ℕ)) (starts : List ℕ) (g : Graph) : Type 0 where
   pub sound : IsSound g
-  pub count : g.nodes ≡ nodes
+  pub count : g.rows.nodes ≡ nodes
   pub only : (x y : ℕ) → leads_in g x y → Contains edges (x, y)
   pub all : (x y : ℕ) → Contains edges (x, y) → leads_in g x y
-  pub begins : g.starts.items ≡ starts
+  pub begins : IsPermutation starts g.starts.items
+
+-- a chain is what is read back from a found node
+abbrev pub IsChainOf : List Found → ℕ → Chain → Type 0
+IsChainOf found last c = IsReadBack found (Some last) (reverse (c.first ∷ c.rest.items))
 
 -- what is found: the least of the shortest chains, or that there is none
 abbrev pub IsFoundChain : (ℕ → ℕ → Type 0) → (ℕ → Type 0) → ℕ → Option Chain → Type 0

@@ -1,12 +1,8 @@
 pub mod Chains
-pub mod Rows
 pub mod Nodes
-pub mod Cuts
-pub mod Pairs
 pub mod Links
 pub mod Names
 pub mod Sources
-pub mod Starts
 pub mod Graphs
 pub mod Lines
 pub mod Paths

@@ -1,75 +1,77 @@
 // The least of the shortest chains from a start to a goal.
-ghost use Rattle.std.specs.Prelude.{◌≡◌, ◌<◌, All, Contains, IfOk, map};
-ghost use Rattle.hd_path.specs.Graphs.{IsFoundChain, IsGraph, IsSound, leads_in, turned_edge};
+ghost use Rattle.std.specs.Prelude.{◌≡◌, ◌<◌, All, Contains, length, IfOk};
+ghost use Rattle.std.specs.List.Sorted.{IsPermutation, IsNonDecreasingBy};
+ghost use Rattle.hd_path.specs.Graphs.{IsChainOf, IsFoundChain, IsGraph, IsSound, leads_in, itself};
+ghost use Rattle.hd_walk.specs.Trail.{IsFalling};
 
-use crate::rows::{Rows, rows_of};
-use crate::search::{depths_of, walk_from};
-use crate::starts::nearest;
+use hd_walk::{Rows, Trail, read_back, rows_of, walk};
 use std::alloc::{AllocError, Global};
 
-/// Rows of what each node leads to and of what leads to it, and the starts.
+/// Rows of what each node leads to, the starts in rising order, and what is found from them.
 #[derive(Drop)]
 pub(crate) struct Graph {
-    pub(crate) nodes: usize,
-    pub(crate) forward: Rows,
-    pub(crate) backward: Rows,
-    pub(crate) starts: Vec<usize>,
+    pub(crate) rows: Rows,
+    pub(crate) starts: Vec<u64>,
+    pub(crate) trail: Trail,
 }
 
 /// A chain: a start, and the nodes after it.
 #[derive(Drop)]
 pub(crate) struct Chain {
-    pub(crate) first: usize,
-    pub(crate) rest: Vec<usize>,
+    pub(crate) first: u64,
+    pub(crate) rest: Vec<u64>,
 }
 
-/// The graph with these edges and starts.
+/// The graph with these edges and starts, and all that is found.
 pub(crate) fn graph_of(
     alloc: Global,
-    nodes: usize,
-    edges: Vec<(usize, usize)>,
-    starts: Vec<usize>,
+    nodes: u64,
+    edges: Vec<(u64, u64)>,
+    mut starts: Vec<u64>,
 ) -> Result<Graph, AllocError>
     requires edges { All (λ p. (p.0 < nodes) × (p.1 < nodes)) edges.items }
     requires starts { All (λ x. x < nodes) starts.items }
-    ensures { IfOk result (λ graph. IsGraph nodes edges.items starts.items graph) }
+    ensures { IfOk result (IsGraph nodes edges.items starts.items) }
 {
-    let turned = turned_of(alloc, &edges)?;
-    let forward = rows_of(alloc, edges, nodes)?;
-    let backward = rows_of(alloc, turned, nodes)?;
+    let rows = rows_of(alloc, edges, nodes)?;
+    sort(&mut starts);
+    let mut trail = Trail::open(alloc);
+    trail.add_all(&starts, None)?;
+    let _none = walk(alloc, &rows, &mut trail, 0, None)?;
     Ok(Graph {
-        nodes,
-        forward,
-        backward,
+        rows,
         starts,
+        trail,
     })
 }
 
-// The edges turned round.
-fn turned_of(alloc: Global, edges: &[(usize, usize)]) -> Result<Vec<(usize, usize)>, AllocError>
-    ensures { IfOk result (λ turned. turned.items ≡ map turned_edge edges.now) }
+// Puts nodes in order.
+fn sort(nodes: &mut Vec<u64>)
+    ensures permutation { IsPermutation nodes.old.items nodes.new.items }
+    ensures rising { IsNonDecreasingBy itself nodes.new.items }
 {
-    edges.iter().map(|edge| (edge.1, edge.0)).collect(alloc)
+    nodes.sort_unstable_by_key(|node| *node);
 }
 
 /// The least of the shortest chains to a goal, if there is one.
-pub(crate) fn chain_to(
-    alloc: Global,
-    graph: &Graph,
-    goal: usize,
-) -> Result<Option<Chain>, AllocError>
-    requires sound { IsSound graph.now }
-    requires goal { goal < graph.now.nodes }
+pub(crate) fn chain_to(alloc: Global, graph: &Graph, goal: u64) -> Result<Option<Chain>, AllocError>
+    requires { IsSound graph.now }
     ensures { IfOk result (λ found. IsFoundChain (leads_in graph.now)
         (Contains graph.now.starts.items) goal found) }
 {
-    let back = &graph.backward;
-    let depths = depths_of(alloc, &back.places, &back.targets, graph.nodes, goal)?;
-    let first = nearest(&graph.starts, &depths);
-    if first >= depths.len() {
-        return Ok(None);
+    match graph.trail.place(goal) {
+        Some(last) => Ok(Some(chain_of(alloc, &graph.trail, last)?)),
+        None => Ok(None),
     }
-    let forward = &graph.forward;
-    let rest = walk_from(alloc, &forward.places, &forward.targets, &depths, first)?;
-    Ok(Some(Chain { first, rest }))
+}
+
+// The chain by which a node was found.
+fn chain_of(alloc: Global, trail: &Trail, last: usize) -> Result<Chain, AllocError>
+    requires last { last < length trail.now }
+    requires falling { IsFalling trail.now }
+    ensures { IfOk result (IsChainOf trail.now last) }
+{
+    let mut rest = read_back(alloc, trail, last)?;
+    let first = rest.remove(0);
+    Ok(Chain { first, rest })
 }

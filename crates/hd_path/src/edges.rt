@@ -15,10 +15,10 @@ use std::collections::HashMap;
 /// The edges along fields and attachments.
 pub(crate) fn edges_of(
     alloc: Global,
-    index: &HashMap<u64, usize>,
+    index: &HashMap<u64, u64>,
     objects: &[SeenObject],
     links: &[Link],
-) -> Result<Vec<(usize, usize)>, AllocError>
+) -> Result<Vec<(u64, u64)>, AllocError>
     ensures { IfOk result (λ edges. edges.items ≡ edges_in (get nat_eq index.now) objects.now
         links.now) }
 {
@@ -30,9 +30,9 @@ pub(crate) fn edges_of(
 
 // Adds the edges along the fields of objects.
 fn add_objects(
-    index: &HashMap<u64, usize>,
+    index: &HashMap<u64, u64>,
     objects: &[SeenObject],
-    edges: &mut Vec<(usize, usize)>,
+    edges: &mut Vec<(u64, u64)>,
 ) -> Result<(), AllocError>
     ensures { IfOk result (λ _. edges.new.items
         ≡ edges.old.items ++ flat_map (object_edges (get nat_eq index.now)) objects.now) }
@@ -45,10 +45,10 @@ fn add_objects(
 
 // Adds an edge from an object to each of these.
 fn add_fields(
-    index: &HashMap<u64, usize>,
+    index: &HashMap<u64, u64>,
     from: Option<Id>,
     fields: &[Option<Id>],
-    edges: &mut Vec<(usize, usize)>,
+    edges: &mut Vec<(u64, u64)>,
 ) -> Result<(), AllocError>
     ensures { IfOk result (λ _. edges.new.items
         ≡ edges.old.items ++ edges_from (get nat_eq index.now) from fields.now) }
@@ -61,9 +61,9 @@ fn add_fields(
 
 // Adds the edges of attachments.
 fn add_links(
-    index: &HashMap<u64, usize>,
+    index: &HashMap<u64, u64>,
     links: &[Link],
-    edges: &mut Vec<(usize, usize)>,
+    edges: &mut Vec<(u64, u64)>,
 ) -> Result<(), AllocError>
     ensures { IfOk result (λ _. edges.new.items
         ≡ edges.old.items ++ flat_map (link_edges (get nat_eq index.now)) links.now) }
@@ -76,10 +76,10 @@ fn add_links(
 
 // Adds an edge, where both its ends are nodes.
 fn add_edge(
-    index: &HashMap<u64, usize>,
+    index: &HashMap<u64, u64>,
     from: Option<Id>,
     to: Option<Id>,
-    edges: &mut Vec<(usize, usize)>,
+    edges: &mut Vec<(u64, u64)>,
 ) -> Result<(), AllocError>
     ensures { IfOk result (λ _. edges.new.items
         ≡ edges.old.items ++ edge_at (get nat_eq index.now) from to) }
@@ -97,11 +97,11 @@ fn add_edge(
 /// The nodes of what statics reference, of what is queued, and of what handles hold.
 pub(crate) fn starts_of(
     alloc: Global,
-    index: &HashMap<u64, usize>,
+    index: &HashMap<u64, u64>,
     statics: &[Option<Id>],
     queue: &[Id],
     links: &[Link],
-) -> Result<Vec<usize>, AllocError>
+) -> Result<Vec<u64>, AllocError>
     ensures { IfOk result (λ starts. starts.items
         ≡ starts_in (get nat_eq index.now) statics.now queue.now links.now) }
 {
@@ -114,9 +114,9 @@ pub(crate) fn starts_of(
 
 // Adds the nodes of what statics reference.
 fn add_statics(
-    index: &HashMap<u64, usize>,
+    index: &HashMap<u64, u64>,
     statics: &[Option<Id>],
-    starts: &mut Vec<usize>,
+    starts: &mut Vec<u64>,
 ) -> Result<(), AllocError>
     ensures { IfOk result (λ _. starts.new.items
         ≡ starts.old.items ++ flat_map (start_at (get nat_eq index.now)) statics.now) }
@@ -129,9 +129,9 @@ fn add_statics(
 
 // Adds the nodes of what is queued.
 fn add_queue(
-    index: &HashMap<u64, usize>,
+    index: &HashMap<u64, u64>,
     queue: &[Id],
-    starts: &mut Vec<usize>,
+    starts: &mut Vec<u64>,
 ) -> Result<(), AllocError>
     ensures { IfOk result (λ _. starts.new.items
         ≡ starts.old.items ++ flat_map (queued_start (get nat_eq index.now)) queue.now) }
@@ -144,9 +144,9 @@ fn add_queue(
 
 // Adds the nodes of what handles hold.
 fn add_held(
-    index: &HashMap<u64, usize>,
+    index: &HashMap<u64, u64>,
     links: &[Link],
-    starts: &mut Vec<usize>,
+    starts: &mut Vec<u64>,
 ) -> Result<(), AllocError>
     ensures { IfOk result (λ _. starts.new.items
         ≡ starts.old.items ++ flat_map (held_start (get nat_eq index.now)) links.now) }
@@ -159,9 +159,9 @@ fn add_held(
 
 // Adds the node of an object, if it is one.
 fn add_start(
-    index: &HashMap<u64, usize>,
+    index: &HashMap<u64, u64>,
     id: Option<Id>,
-    starts: &mut Vec<usize>,
+    starts: &mut Vec<u64>,
 ) -> Result<(), AllocError>
     ensures { IfOk result (λ _. starts.new.items
         ≡ starts.old.items ++ start_at (get nat_eq index.now) id) }

@@ -8,10 +8,7 @@ mod links;
 mod names;
 mod nodes;
 mod paths;
-mod rows;
-mod search;
 mod sources;
-mod starts;
 mod text;
 mod words;
 

@@ -59,7 +59,7 @@ fn push_all(
 /// What is looked up for each object.
 #[derive(Drop)]
 pub(crate) struct Search {
-    pub(crate) index: HashMap<u64, usize>,
+    pub(crate) index: HashMap<u64, u64>,
     pub(crate) links: Vec<Link>,
     pub(crate) graph: Graph,
 }
@@ -73,7 +73,7 @@ fn search_of(alloc: Global, seen: &Snapshot) -> Result<Search, AllocError>
     let mut links = links_of(alloc, &seen.handles, &seen.entries)?;
     let edges = edges_of(alloc, &index, &seen.objects, &links)?;
     let starts = starts_of(alloc, &index, &seen.statics, &seen.queue, &links)?;
-    let graph = graph_of(alloc, ids.len(), edges, starts)?;
+    let graph = graph_of(alloc, ids.len() as u64, edges, starts)?;
     sort(&mut links);
     Ok(Search {
         index,
@@ -149,7 +149,7 @@ fn push_chain(
         text.new.items) }
 {
     push_length(text, id, chain.rest.len())?;
-    let first = seen.objects[chain.first].id;
+    let first = seen.objects[chain.first as usize].id;
     push_anchor(text, anchor_of(&seen.statics, links, first), first)?;
     push_edges(text, &seen.objects, links, chain)
 }
@@ -181,8 +181,8 @@ fn push_step(
     text: &mut Vec<u8>,
     objects: &[SeenObject],
     links: &[Link],
-    from: usize,
-    to: usize,
+    from: u64,
+    to: u64,
 ) -> Result<(), AllocError>
     requires from { from < length objects.now }
     requires to { to < length objects.now }
@@ -190,6 +190,8 @@ fn push_step(
     ensures { IfOk result (λ _. WritesEdge objects.now links.now from to text.old.items
         text.new.items) }
 {
+    let from = from as usize;
+    let to = to as usize;
     let source = &objects[from];
     let target = objects[to].id;
     match edge_of(&source.fields, links, source.id, target) {

@@ -1,7 +1,7 @@
 // Links in the order of their sources: those of one source are found without the others.
 ghost use Rattle.std.specs.Prelude.{◌≡◌, ◌+◌};
 ghost use Rattle.std.specs.List.Sorted.{IsPermutation, IsNonDecreasingBy};
-ghost use Rattle.hd_path.specs.Cuts.{IsCut};
+ghost use Rattle.hd_walk.specs.Cuts.{IsCut};
 ghost use Rattle.hd_path.specs.Sources.{IsPartFrom, source_number};
 
 use crate::links::Link;

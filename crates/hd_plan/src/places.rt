@@ -3,7 +3,7 @@ ghost use Rattle.hd_model.specs.Heap.{region_of};
 ghost use Rattle.hd_plan.specs.LaySteps.{first_at, place_among, spot_in};
 
 use hd_model::limits::REGION;
-use hd_model::{Addr, Memory};
+use hd_model::{Addr, Memory, filled};
 use std::alloc::Global;
 
 /// New addresses by old ones, found in constant time: each region that is listed has an entry for
@@ -39,10 +39,7 @@ impl Places {
         ensures firsts { IfOk result (λ p. p.firsts.items ≡ replicate end 0) }
         ensures cells { IfOk result (λ p. length p.cells.items ≡ REGION * regions) }
     {
-        let mut firsts = Vec::new(alloc);
-        if firsts.resize(end as usize, 0).is_err() {
-            return Err(Memory);
-        }
+        let firsts = filled(alloc, 0, end)?;
         let mut cells = Vec::new(alloc);
         // Which address they have at first does not matter: each is put before it is read.
         match cells.resize(REGION as usize * regions as usize, Addr(REGION)) {

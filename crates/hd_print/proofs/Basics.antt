@@ -8,8 +8,8 @@ pub use Rattle.std.proofs.lemmas.List.Sums.{AllPass-from_list_all, count_by-le-l
 pub use Rattle.std.specs.List.{before_first, concat, join_with_byte, list_all, position_or_len, slice_split}
 pub use Rattle.std.specs.Prelude.{codes, decimal}
 pub use Rattle.hd_io.specs.Sink.{SinkView, Took, WriteBrokeOff}
-pub use Rattle.hd_model.specs.CommandText.{command_text, command_words, extra_words, handle_word, kind_name, object_word, strength_word}
-pub use Rattle.hd_model.specs.Grammar.{Reading, command, first_fault, handle_register_in, is_blank, is_hash, is_line_end, object_register_in, one, script_of, three, two, unless_fault, without_empty_last, words_of}
+pub use Rattle.hd_model.specs.CommandText.{command_text, command_words, handle_word, kind_name, object_word, strength_word}
+pub use Rattle.hd_model.specs.Grammar.{Reading, command, first_fault, handle_register_in, is_blank, is_hash, is_line_end, object_register_in, script_of, three, unless_fault, without_empty_last, words_of}
 pub use Rattle.hd_model.specs.Text.{entry_text, lines_of, numbered_after}
 pub use Rattle.hd_model.specs.declared.data.Entry.{Entry}
 pub use Rattle.hd_print.specs.Operand.{operand_word}

@@ -97,61 +97,16 @@ refusal_are EmptyRegister small = one_word (codes "empty") refl
 refusal_are CountZero small = one_word (codes "countzero") refl
 refusal_are Present small = one_word (codes "present") refl
 
--- words, each before its number
-abbrev labelled : List (List ℕ × ℕ) → List (List ℕ)
-labelled [] = []
-labelled (row ∷ rows) = row.0 ∷ decimal row.1 ∷ labelled rows
-
-abbrev AreLabelled : List (List ℕ × ℕ) → Type 0
-AreLabelled [] = Unit {0}
-AreLabelled (row ∷ rows) =
-    ((ltb 0 (length row.0) && list_all is_high row.0) ≡ true) × (IsSmall row.1 × AreLabelled rows)
-
-labelled_are : (rows : List (List ℕ × ℕ)) → AreLabelled rows → AreWords (labelled rows)
-labelled_are [] are = tt
-labelled_are (row ∷ rows) are =
-    (literal row.0 are.0, (numeral row.1 are.1.0, labelled_are rows are.1.1))
+-- a word and its number, before others
+labelled : {Others : Type 0} (text : List ℕ) → (ltb 0 (length text) && list_all is_high text) ≡ true → (n : ℕ)
+    → IsSmall n → Others → IsWord text × (IsWord (decimal n) × Others)
+labelled text is n small others = (literal text is, (numeral n small, others))
 
 report_are : (r : CollectionReport) → IsSmallReply (Report r) → AreWords (reply_words (Report r))
 report_are r small =
-    labelled_are ((codes "kept", r.kept) ∷ (codes "removed", r.removed) ∷ (codes "short", r.short)
-    ∷ (codes "long", r.long) ∷ (codes "dep", r.dep) ∷ (codes "revived", r.revived) ∷ []) (
-      refl,
-      (
-        small.0,
-        (
-          refl,
-          (
-            small.1,
-            (
-              refl,
-              (
-                small.2,
-                (
-                  refl,
-                  (
-                    small.3,
-                    (
-                      refl,
-                      (
-                        small.4,
-                        (
-                          refl,
-                          (
-                            small.5,
-                            tt,
-                          ),
-                        ),
-                      ),
-                    ),
-                  ),
-                ),
-              ),
-            ),
-          ),
-        ),
-      ),
-    )
+    labelled (codes "kept") refl r.kept small.0 (labelled (codes "removed") refl r.removed small.1
+    (labelled (codes "short") refl r.short small.2 (labelled (codes "long") refl r.long small.3
+    (labelled (codes "dep") refl r.dep small.4 (labelled (codes "revived") refl r.revived small.5 tt)))))
 
 reply_are : (reply : Reply) → IsSmallReply reply → AreWords (reply_words reply)
 reply_are Done small = one_word (codes "ok") refl

@@ -12,13 +12,19 @@ use Rattle.hd_model.specs.declared.data.Refusal.TheVariants.{Null, BadField, Hea
 use Rattle.hd_model.specs.declared.data.Reply.TheVariants.{Done, Object, Nothing, Value, Generation, Place, Report, NoneQueued, Absent, Chain, Unrooted, Refused}
 use Rattle.hd_model.specs.Text.{entry_text, numbered_after}
 use Rattle.hd_model.specs.FullText.{full_line}
+use Rattle.hd_print.specs.declared.entries.Form.{Form}
+use Rattle.hd_print.specs.declared.entries.Form.TheVariants.{Plain, Full}
 
-abbrev pub line_by : Bool → Entry → ℕ → List ℕ
-line_by false = entry_text
-line_by true = full_line
+abbrev pub form_of : Bool → Form
+form_of false = Plain
+form_of true = Full
 
-abbrev pub lines_by : Bool → List Entry → List ℕ
-lines_by full journal = concat (numbered_after (line_by full) [] journal)
+abbrev pub line_by : Form → Entry → ℕ → List ℕ
+line_by Plain = entry_text
+line_by Full = full_line
+
+abbrev pub lines_by : Form → List Entry → List ℕ
+lines_by form journal = concat (numbered_after (line_by form) [] journal)
 
 -- a number of at most 64 bits
 abbrev pub IsSmall : ℕ → Type 0

@@ -159,8 +159,8 @@ fn push_operand(line: &mut Line, operand: Operand)
     }
 }
 
-// The word for a strength.
-fn strength_name(strength: Strength) -> &'static str
+/// The word for a strength of a variable handle.
+pub fn strength_name(strength: Strength) -> &'static str
     ensures word { result.now ≡ strength_word strength }
     ensures short { length result.now ≤ 6 }
 {

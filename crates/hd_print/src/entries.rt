@@ -4,7 +4,7 @@ ghost use Rattle.std.specs.List.{concat};
 ghost use Rattle.hd_io.specs.Sink.{Took, WriteBrokeOff};
 ghost use Rattle.hd_model.specs.Text.{entry_text, lines_of};
 ghost use Rattle.hd_model.specs.FullText.{slot_text, growth_text, full_line, full_lines};
-ghost use Rattle.hd_print.specs.EntryLines.{line_by, lines_by};
+ghost use Rattle.hd_print.specs.EntryLines.{form_of, line_by, lines_by};
 
 use crate::line::Line;
 use crate::reply::push_reply;
@@ -20,6 +20,24 @@ const LONGEST_SLOT: usize = 12;
 
 // The bytes of the longest growth: a blank, its mark and two numbers of ten digits with a comma.
 const LONGEST_GROWTH: usize = 23;
+
+/// How entries are written.
+#[derive(Clone, Copy, Debug, PartialEq, Eq)]
+pub enum Form {
+    /// With their replies.
+    Plain,
+    /// With their slots and blocks too.
+    Full,
+}
+
+impl Form {
+    /// Full or plain.
+    pub fn of(full: bool) -> Form
+        ensures { result ≡ form_of full }
+    {
+        if full { Form::Full } else { Form::Plain }
+    }
+}
 
 /// The line of an entry: its caller, its number among that caller's entries, and its reply.
 pub fn entry_line(entry: Entry, number: u32) -> Line
@@ -39,18 +57,17 @@ pub fn full_line(entry: Entry, number: u32) -> Line
     line
 }
 
-// Makes a line that of an entry, plain or full.
-fn set_line(line: &mut Line, entry: Entry, number: u32, full: bool)
-    ensures { line.new ≡ line_by full entry number }
+// Makes a line that of an entry.
+fn set_line(line: &mut Line, entry: Entry, number: u32, form: Form)
+    ensures { line.new ≡ line_by form entry number }
 {
-    if full {
-        set_full(line, entry, number);
-    } else {
-        set_entry(line, entry, number);
+    match form {
+        Form::Plain => set_entry(line, entry, number),
+        Form::Full => set_full(line, entry, number),
     }
 }
 
-// Makes a line that of an entry.
+// Makes a line the plain one of an entry.
 fn set_entry(line: &mut Line, entry: Entry, number: u32)
     ensures { line.new ≡ entry_text entry number }
 {
@@ -154,7 +171,7 @@ pub fn write_entries<K: Sink>(journal: &Journal, sink: &mut K) -> Result<(), Fai
     ensures broke_off { OnErr result
         (WriteBrokeOff (K.seen sink.old) (K.seen sink.new) (lines_of journal.now.entries)) }
 {
-    write_lines(journal, false, sink)
+    write_lines(journal, Form::Plain, sink)
 }
 
 /// Writes the full line of each entry, as `write_entries` writes the plain one.
@@ -165,23 +182,23 @@ pub fn write_full<K: Sink>(journal: &Journal, sink: &mut K) -> Result<(), Failed
     ensures broke_off { OnErr result (WriteBrokeOff (K.seen sink.old) (K.seen sink.new)
         (concat (full_lines journal.now.entries))) }
 {
-    write_lines(journal, true, sink)
+    write_lines(journal, Form::Full, sink)
 }
 
-// Writes the line of each entry, plain or full.
-fn write_lines<K: Sink>(journal: &Journal, full: bool, sink: &mut K) -> Result<(), Failed>
+/// Writes the line of each entry in a form, as `write_entries` writes the plain one.
+pub fn write_lines<K: Sink>(journal: &Journal, form: Form, sink: &mut K) -> Result<(), Failed>
     requires { All (λ e. e.caller < CALLERS) journal.now.entries }
     ensures all { OnOk result
-        (Took (K.seen sink.old) (K.seen sink.new) (lines_by full journal.now.entries)) }
+        (Took (K.seen sink.old) (K.seen sink.new) (lines_by form journal.now.entries)) }
     ensures broke_off { OnErr result
-        (WriteBrokeOff (K.seen sink.old) (K.seen sink.new) (lines_by full journal.now.entries)) }
+        (WriteBrokeOff (K.seen sink.old) (K.seen sink.new) (lines_by form journal.now.entries)) }
 {
     let mut counts = [0; COUNTS];
     let mut line = Line::new();
     for i in 0..journal.len() {
         let entry = journal.entry(i);
         let number = count_entry(&mut counts, entry.caller);
-        set_line(&mut line, entry, number, full);
+        set_line(&mut line, entry, number, form);
         write_all(sink, line.as_bytes())?;
     }
     Ok(())

@@ -1,12 +1,6 @@
-pub mod Slices
-pub mod TrailKeys
-pub mod TrailGrowth
-pub mod TrailRoom
-pub mod SearchSteps
-pub mod SearchStart
-pub mod SearchEnd
-pub mod SearchLoop
 pub mod LinkLists
 pub mod LinkRows
-pub mod FieldWalks
-pub mod AnchorOrder
+pub mod TargetLists
+pub mod AnchorStarts
+pub mod ChainRoom
+pub mod SearchEnd

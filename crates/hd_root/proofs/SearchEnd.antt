@@ -1,175 +1,106 @@
--- What a search that ended has found: the keys of the found objects are those of the least chains.
-use Rattle.std.proofs.Common.{◌≡◌, ℕ, suc, ◌+◌, ◌*◌, ◌^◌, ◌<◌, ◌≤◌, List, [], ◌∷◌, ◌++◌, length, Option, Some, None, MatchOption, Contains, refl, sym, ap, ◌∙◌, subst, arith, ⊎_elim, inl, inr, ◌⊎◌}
-use Rattle.std.specs.Prelude.{slice_get, reverse}
-use Rattle.std.proofs.lemmas.Bool.{cases_lt}
-use Rattle.std.proofs.lemmas.List.{length-reverse, reverse-append, reverse-reverse}
-use Rattle.std.proofs.lemmas.Option.{none-some, same_Some, slice_get_within}
+-- Where a walk from the anchors ends, its chain is a shortest one, from the least anchor.
+use Rattle.std.proofs.Common.{◌≡◌, ℕ, ◌<◌, ◌≤◌, List, [], ◌∷◌, length, map, Option, Some, None, MatchOption, Contains, refl, sym, ap, ◌∙◌, subst, arith, ⊎_elim, eq-eqb, eqb-true}
+use Rattle.std.specs.Prelude.{slice_get}
+use Rattle.std.proofs.lemmas.Bool.{true≢false, cases_lt}
+use Rattle.std.proofs.lemmas.List.{length-map, reverse-reverse}
+use Rattle.std.proofs.lemmas.Option.{slice_get_within}
 use Rattle.hd_model.specs.declared.data.Addr.{Addr}
-use Rattle.hd_model.specs.Anchors.{LeadsIn, IsUnrooted}
+use Rattle.hd_model.specs.Anchors.{IsUnrooted}
 use Rattle.hd_model.specs.Heap.{Heap}
 use Rattle.hd_model.specs.Table.{Table}
-use Rattle.hd_model.proofs.AnchorChains.{some_edges}
-use Rattle.hd_root.specs.declared.trail.Found.{Found}
-use Rattle.hd_root.specs.Chain.{IsPath, IsLeastChain}
-use Rattle.hd_root.specs.Trail.{IsReadBack}
-use Rattle.hd_root.specs.Search.{EdgeIn, number, key_at, IsAnchored, IsReached, IsWithin, IsSearching, IsEnded, IsNotTaken}
-use Rattle.hd_root.proofs.SearchSteps.{within_up}
+use Rattle.hd_root.specs.declared.dependents.Link.{Link}
+use Rattle.hd_root.specs.Anchors.{AreStarts}
+use Rattle.hd_root.specs.Chain.{IsPath, IsLeastChain, IsChainOf}
+use Rattle.hd_root.specs.Search.{AreObjects, EdgeBy, EdgeIn, IsNode, address, in_any_order, number}
+use Rattle.hd_walk.specs.declared.trail.Found.{Found}
+use Rattle.hd_walk.specs.Chains.{IsLeast, IsWalk}
+use Rattle.hd_walk.specs.Trail.{IsFalling, with_all}
+use Rattle.hd_walk.specs.Walk.{AreNodes, HasEnded, IsAtGoal}
+use Rattle.hd_walk.proofs.NamedChains.{shortest_of, unrooted_of}
+use Rattle.hd_walk.proofs.TrailAdds.{added_to}
+use Rattle.hd_walk.proofs.WalkChains.{least_found, never_found, read_trace}
+use Rattle.hd_walk.proofs.WalkTurns.{IsBreadthFirst, breadth_falls, breadth_start, breadth_walked, walked_past}
 
--- one object more at the end of a chain
-path_push : {N : Type 0} {E : N → N → Type 0} {x y z : N} {path : List N} → IsPath E x path y → E y z
-    → IsPath E x (path ++ z ∷ []) z
-path_push IsPath.one e = IsPath.more e IsPath.one
-path_push (IsPath.more first path) e = IsPath.more first (path_push path e)
+module _ (h : Heap) (t : Table) where
+  -- a chain of nodes as one of their objects
+  path_of : {goal x : ℕ} {xs : List ℕ} → IsWalk (EdgeBy h t) goal x xs
+      → IsPath (EdgeIn h t) (address x) (map address (x ∷ xs)) (address goal)
+  path_of IsWalk.arrived = IsPath.one
+  path_of (IsWalk.onward edge walk) = IsPath.more edge (path_of walk)
 
-nothing_read : {found : List Found} {o : Option ℕ} {back : List Addr} → IsReadBack found o back → o ≡ None
-    → back ≡ []
-nothing_read IsReadBack.start e = refl
-nothing_read (IsReadBack.step {i = i} x at rest) e = absurd (none-some i (sym e))
+  module _ {links : List Link} {anchors : List Addr} {starts : List ℕ} (s : AreStarts h anchors starts)
+      {goal : Addr} {old found : List Found} {end : Option ℕ} {to : ℕ}
+      (begins : old ≡ with_all [] starts None) (is_goal : to ≡ goal.0)
+      (ended : HasEnded (IsNode h t links) (EdgeBy h t) in_any_order (Some to) old 0 found end) where
+    e : HasEnded (IsNode h t links) (EdgeBy h t) in_any_order (Some goal.0) old 0 found end
+    e =
+        subst (λ n. HasEnded (IsNode h t links) (EdgeBy h t) in_any_order (Some n) old 0 found end) is_goal
+        ended
 
-module _ (h : Heap) (t : Table) (anchors : List Addr) (found : List Found) (taken : ℕ)
-    (s : IsSearching h t anchors found taken) where
-  -- an object to which a chain leads from an anchor is found, with the key of the chain at most, or the
-  -- search has not yet come so far
-  abbrev Come : Addr → ℕ → Type 0
-  Come y bound = IsWithin h found y bound ⊎ ((taken < length found) × (key_at h found taken ≤ bound))
+    abbrev First : ℕ → ℕ → Type 0
+    First x y = number h (address x) ≤ number h (address y)
 
-  come_up : {y : Addr} (b c : ℕ) → Come y b → b ≤ c → Come y c
-  come_up b c come le = ⊎_elim (λ w. inl (within_up h b c w le)) (λ r. inr (r.0, omega arith)) come
+    abbrev Start : ℕ → Type 0
+    Start x = Contains anchors (address x)
 
-  come_step : {x y : Addr} {b : ℕ} → EdgeIn h t x y → Come x b → Come y (b + 2 ^ 64)
-  come_step {x = x} {y = y} {b = b} e =
-      ⊎_elim
-      (λ (w : IsWithin h found x b). let near = w.near in
-      ⊎_elim
-      (λ lt. inl (within_up h (key_at h found w.index + 2 ^ 64) (b + 2 ^ 64)
-      (s.followed w.index w.one y lt w.is_one (subst (λ z. EdgeIn h t z y) (sym w.at_is) e)) (omega arith)))
-      (λ ge. let l = slice_get_within found w.index w.one w.is_one in
-      let r = s.rising taken w.index ge l in inr (omega arith, omega arith))
-      (cases_lt w.index taken))
-      (λ r. inr (r.0, omega arith))
+    walked : IsBreadthFirst (EdgeBy h t) Start First in_any_order found e.turn
+    walked =
+        breadth_walked in_any_order (EdgeBy h t) Start First in_any_order (λ x y o apart. tt)
+        (breadth_start First (EdgeBy h t) Start First in_any_order (λ x y o apart. o) starts old
+        (added_to First None begins s.rising) s.all s.only) e.walked
 
-  come : {k : ℕ} {a y : Addr} → Contains anchors a → LeadsIn (EdgeIn h t) k a y
-      → Come y (number h a + 2 ^ 64 * k)
-  come {a = a} has LeadsIn.start =
-      come_up (number h a) (number h a + 2 ^ 64 * 0) (inl (s.entered a has)) (omega arith)
-  come {a = a} has (LeadsIn.step {k = k} chain e) =
-      come_up (number h a + 2 ^ 64 * k + 2 ^ 64) (number h a + 2 ^ 64 * suc k) (come_step e (come has chain))
-      (omega arith)
+    pub ended_falls : IsFalling found
+    ended_falls = breadth_falls walked
 
-  -- what is read back from a found object is a chain of its key
-  record Traced (i : ℕ) (back : List Addr) : Type 0 where
-    one : Found
-    is_one : slice_get found i ≡ Some one
-    from : Addr
-    edges : ℕ
-    anchor : Contains anchors from
-    path : IsPath (EdgeIn h t) from (reverse back) one.at
-    chain : LeadsIn (EdgeIn h t) edges from one.at
-    size : length back ≡ edges + 1
-    key : key_at h found i ≡ number h from + 2 ^ 64 * edges
+    -- what was visited is not the goal
+    past : (i : ℕ) (x : Found) → i < e.turn → slice_get found i ≡ Some x → x.at ≡ goal.0 → ⊥
+    past i x below at same =
+        true≢false (sym (eq-eqb goal.0 x.at (sym same)) ∙ walked_past e.walked i x (omega arith) below at)
 
-  reversed : (x : Addr) (back : List Addr) → reverse (x ∷ back) ≡ reverse back ++ x ∷ []
-  reversed x back = reverse-append (x ∷ []) back
+    module _ (last : ℕ) (is : end ≡ Some last) where
+      at_goal : IsAtGoal (Some goal.0) found e.turn last
+      at_goal =
+          subst (λ o. MatchOption o (e.turn ≡ length found) (IsAtGoal (Some goal.0) found e.turn)) is e.ends
 
-  traced_anchor : (i : ℕ) (x : Found) → slice_get found i ≡ Some x → IsAnchored h anchors found i x.at
-      → Traced i (x.at ∷ [])
-  traced_anchor i x at a = record {
-    one = x;
-    is_one = at;
-    from = x.at;
-    edges = 0;
-    anchor = a.anchor;
-    path = IsPath.one;
-    chain = LeadsIn.start;
-    size = refl;
-    key = let k = a.key in omega arith;
-  }
+      pub ended_inside : last < length found
+      ended_inside = slice_get_within found last at_goal.one at_goal.is_one
 
-  traced_more : (i j : ℕ) (x : Found) (back : List Addr) → slice_get found i ≡ Some x
-      → IsReached h t found i x.at j → Traced j back → Traced i (x.at ∷ back)
-  traced_more i j x back at r d =
-      let same : r.before ≡ d.one = same_Some r.before d.one (sym r.is_before ∙ d.is_one) in
-      let edge : EdgeIn h t d.one.at x.at =
-      subst (λ (z : Found). EdgeIn h t z.at x.at) same r.edge in record {
-        one = x;
-        is_one = at;
-        from = d.from;
-        edges = suc d.edges;
-        anchor = d.anchor;
-        path =
-            subst (λ p. IsPath (EdgeIn h t) d.from p x.at) (sym (reversed x.at back)) (path_push d.path edge);
-        chain = LeadsIn.step d.chain edge;
-        size = let z = d.size in omega arith;
-        key = let k = r.key in let m = d.key in omega arith;
-      }
+      pub ended_least : (chain : List Addr) → IsChainOf found last chain
+          → IsLeastChain (EdgeIn h t) (Contains anchors) (number h) goal chain
+      ended_least chain c =
+          let d = read_trace c.back last refl in
+          let first = d.trace.first in
+          let rest = d.trace.rest in
+          let nodes : c.nodes ≡ first ∷ rest = sym (reverse-reverse c.nodes) ∙ d.is in
+          let path : chain ≡ map address (first ∷ rest) = c.are ∙ ap (map address) nodes in
+          let least : IsLeast (EdgeBy h t) Start First in_any_order goal.0 first rest =
+          least_found walked (λ x y z a b. let l : First x z = omega (arith, a, b) in l) (λ x y z a b. tt)
+          at_goal.one
+          at_goal.is_one (sym (eqb-true goal.0 at_goal.one.at at_goal.at_goal))
+          (λ i x at same. ⊎_elim
+          (λ below. absurd (past i x (let e = at_goal.turn_is in omega arith) at same)) (λ ge. ge)
+          (cases_lt i last))
+          (let e = at_goal.turn_is in omega arith) d.trace.traced in record {
+            from = address first;
+            edges = length rest;
+            path = subst (λ xs. IsPath (EdgeIn h t) (address first) xs goal) (sym path) (path_of least.walk);
+            size = let l = ap length path ∙ length-map (first ∷ rest) address in omega (arith, l);
+            shortest =
+                shortest_of (EdgeIn h t) address (λ (a : Addr). a.0) (λ a. refl) (Contains anchors) (number h)
+                (λ x y o. o) least;
+          }
 
-  traced : {o : Option ℕ} {back : List Addr} → IsReadBack found o back → (i : ℕ) → o ≡ Some i → Traced i back
-  traced IsReadBack.start i e = absurd (none-some i e)
-  traced (IsReadBack.step {i = j} {rest = rest} x at more) i e =
-      subst (λ k. Traced k (x.at ∷ rest)) (same_Some j i e) (by x.before refl (traced more))
-    where
-      by : (o : Option ℕ) → x.before ≡ o → ((k : ℕ) → x.before ≡ Some k → Traced k rest)
-          → Traced j (x.at ∷ rest)
-      by None b earlier =
-          subst (λ back. Traced j (x.at ∷ back)) (sym (nothing_read more b))
-          (traced_anchor j x at
-          (subst (λ p. MatchOption p (IsAnchored h anchors found j x.at) (IsReached h t found j x.at)) b
-          (s.steps j x at)))
-      by (Some k) b earlier =
-          traced_more j k x rest at
-          (subst (λ p. MatchOption p (IsAnchored h anchors found j x.at) (IsReached h t found j x.at)) b
-          (s.steps j x at))
-          (earlier k b)
+    pub ended_unrooted : end ≡ None → IsUnrooted (EdgeIn h t) (Contains anchors) goal
+    ended_unrooted is =
+        let all : e.turn ≡ length found =
+        subst (λ o. MatchOption o (e.turn ≡ length found) (IsAtGoal (Some goal.0) found e.turn)) is e.ends in
+        unrooted_of (EdgeIn h t) address (λ (a : Addr). a.0) (λ a. refl) (Contains anchors)
+        (λ x xs start walk.
+        never_found walked (λ x y z a b. let l : First x z = omega (arith, a, b) in l) (λ x y z a b. tt) all
+        (λ i y at same.
+        past i y (let l = slice_get_within found i y at in omega arith) at same) start walk)
 
-  -- no chain leads from an anchor to the goal, where all is taken and the goal is not among it
-  pub never_found : (goal : Addr) → taken ≡ length found → IsNotTaken found goal taken
-      → IsUnrooted (EdgeIn h t) (Contains anchors) goal
-  never_found goal all not_taken a has leads =
-      let (k, chain) = some_edges leads in
-      ⊎_elim
-      (λ (w : IsWithin h found goal (number h a + 2 ^ 64 * k)).
-      let l = slice_get_within found w.index w.one w.is_one in
-      not_taken w.index w.one (omega arith) w.is_one w.at_is)
-      (λ r. let l = r.0 in omega arith)
-      (come has chain)
-
-  -- a chain from an anchor to the goal has the key of the goal at least, where the search is at the goal
-  goal_first : (goal : Addr) → IsNotTaken found goal taken → (k : ℕ) (a : Addr) → Contains anchors a
-      → LeadsIn (EdgeIn h t) k a goal → key_at h found taken ≤ number h a + 2 ^ 64 * k
-  goal_first goal not_taken k a has chain =
-      ⊎_elim
-      (λ (w : IsWithin h found goal (number h a + 2 ^ 64 * k)). let near = w.near in
-      let l = slice_get_within found w.index w.one w.is_one in
-      ⊎_elim (λ lt. absurd (not_taken w.index w.one lt w.is_one w.at_is))
-      (λ ge. let r = s.rising taken w.index ge l in omega arith)
-      (cases_lt w.index taken))
-      (λ r. r.1)
-      (come has chain)
-
-  pub least_found : (goal : Addr) (one : Found) → slice_get found taken ≡ Some one → one.at ≡ goal
-      → IsNotTaken found goal taken → (chain : List Addr) → IsReadBack found (Some taken) (reverse chain)
-      → IsLeastChain (EdgeIn h t) (Contains anchors) (number h) goal chain
-  least_found goal one is at not_taken chain back =
-      let d = traced back taken refl in
-      let here : d.one.at ≡ goal = ap (λ (x : Found). x.at) (same_Some d.one one (sym d.is_one ∙ is)) ∙ at in
-      let key = d.key in
-      let first = goal_first goal not_taken in record {
-        from = d.from;
-        edges = d.edges;
-        path =
-            subst (λ z. IsPath (EdgeIn h t) d.from chain z) here
-            (subst (λ p. IsPath (EdgeIn h t) d.from p d.one.at) (reverse-reverse chain) d.path);
-        size = let z = d.size in let r = length-reverse chain in omega arith;
-        shortest = record {
-          anchor = d.anchor;
-          chain = subst (λ z. LeadsIn (EdgeIn h t) d.edges d.from z) here d.chain;
-          shortest = λ other k has c.
-              let f = first k other has c in let b = s.small other has in omega arith;
-          least = λ other has c. let f = first d.edges other has c in omega arith;
-        };
-      }
-
-pub ended_at : {h : Heap} {t : Table} {anchors : List Addr} {found : List Found} {goal : Addr}
-    {o p : Option ℕ} → o ≡ p → IsEnded h t anchors found goal o → IsEnded h t anchors found goal p
-ended_at {h = h} {t = t} {anchors = anchors} {found = found} {goal = goal} e ended =
-    subst (λ r. IsEnded h t anchors found goal r) e ended
+-- nodes are objects
+pub node_objects : {h : Heap} {t : Table} {links : List Link} (found : List Found)
+    → AreNodes (IsNode h t links) found → AreObjects h found
+node_objects found nodes i x at = (nodes i x at).object

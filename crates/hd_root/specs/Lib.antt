@@ -1,5 +1,4 @@
 pub mod Links
-pub mod Trail
 pub mod Search
 pub mod Anchors
 pub mod Chain

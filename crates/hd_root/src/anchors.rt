@@ -1,14 +1,14 @@
 // The anchors of a search, in rising identity.
 
-ghost use Rattle.std.specs.Prelude.{◌≡◌, ◌<◌, ◌^◌, true, map, All, Contains, IfOk};
+ghost use Rattle.std.specs.Prelude.{◌≡◌, true, map, Contains, IfOk};
 ghost use Rattle.std.specs.List.Sorted.{IsPermutation, IsNonDecreasingBy};
 ghost use Rattle.hd_model.specs.declared.data.Addr.{Addr as AddrValue};
 ghost use Rattle.hd_model.specs.Heap.{has_object};
-ghost use Rattle.hd_root.specs.Anchors.{AreListed, anchor_of, id_of};
+ghost use Rattle.hd_root.specs.Anchors.{AreStarts, anchor_of, id_of, node_of};
 
 use hd_heap::Heap;
-use hd_model::{Addr, Memory};
-use std::alloc::Global;
+use hd_model::Addr;
+use std::alloc::{AllocError, Global};
 
 /// An anchor by its identity and its address.
 #[derive(Clone, Copy)]
@@ -17,29 +17,26 @@ pub(crate) struct Anchor {
     pub(crate) at: Addr,
 }
 
-/// The anchors in rising identity.
+/// The nodes of the anchors, in rising identity.
 pub(crate) fn by_identity(
     alloc: Global,
     heap: &Heap,
     anchors: &[Addr],
-) -> Result<Vec<Anchor>, Memory>
+) -> Result<Vec<u64>, AllocError>
     requires { (a : AddrValue) → Contains anchors.now a → has_object heap.now a ≡ true }
-    ensures { IfOk result (λ listed. AreListed heap.now anchors.now listed.items) }
+    ensures { IfOk result (λ starts. AreStarts heap.now anchors.now starts.items) }
 {
     let mut listed = identified(alloc, heap, anchors)?;
     sort(&mut listed);
-    Ok(listed)
+    nodes_of(alloc, &listed)
 }
 
 // The anchors with their identities, as they come.
-fn identified(alloc: Global, heap: &Heap, anchors: &[Addr]) -> Result<Vec<Anchor>, Memory>
+fn identified(alloc: Global, heap: &Heap, anchors: &[Addr]) -> Result<Vec<Anchor>, AllocError>
     requires { (a : AddrValue) → Contains anchors.now a → has_object heap.now a ≡ true }
-    ensures items { IfOk result (λ listed. listed.items ≡ map (anchor_of heap.now) anchors.now) }
-    ensures small { IfOk result (λ listed. All (λ x. x.id < 2 ^ 64) listed.items) }
+    ensures { IfOk result (λ listed. listed.items ≡ map (anchor_of heap.now) anchors.now) }
 {
-    let Ok(mut listed) = Vec::with_capacity(alloc, anchors.len()) else {
-        return Err(Memory);
-    };
+    let mut listed = Vec::with_capacity(alloc, anchors.len())?;
     for at in anchors {
         let id = heap.id(*at).0;
         listed.push_reserved(Anchor { id, at: *at });
@@ -53,4 +50,14 @@ fn sort(listed: &mut Vec<Anchor>)
     ensures rising { IsNonDecreasingBy id_of listed.new.items }
 {
     listed.sort_unstable_by_key(|anchor| anchor.id);
+}
+
+// Their nodes, in their order.
+fn nodes_of(alloc: Global, listed: &[Anchor]) -> Result<Vec<u64>, AllocError>
+    ensures { IfOk result (λ nodes. nodes.items ≡ map node_of listed.now) }
+{
+    listed
+        .iter()
+        .map(|anchor| u64::from(anchor.at.0))
+        .collect(alloc)
 }

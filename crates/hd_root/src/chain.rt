@@ -1,26 +1,31 @@
-ghost use Rattle.std.specs.Prelude.{◌≡◌, ◌+◌, ◌<◌, ◌≤◌, length, reverse, slice_get, Some, IfOk};
-ghost use Rattle.hd_root.specs.Trail.{IsFalling, IsReadBack};
+ghost use Rattle.std.specs.Prelude.{◌≡◌, ◌<◌, length, slice_get, Some, IfOk};
+ghost use Rattle.hd_root.specs.Chain.{IsChainOf};
+ghost use Rattle.hd_root.specs.Search.{AreObjects};
+ghost use Rattle.hd_walk.specs.Trail.{IsFalling};
 
-use crate::trail::Trail;
-use hd_model::{Addr, Memory};
-use std::alloc::Global;
+use hd_heap::Heap;
+use hd_model::Addr;
+use hd_walk::{Trail, read_back};
+use std::alloc::{AllocError, Global};
 use std::marker::Model;
 
 /// A chain of objects, each with an edge to the next.
 #[derive(Drop)]
 pub struct Chain {
-    path: Vec<Addr>,
+    nodes: Vec<u64>,
 }
 
 impl Model for Chain {
-    ghost use Rattle.std.specs.Prelude.{List, length, ◌<◌, ◌^◌};
+    ghost use Rattle.std.specs.Prelude.{List, map};
     ghost use Rattle.hd_model.specs.declared.data.Addr.{Addr};
+    ghost use Rattle.hd_root.specs.Chain.{AreFew};
+    ghost use Rattle.hd_root.specs.Search.{address};
 
     ghost Value = { List Addr };
 
-    ghost view = { λ c. c.path.items };
+    ghost view = { λ c. map address c.nodes.items };
 
-    ghost invariant = { λ c. length c.path.items < 2 ^ 32 };
+    ghost invariant = { λ c. AreFew c.nodes.items };
 }
 
 impl Chain {
@@ -28,7 +33,7 @@ impl Chain {
     pub fn len(&self) -> u32
         ensures { result ≡ length self.now }
     {
-        self.path.len() as u32
+        self.nodes.len() as u32
     }
 
     /// Object `i`, from 0.
@@ -36,38 +41,25 @@ impl Chain {
         requires { i < length self.now }
         ensures { slice_get self.now i ≡ Some result }
     {
-        self.path[i as usize]
+        Addr(self.nodes[i as usize] as u32)
     }
 }
 
-/// The chain by which a search found object `last`.
-pub(crate) fn read_back(alloc: Global, trail: &Trail, last: u32) -> Result<Chain, Memory>
+/// The chain by which a search found number `last`.
+pub(crate) fn chain_of(
+    alloc: Global,
+    heap: &Heap,
+    trail: &Trail,
+    last: usize,
+) -> Result<Chain, AllocError>
     requires last { last < length trail.now }
     requires falling { IsFalling trail.now }
-    ensures { IfOk result (λ chain. IsReadBack trail.now (Some last) (reverse chain)) }
+    requires objects { AreObjects heap.now trail.now }
+    ensures { IfOk result (IsChainOf trail.now last) }
 {
-    // This read gives the proof how long a trail can be.
+    // These reads give the proof how many objects there are, and that none is found twice.
+    let _count = heap.count();
     let _len = trail.len();
-    let mut path = backwards(alloc, trail, last)?;
-    path.reverse();
-    Ok(Chain { path })
-}
-
-// The chain from its end.
-fn backwards(alloc: Global, trail: &Trail, last: u32) -> Result<Vec<Addr>, Memory>
-    requires last { last < length trail.now }
-    requires falling { IsFalling trail.now }
-    ensures path { IfOk result (λ path. IsReadBack trail.now (Some last) path.items) }
-    ensures few { IfOk result (λ path. length path.items ≤ last + 1) }
-{
-    let mut path = Vec::new(alloc);
-    let mut next = Some(last);
-    while let Some(i) = next {
-        let found = trail.get(i);
-        if path.push(found.at).is_err() {
-            return Err(Memory);
-        }
-        next = found.before;
-    }
-    Ok(path)
+    let nodes = read_back(alloc, trail, last)?;
+    Ok(Chain { nodes })
 }

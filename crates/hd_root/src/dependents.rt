@@ -6,9 +6,9 @@ ghost use Rattle.std.specs.FinMap.{get};
 ghost use Rattle.hd_root.specs.Links.{AreLinks, HasGathered, IsLast, IsPut, attached_in};
 
 use hd_model::limits::ROWS;
-use hd_model::{Addr, Kind, Memory, Slot};
+use hd_model::{Addr, Kind, Slot};
 use hd_seg::{Extra, Seg};
-use std::alloc::Global;
+use std::alloc::{AllocError, Global};
 use std::collections::HashMap;
 use std::marker::Model;
 
@@ -70,26 +70,22 @@ impl Dependents {
     }
 
     // Puts a row after the others.
-    fn put(&mut self, target: Addr, secondary: Addr) -> Result<(), Memory>
+    fn put(&mut self, target: Addr, secondary: Addr) -> Result<(), AllocError>
         ensures { OnOk result (IsPut target secondary self.old self.new) }
     {
-        if self.links.reserve(1).is_err() {
-            return Err(Memory);
-        }
-        match self.last.insert(target.0, self.links.len()) {
-            Ok(before) => self.links.push_reserved(Link {
-                target,
-                secondary,
-                before,
-            }),
-            Err(_) => return Err(Memory),
-        }
+        self.links.reserve(1)?;
+        let before = self.last.insert(target.0, self.links.len())?;
+        self.links.push_reserved(Link {
+            target,
+            secondary,
+            before,
+        });
         Ok(())
     }
 }
 
 /// The rows of a table that attach something.
-pub(crate) fn dependents_of(alloc: Global, seg: &Seg) -> Result<Dependents, Memory>
+pub(crate) fn dependents_of(alloc: Global, seg: &Seg) -> Result<Dependents, AllocError>
     ensures { IfOk result (AreLinks seg.now) }
 {
     let mut dependents = Dependents::empty(alloc);
@@ -102,7 +98,7 @@ pub(crate) fn dependents_of(alloc: Global, seg: &Seg) -> Result<Dependents, Memo
 }
 
 // Puts the rows of a block.
-fn put_block(seg: &Seg, block: u32, dependents: &mut Dependents) -> Result<(), Memory>
+fn put_block(seg: &Seg, block: u32, dependents: &mut Dependents) -> Result<(), AllocError>
     requires low { 1 ≤ block }
     requires high { block ≤ seg.now.blocks }
     ensures { let first = block * ROWS in

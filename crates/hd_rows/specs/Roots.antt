@@ -4,7 +4,7 @@ use Rattle.hd_model.specs.declared.data.Addr.{Addr}
 use Rattle.hd_model.specs.State.{secondary_of}
 use Rattle.hd_model.specs.Heap.{Heap, has_object}
 use Rattle.hd_seg.specs.declared.row.Row.{Row}
-use Rattle.hd_seg.specs.Row.{extra_of}
+use Rattle.hd_commands.specs.Handles.{extra_of}
 
 -- the target and the secondary of a row are each null or an object
 pub record NamesIn (h : Heap) (row : Row) : Type 0 where

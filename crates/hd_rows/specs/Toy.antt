@@ -9,7 +9,7 @@ use Rattle.hd_model.specs.Table.{fits}
 use Rattle.hd_seg.specs.declared.row.BlockKind.{BlockKind}
 use Rattle.hd_seg.specs.declared.row.BlockKind.TheVariants as block
 use Rattle.hd_seg.specs.Mapped.{mapped}
-use Rattle.hd_seg.specs.Row.{extra_of}
+use Rattle.hd_commands.specs.Handles.{extra_of}
 use Rattle.hd_seg.specs.declared.row.Row.{Row}
 
 -- `size` objects

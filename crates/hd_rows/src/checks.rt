@@ -2,7 +2,7 @@
 ghost use Rattle.std.specs.Prelude.{◌≡◌, ◌≢◌, ℕ, ◌*◌, ◌<◌, ◌≤◌, true, Some, None, length, Contains};
 ghost use Rattle.hd_model.specs.declared.data.Addr.{Addr};
 ghost use Rattle.hd_model.specs.State.{Handle, secondary_of};
-ghost use Rattle.hd_seg.specs.Row.{extra_of};
+ghost use Rattle.hd_commands.specs.Handles.{extra_of};
 ghost use Rattle.hd_model.specs.Heap.{has_object, object_at, id_at};
 ghost use Rattle.hd_model.specs.Names.{HasClosedFields};
 ghost use Rattle.hd_model.specs.Scene.{IsField};
@@ -115,7 +115,7 @@ pub(crate) fn are_alone(heap: &Heap) -> bool
 }
 
 // Whether an extra is no secondary.
-fn is_single(extra: Extra) -> bool
+fn is_single(extra: Extra<Addr>) -> bool
     ensures { result ≡ true → secondary_of (extra_of extra) ≡ None }
 {
     match extra {

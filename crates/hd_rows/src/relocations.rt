@@ -46,7 +46,7 @@ fn turn(rt: &impl Abort, seg: &mut Seg, ages: &AgeMap, toy: &Toy, kind: Kind)
 }
 
 // What slots of a table reference.
-fn shows(rt: &impl Abort, seg: &Seg, rows: &[(u32, Option<u32>, Extra)]) {
+fn shows(rt: &impl Abort, seg: &Seg, rows: &[(u32, Option<u32>, Extra<Addr>)]) {
     for (slot, target, extra) in rows {
         let row = Row {
             target: target.map(Addr),

@@ -161,7 +161,7 @@ fn assert_chains(
     alloc: Global,
     objects: &[(u64, u32)],
     edges: &[Edge],
-    rows: &[(u32, Option<u32>, Extra)],
+    rows: &[(u32, Option<u32>, Extra<Addr>)],
     chains: &[Chain],
 ) -> Result<(), Fail> {
     let mut heap = Heap::open(alloc, 320)?;

@@ -94,7 +94,7 @@ fn retarget(rt: &impl Abort, seg: &mut Seg, slot: u32, to: u32)
 }
 
 // Rows of a table, read by their kinds: the slot, the target and the extra of each.
-fn shows(rt: &impl Abort, seg: &Seg, rows: &[(u32, Option<u32>, Extra)])
+fn shows(rt: &impl Abort, seg: &Seg, rows: &[(u32, Option<u32>, Extra<Addr>)])
     requires { seg.now.blocks ≡ TABLE }
 {
     for (slot, target, extra) in rows {

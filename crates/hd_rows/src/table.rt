@@ -6,7 +6,7 @@ ghost use Rattle.hd_model.specs.State.{secondary_of};
 ghost use Rattle.hd_model.specs.Heap.{objects_of};
 ghost use Rattle.hd_model.specs.Names.{NamesObjects};
 ghost use Rattle.hd_model.specs.Table.{row_at};
-ghost use Rattle.hd_seg.specs.Row.{extra_of};
+ghost use Rattle.hd_commands.specs.Handles.{extra_of};
 ghost use Rattle.hd_rows.specs.Toy.{NamesBelow, fits_by, toy_basis};
 
 use crate::toy::Toy;
@@ -47,7 +47,7 @@ pub(crate) fn block(rt: &impl Abort, seg: &mut Seg, kind: Kind) -> u32
 }
 
 // Whether an extra fits a kind.
-fn is_of_kind(kind: BlockKind, extra: Extra) -> bool
+fn is_of_kind(kind: BlockKind, extra: Extra<Addr>) -> bool
     ensures { result ≡ fits_by kind (extra_of extra) }
 {
     match kind {
@@ -60,7 +60,13 @@ fn is_of_kind(kind: BlockKind, extra: Extra) -> bool
 }
 
 /// Puts a handle into a slot of a block of its kind.
-pub(crate) fn put(rt: &impl Abort, seg: &mut Seg, slot: u32, target: Option<u32>, extra: Extra)
+pub(crate) fn put(
+    rt: &impl Abort,
+    seg: &mut Seg,
+    slot: u32,
+    target: Option<u32>,
+    extra: Extra<Addr>,
+)
     requires { seg.old.blocks ≡ TABLE }
     ensures { seg.new.blocks ≡ seg.old.blocks }
 {
@@ -76,7 +82,7 @@ pub(crate) fn put_all(
     rt: &impl Abort,
     seg: &mut Seg,
     first: u32,
-    rows: &[(u32, Option<u32>, Extra)],
+    rows: &[(u32, Option<u32>, Extra<Addr>)],
 )
     requires blocks { seg.old.blocks ≡ TABLE }
     requires few { first ≤ BLOCKS * ROWS }
@@ -92,7 +98,7 @@ pub(crate) fn put_all(
 pub(crate) fn dependents(
     rt: &impl Abort,
     alloc: Global,
-    rows: &[(u32, Option<u32>, Extra)],
+    rows: &[(u32, Option<u32>, Extra<Addr>)],
 ) -> Result<Seg, Memory>
     ensures { IfOk result (λ seg. seg.blocks ≡ TABLE) }
 {
@@ -113,7 +119,7 @@ fn is_below(name: Option<Addr>, size: usize) -> bool
 }
 
 /// The secondary of an extra.
-pub(crate) fn secondary_in(extra: Extra) -> Option<Addr>
+pub(crate) fn secondary_in(extra: Extra<Addr>) -> Option<Addr>
     ensures { result ≡ secondary_of (extra_of extra) }
 {
     match extra {

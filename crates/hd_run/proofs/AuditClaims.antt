@@ -1,12 +1,14 @@
 -- What a call that judges promises, from the cause of what it found and its report.
-use Rattle.hd_run.proofs.Basics.{BadLine, Bool, Contains, Fault, IfSome, IsFaultOfWords, Lines, List, MOST_BYTES, NoMemory, None, Option, Outcome, OverSize, Promise, ReadWhole, Refused as ended, Reports, Request, Rose, SinkView, Some, SourceView, Took, Unread, Usage, [], ap, arith, audit_of, false, fault_status, inl, inr, length, lit<, memory_text, refl, subst, sym, traits_of, true, ℕ, ◌∙◌, ◌∷◌, ◌≡◌, ◌≢◌, ◌≤◌, ◌⊎◌}
-use Rattle.std.specs.Prelude.{IsSomeAnd, if◌then◌else◌}
+use Rattle.hd_run.proofs.Basics.{BadLine, Bool, Contains, Fault, IfSome, IsFaultOfWords, Lines, List, MOST_BYTES, NoMemory, None, Option, Outcome, OverSize, Plain, Promise, ReadBytes, ReadWhole, Refused as ended, Reports, Request, Rose, SinkView, Some, SourceView, Took, Unread, Usage, [], ap, arith, false, fault_status, inl, inr, length, lit<, memory_text, refl, subst, sym, traits_of, true, ℕ, ◌∙◌, ◌∷◌, ◌≡◌, ◌≢◌, ◌≤◌, ◌⊎◌}
+use Rattle.std.specs.Prelude.{IsSomeAnd}
 use Rattle.hd_run.specs.Bounds.{Bounds}
-use Rattle.hd_run.specs.Audit.{AuditCause, FindingCause, HasNoRun, HasRun, IsJudged, ReadBytes, ReportsFinding, finding_status, finding_text, right_text, wrong_text}
+use Rattle.hd_run.specs.Audit.{AuditCause, FindingCause, HasNoRun, HasRun, IsJudged, ReportsFinding, finding_status, finding_text, right_text, wrong_text}
 use Rattle.hd_run.specs.AuditClaims.{AsksToJudge, AuditPromise, ByMode, IsInputRefused, JudgesTo, ProgramPromise, ReadFew, RefusesInput, judges}
 use Rattle.hd_run.specs.declared.audit.Finding.{Finding}
 use Rattle.hd_run.specs.declared.audit.Finding.TheVariants.{Refused, Right, WrongAt}
-use Rattle.hd_run.proofs.RunEndings.{no_whole}
+use Rattle.hd_script.specs.AuditInput.{IsNoAuditInput}
+use Rattle.hd_run.proofs.ReadFaults.{no_whole, unfailed as no_fault, unread_rose}
+use Rattle.hd_run.proofs.ReportedTexts.{reported_as, status_cases, write_rose}
 use Rattle.hd_run.proofs.CallClaims.{all_of, among, nothing_read, refused_promise}
 use Rattle.hd_run.proofs.AuditInputs.{accepted}
 
@@ -30,10 +32,6 @@ not_five (WrongAt line) is = cc
 no_line : (f : Fault) → fault_status f ≢ 7
 no_line NoMemory is = cc
 no_line f is = cc
-
-read_rose : (old new : SourceView) (b : Bounds) → FindingCause b old new (Refused Unread)
-    → Rose old.faults new.faults
-read_rose old new b broke = subst (λ n. Rose n new.faults) broke.gave.gave.unfailed broke.failed.rose
 
 module _ (old new : SourceView) where
   -- ---- words that ask for no audit
@@ -60,17 +58,13 @@ module _ (old new : SourceView) where
   read_of : (asked : Option Request) (f : Finding) → AuditCause asked old new f → finding_status f ≡ 4
       → AsksToJudge asked × Rose old.faults new.faults
   read_of None f cause is = absurd (none_is f 4 cause is (λ e. cc) (λ e. cc))
-  read_of (Some r) (Refused Unread) cause is = (tt, read_rose old new r.limits cause)
+  read_of (Some r) (Refused Unread) cause is = (tt, unread_rose IsNoAuditInput old new cause)
   read_of (Some r) f cause is = cc
 
   -- but for a failed read, no fault is passed over
   faults_by : (b : Bounds) (f : Finding) → FindingCause b old new f → finding_status f ≢ 4
       → new.faults ≡ old.faults
-  faults_by b (Refused Usage) cause ne = absurd cause
-  faults_by b (Refused Unread) cause ne = absurd (ne refl)
-  faults_by b (Refused OverSize) cause ne = cause.gave.unfailed
-  faults_by b (Refused (BadLine k)) (bytes, read, is) ne = read.all.gave.unfailed
-  faults_by b (Refused NoMemory) cause ne = cause.gave.unfailed
+  faults_by b (Refused f) cause ne = no_fault IsNoAuditInput old new f cause ne
   faults_by b Right (bytes, read, is) ne = read.all.gave.unfailed
   faults_by b (WrongAt line) (bytes, read, is) ne = read.all.gave.unfailed
 
@@ -93,7 +87,7 @@ module _ (old new : SourceView) where
 
     judges_to : (f : Finding) → FindingCause b old new f → status ≡ finding_status f → JudgesTo b bytes status
     judges_to (Refused Usage) cause is ne = absurd cause
-    judges_to (Refused Unread) cause is ne = absurd (unfailed (read_rose old new b cause))
+    judges_to (Refused Unread) cause is ne = absurd (unfailed (unread_rose IsNoAuditInput old new cause))
     judges_to (Refused OverSize) cause is ne =
         let few = among old.left new.left bytes cause.bytes left cause.gave.consumed in
         inl (is, inl (omega (arith, few, cause.count)))
@@ -163,22 +157,14 @@ module _ {S K : Type 0} (seen : S → SourceView) (shown : K → SinkView) (aske
     abbrev after : SinkView
     after = shown sink.1
 
-    -- but on status 5 all was written
     all : (k : ℕ) → o.status ≡ k → k ≢ 5 → (finding_status f ≡ k) × Took before after (finding_text f)
-    all k s other = elim reports.written [
-      | inl (is, took) ↦ (sym is ∙ s, took)
-      | inr (is, broke) ↦ absurd (other (sym s ∙ is))
-    ]
+    all = reported_as before after (finding_status f) (finding_text f) o.status reports.written
 
-    -- and then a write failed
     rose : o.status ≡ 5 → Rose before.faults after.faults
-    rose s = elim reports.written [
-      | inl (is, took) ↦ absurd (not_five f (sym is ∙ s))
-      | inr (is, broke) ↦ subst (λ n. Rose n after.faults) broke.took.unfailed broke.failed.rose
-    ]
+    rose = write_rose before after (finding_status f) (finding_text f) o.status reports.written (not_five f)
 
     cases : (o.status ≡ finding_status f) ⊎ (o.status ≡ 5)
-    cases = elim reports.written [ inl (is, took) ↦ inl is | inr (is, broke) ↦ inr is ]
+    cases = status_cases before after (finding_status f) (finding_text f) o.status reports.written
 
     no_audit : (a : Option Request) → a ≡ None → AuditCause a old new f
         → (finding_status f ≡ 2) ⊎ (finding_status f ≡ 6)
@@ -246,7 +232,7 @@ refused_audit seen shown asked source sink f o fault reports =
 -- a report of words that are refused is one of each mode
 pub refused_program : {S K : Type 0} (seen : S → SourceView) (shown : K → SinkView) (asked : Option Request)
     (source : S) (sink : K × K) (f : Fault) (o : Outcome) → IsFaultOfWords asked f
-    → Reports (shown sink.0) (shown sink.1) Lines (ended f) o
+    → Reports (shown sink.0) (shown sink.1) (Lines Plain) (ended f) o
     → ProgramPromise seen shown asked (source, source) sink o
 refused_program seen shown asked source sink f o fault reports = by (judges asked)
   where
@@ -260,16 +246,14 @@ module _ {S K : Type 0} (seen : S → SourceView) (shown : K → SinkView) (r : 
     (sink : K × K) (o : Outcome) where
   -- a mode that judges
   pub judged_program : (traits_of r.mode).judges ≡ true
-      → AuditPromise seen shown (audit_of (Some r)) source sink o
-      → ProgramPromise seen shown (Some r) source sink o
-  judged_program is promise = by (traits_of r.mode).judges is promise
+      → AuditPromise seen shown (Some r) source sink o → ProgramPromise seen shown (Some r) source sink o
+  judged_program is promise = by (traits_of r.mode).judges is
     where
       by : (t : Bool) → t ≡ true
-          → AuditPromise seen shown (if t then Some r else None) source sink o
           → ByMode t (AuditPromise seen shown (Some r) source sink o)
           (Promise seen shown (Some r) source sink o)
-      by true is promise = promise
-      by false is promise = cc
+      by true is = promise
+      by false is = cc
 
   -- and one that runs a script
   pub run_program : (traits_of r.mode).judges ≡ false → Promise seen shown (Some r) source sink o

@@ -38,25 +38,28 @@ pub use Rattle.hd_model.specs.declared.data.Entry.{Entry}
 pub use Rattle.hd_model.specs.declared.data.Reply.{Reply}
 pub use Rattle.hd_model.specs.declared.data.RootId.{RootId}
 pub use Rattle.hd_model.specs.declared.limits.TheConstants.{BLOCKS, CALLERS, HEAP, LOAD_CALLERS, MOST_BYTES, MOST_ROUNDS}
+pub use Rattle.hd_print.specs.declared.entries.Form.{Form}
+pub use Rattle.hd_print.specs.declared.entries.Form.TheVariants.{Full, Plain}
 pub use Rattle.hd_run.specs.Bounds.{numbers_for}
 pub use Rattle.hd_run.specs.Claims.{DecidesStatus, AreBytesRefused, AsksForLoad, AsksToRead, HasLine, IsStatus, KeepsCount, KeepsRun, Promise, RefusesScript, RunsWhole, StopsForMemory, Together}
-pub use Rattle.hd_run.specs.Ending.{Cause, CauseBy, FaultCause, IsLoadScript, IsProgram, Keeps, Lists, RanBy, ReadProgram, ReadWhole, RefusedBy, RunBy, RunCause, ScriptBy, StoppedAtBy, journal_in, kept_of, kept_that, numbers_by, run_ending, world_of, world_that}
-pub use Rattle.hd_run.specs.Modes.{form_by, form_of, lines_form, mode_of, runs_alone, traits_of}
-pub use Rattle.hd_run.specs.Report.{HasFewCallers, HasSumOf, IsWritable, Reports, Writes, fault_status, form_for, memory_text, ran_text, status_of, stopped_text, text_for, whole_text}
+pub use Rattle.hd_run.specs.Ending.{Cause, CauseBy, CauseOfFault, FaultCause, IsLoadScript, IsProgram, Keeps, Lists, RanBy, ReadBytes, ReadProgram, ReadWhole, RefusedBy, RunBy, RunCause, ScriptBy, StoppedAtBy, journal_in, kept_of, kept_that, numbers_by, run_ending, world_of, world_that}
+pub use Rattle.hd_run.specs.Modes.{in_threads, mode_of, output_by, output_of, runs_alone, traits_of}
+pub use Rattle.hd_run.specs.Report.{HasFewCallers, HasSumOf, IsReported, IsWritable, Reports, Writes, fault_status, memory_text, output_for, ran_text, status_of, stopped_text, text_for, whole_text}
 pub use Rattle.hd_run.specs.Together.{HasPlayed, HavePlayed, IsReadyToPlay, MayWantMemory, RanAllTogether, StoppedTogether}
 pub use Rattle.hd_run.specs.Turns.{IsReadyFor, IsReadyToRun, RanWhole, StoppedAt, list_of, taken_by, turn_of, turns_from, turns_of}
 pub use Rattle.hd_run.specs.Words.{GivesNumber, GivesNumbers, IsFaultOfWords, IsInLimits, IsRefusal, asked_by, audit_of, is_given, listing_of, number_in, number_of, program, request_of, request_or_usage, solo_of, unless_faulty, with_numbers}
 pub use Rattle.hd_run.specs.Work.{IsJob, Worked}
 pub use Rattle.hd_run.specs.declared.ending.Ending.{Ending}
 pub use Rattle.hd_run.specs.declared.ending.Ending.TheVariants.{Done, Refused, Stopped}
-pub use Rattle.hd_run.specs.declared.ending.Fault.{Fault}
-pub use Rattle.hd_run.specs.declared.ending.Fault.TheVariants.{BadLine, NoMemory, OverSize, Unread, Usage}
+pub use Rattle.hd_run.specs.declared.fault.Fault.{Fault}
+pub use Rattle.hd_run.specs.declared.fault.Fault.TheVariants.{BadLine, NoMemory, OverSize, Unread, Usage}
 pub use Rattle.hd_run.specs.declared.ending.Ran.{Ran}
 pub use Rattle.hd_run.specs.declared.limits.TheConstants.{LEAST_HEAP}
-pub use Rattle.hd_run.specs.declared.mode.Form.{Form}
-pub use Rattle.hd_run.specs.declared.mode.Form.TheVariants.{FullLines, Lines, Summary}
+pub use Rattle.hd_run.specs.declared.mode.Manner.{Manner}
 pub use Rattle.hd_run.specs.declared.mode.Mode.{Mode}
 pub use Rattle.hd_run.specs.declared.mode.Mode.TheVariants.{Audit, Load, Roots, Run as TheRun, Solo}
+pub use Rattle.hd_run.specs.declared.mode.Output.{Output}
+pub use Rattle.hd_run.specs.declared.mode.Output.TheVariants.{Lines, Summary}
 pub use Rattle.hd_run.specs.declared.mode.Traits.{Traits}
 pub use Rattle.hd_run.specs.declared.outcome.Kept.{Kept}
 pub use Rattle.hd_run.specs.declared.outcome.Kept.TheVariants.{Alone, Nothing, Shared}

@@ -1,9 +1,11 @@
 -- What a call promises, from the cause of its ending and its report.
-use Rattle.hd_run.proofs.Basics.{Alone, DecidesStatus, AreBytesRefused, AsksForLoad, AsksToRead, BadLine, Bool, Cause, CauseBy, Cmd, Done, Ending, Entry, Fault, FaultCause, GaveCount, HasLine, IfSome, IsErr, IsFaultOfWords, IsProgram, IsStatus, KeepsCount, KeepsRun, Kept, Lines, List, Load, MOST_BYTES, Mode, NoMemory, None, Nothing, Ok, Option, Outcome, OverSize, Promise, ReadProgram, Refused, RefusedBy, RefusesScript, Reports, Request, RootId, Rose, RunsWhole, ScriptBy, Shared, SinkView, Some, SourceView, Stopped, StopsForMemory, Summary, Took, Unread, Usage, Worked, [], ap, append-nil, arith, false, fault_status, form_by, form_for, form_of, inl, inr, journal_in, kept_of, length, length-append, lit<, ran_text, refl, run_from_solo, status_of, stopped_text, subst, sym, text_for, traits_of, true, world_of, world_that, ℕ, ◌++◌, ◌∙◌, ◌≡◌, ◌≢◌, ◌≤◌, ◌⊎◌}
+use Rattle.hd_run.proofs.Basics.{Alone, AreBytesRefused, AsksForLoad, AsksToRead, BadLine, Bool, Cause, CauseBy, Cmd, DecidesStatus, Done, Ending, Entry, Err, Fault, FaultCause, Form, Full, GaveCount, HasLine, IfSome, IsErr, IsFaultOfWords, IsProgram, IsStatus, KeepsCount, KeepsRun, Kept, Lines, List, Load, MOST_BYTES, Mode, NoMemory, None, Nothing, Ok, Option, Outcome, OverSize, Plain, Promise, ReadProgram, Refused, RefusedBy, RefusesScript, Reports, Request, RootId, Rose, RunsWhole, ScriptBy, Shared, SinkView, Some, SourceView, Stopped, StopsForMemory, Summary, Took, Unread, Usage, Worked, [], ap, append-nil, arith, false, fault_status, in_threads, inl, inr, journal_in, kept_of, length, length-append, lit<, output_by, output_for, output_of, ran_text, refl, run_from_solo, status_of, stopped_text, subst, sym, text_for, traits_of, true, world_of, world_that, ℕ, ◌++◌, ◌∙◌, ◌≡◌, ◌≢◌, ◌≤◌, ◌⊎◌}
 use Rattle.std.specs.Io.KnownBytes.{Consumes, IsAtEnd}
 use Rattle.hd_model.specs.Grammar.{script_of}
 use Rattle.hd_model.proofs.RunCounts.{handles_are_made_less_freed}
-use Rattle.hd_run.proofs.RunEndings.{no_whole, ending_status, journal_kept, nothing_reported, run_keeps, reported_as, write_rose, status_cases}
+use Rattle.hd_run.proofs.ReadFaults.{no_whole, unfailed as no_fault, unread_rose}
+use Rattle.hd_run.proofs.ReportedTexts.{reported_as, status_cases, write_rose}
+use Rattle.hd_run.proofs.RunEndings.{not_five, ending_status, journal_kept, nothing_reported, run_keeps}
 use Rattle.hd_run.proofs.LoadClaims.{line_of, refused_line}
 
 -- the handles of what is kept are those that were made, less those that were freed
@@ -52,11 +54,12 @@ nothing_read v = record {
     none_consumed None = tt
     none_consumed (Some xs) = refl
 
+-- the line of bytes that is at fault
+abbrev IsBad : List ℕ → ℕ → Type 0
+IsBad bytes k = script_of bytes ≡ Err k
+
 module _ (old new : SourceView) where
   -- ---- a fault, by whether the mode reads
-
-  pub unread_rose : FaultCause old new Unread → Rose old.faults new.faults
-  unread_rose broke = subst (λ n. Rose n new.faults) broke.gave.gave.unfailed broke.failed.rose
 
   usage_by : (reads : Bool) (f : Fault) → fault_status f ≡ 2 → RefusedBy reads old new f → ⊥
   usage_by true Usage is cause = cause
@@ -73,18 +76,14 @@ module _ (old new : SourceView) where
 
   read_by : (reads : Bool) (f : Fault) → fault_status f ≡ 4 → RefusedBy reads old new f →
       (reads ≡ true) × Rose old.faults new.faults
-  read_by true Unread is cause = (refl, unread_rose cause)
+  read_by true Unread is cause = (refl, unread_rose IsBad old new cause)
   read_by true f is cause = cc
   read_by false f is (memory, unread) = absurd (omega (arith, is, ap fault_status memory))
 
   -- but for a failed read, no fault is passed over
   faults_by : (reads : Bool) (f : Fault) → RefusedBy reads old new f → fault_status f ≢ 4 →
       new.faults ≡ old.faults
-  faults_by true Usage cause ne = absurd cause
-  faults_by true Unread cause ne = absurd (ne refl)
-  faults_by true OverSize cause ne = cause.gave.unfailed
-  faults_by true (BadLine k) (bytes, read, fault) ne = read.all.gave.unfailed
-  faults_by true NoMemory cause ne = cause.gave.unfailed
+  faults_by true f cause ne = no_fault IsBad old new f cause ne
   faults_by false f (memory, unread) ne = ap (λ (v : SourceView). v.faults) unread
 
   script_unfailed : (reads : Bool) (r : Request) (lists : List (List Cmd)) → ScriptBy reads r old new lists →
@@ -142,7 +141,7 @@ module _ (old new : SourceView) where
     refused_decides : (f : Fault) → FaultCause old new f → status ≡ fault_status f
         → DecidesStatus bytes status
     refused_decides Usage cause is ne = absurd cause
-    refused_decides Unread cause is ne = absurd (unfailed (unread_rose cause))
+    refused_decides Unread cause is ne = absurd (unfailed (unread_rose IsBad old new cause))
     refused_decides OverSize cause is ne =
         let few = among old.left new.left bytes cause.bytes left cause.gave.consumed in
         inl (is, inl (omega (arith, few, cause.count)))
@@ -184,12 +183,14 @@ module _ (old new : SourceView) where
   kept_run None e (inl usage, unread) = subst (λ (f : Ending). KeepsRun (kept_of f)) (sym usage) tt
   kept_run None e (inr memory, unread) = subst (λ (f : Ending). KeepsRun (kept_of f)) (sym memory) tt
   kept_run (Some r) (Refused f) cause = tt
-  kept_run (Some r) (Stopped run) (lists, script, at) = run_keeps _ _ _ lists (Stopped run) at
-  kept_run (Some r) (Done run roots) (lists, script, all) = run_keeps _ _ _ lists (Done run roots) all
+  kept_run (Some r) (Stopped run) (lists, script, at) =
+      run_keeps (traits_of r.mode).manner _ lists (Stopped run) at
+  kept_run (Some r) (Done run roots) (lists, script, all) =
+      run_keeps (traits_of r.mode).manner _ lists (Done run roots) all
 
   module _ (before after : SinkView) where
     whole_of : (asked : Option Request) (e : Ending) → Cause asked old new e → status_of e ≡ 0 →
-        Took before after (text_for (form_for asked) e) → RunsWhole asked old new before after (kept_of e)
+        Took before after (text_for (output_for asked) e) → RunsWhole asked old new before after (kept_of e)
     whole_of None e cause is took = absurd (none_is e 0 cause is (λ e. cc) (λ e. cc))
     whole_of (Some r) (Refused f) cause is took = absurd (no_whole f is)
     whole_of (Some r) (Stopped run) cause is took = cc
@@ -200,55 +201,55 @@ module _ (old new : SourceView) where
       refl,
       all.0,
       subst (λ (rs : Option (List RootId)). Took before after
-          (ran_text (form_of r) (world_that run) rs)) all.1 took,
+          (ran_text (output_of r) (world_that run) rs)) all.1 took,
     )
 
     -- what is said where memory ran out
     abbrev WantsMemory : Option Request → Kept → Type 0
     WantsMemory asked kept = StopsForMemory asked old new kept
-        × Took before after (stopped_text (form_for asked) (journal_in (world_of kept)))
+        × Took before after (stopped_text (output_for asked) (journal_in (world_of kept)))
 
     memory_of : (asked : Option Request) (e : Ending) → Cause asked old new e → status_of e ≡ 6 →
-        Took before after (text_for (form_for asked) e) → WantsMemory asked (kept_of e)
+        Took before after (text_for (output_for asked) e) → WantsMemory asked (kept_of e)
     memory_of None e (inl usage, unread) is took = absurd (omega (arith, is, ap status_of usage))
     memory_of None e (inr memory, unread) is took = subst (λ (f : Ending). WantsMemory None (kept_of f))
         (sym memory)
-        (inl (unread, refl), subst (λ (f : Ending). Took before after (text_for Lines f)) memory took)
+        (inl (unread, refl), subst (λ (f : Ending). Took before after (text_for (Lines Plain) f)) memory took)
     memory_of (Some r) (Refused NoMemory) cause is took =
-        (inl (cause, refl), subst (Took before after) (nothing_reported (form_of r)) took)
+        (inl (cause, refl), subst (Took before after) (nothing_reported (output_of r)) took)
     memory_of (Some r) (Refused f) cause is took = cc
     memory_of (Some r) (Stopped run) (lists, script, at) is took = (
       inr (lists, script, run, refl, at),
-      subst (λ (es : List Entry). Took before after (stopped_text (form_of r) es))
+      subst (λ (es : List Entry). Took before after (stopped_text (output_of r) es))
           (journal_kept run) took,
     )
     memory_of (Some r) (Done run roots) cause is took = cc
 
     -- the line of a load, which alone reads nothing
-    line_by : (m : Mode) (slots : Bool) (r : Request) (e : Ending) (o : Outcome) →
+    line_by : (m : Mode) (form : Form) (r : Request) (e : Ending) (o : Outcome) →
         (traits_of m).reads ≡ false →
-        CauseBy (traits_of m).reads (traits_of m).threads (traits_of m).lists_roots r old new e →
-        Reports before after (form_by slots (traits_of m)) e o → HasLine r.rounds before after o.status
-    line_by Load slots r e o load cause reports = by e cause (in_summary slots reports)
+        CauseBy (traits_of m).reads (traits_of m).manner r old new e →
+        Reports before after (output_by form (traits_of m)) e o → HasLine r.rounds before after o.status
+    line_by Load form r e o load cause reports = by e cause (in_summary form reports)
       where
-        in_summary : (t : Bool) → Reports before after (form_by t (traits_of Load)) e o
+        in_summary : (t : Form) → Reports before after (output_by t (traits_of Load)) e o
             → Reports before after Summary e o
-        in_summary true is = is
-        in_summary false is = is
+        in_summary Plain is = is
+        in_summary Full is = is
 
-        by : (f : Ending) → CauseBy false true false r old new f → Reports before after Summary f o
+        by : (f : Ending) → CauseBy false in_threads r old new f → Reports before after Summary f o
             → HasLine r.rounds before after o.status
         by (Refused f) cause is = refused_line r.rounds before after Summary f o is
         by (Stopped run) (lists, script, at) is =
             line_of r.rounds lists script.1 before after (Stopped run) o at is
         by (Done run roots) (lists, script, all) is =
             line_of r.rounds lists script.1 before after (Done run roots) o all is
-    line_by m slots r e o load cause reports = cc
+    line_by m form r e o load cause reports = cc
 
 module _ {S K : Type 0} (seen : S → SourceView) (shown : K → SinkView) (source : S × S) (sink : K × K)
     (o : Outcome) where
   module _ (asked : Option Request) (e : Ending) (cause : Cause asked (seen source.0) (seen source.1) e)
-      (reports : Reports (shown sink.0) (shown sink.1) (form_for asked) e o)
+      (reports : Reports (shown sink.0) (shown sink.1) (output_for asked) e o)
       (unread : ¬ (AsksToRead asked) → source.1 ≡ source.0)
       (line : IfSome asked (λ r. (traits_of r.mode).reads ≡ false →
       HasLine r.rounds (shown sink.0) (shown sink.1) o.status)) where
@@ -276,11 +277,16 @@ module _ {S K : Type 0} (seen : S → SourceView) (shown : K → SinkView) (sour
     load_unread None load reads = reads
     load_unread (Some r) load reads = let both : true ≡ false = sym reads ∙ load in cc
 
-    all : (k : ℕ) → o.status ≡ k → k ≢ 5 → (status_of e ≡ k) × Took before after (text_for (form_for asked) e)
-    all = reported_as before after (form_for asked) e o reports
+    all : (k : ℕ) → o.status ≡ k → k ≢ 5
+        → (status_of e ≡ k) × Took before after (text_for (output_for asked) e)
+    all = reported_as before after (status_of e) (text_for (output_for asked) e) o.status reports.written
 
     rose : o.status ≡ 5 → Rose before.faults after.faults
-    rose = write_rose before after (form_for asked) e o reports
+    rose = write_rose before after (status_of e) (text_for (output_for asked) e) o.status reports.written
+        (not_five e)
+
+    cases : (o.status ≡ status_of e) ⊎ (o.status ≡ 5)
+    cases = status_cases before after (status_of e) (text_for (output_for asked) e) o.status reports.written
 
     -- a fault, where the status is one of a fault alone
     fault_at : (k : ℕ) → o.status ≡ k → k ≢ 5 → k ≢ 0 → k ≢ 6 → (f : Fault) × Cause asked old new (Refused f)
@@ -310,7 +316,7 @@ module _ {S K : Type 0} (seen : S → SourceView) (shown : K → SinkView) (sour
       memory = λ s. let at = all 6 s (λ f. cc) in
           subst (WantsMemory old new before after asked) (sym reports.kept)
           (memory_of old new before after asked e cause at.0 at.1);
-      statuses = elim (status_cases before after (form_for asked) e o reports) [
+      statuses = elim cases [
         | inl is ↦ subst IsStatus (sym is) (ending_status e)
         | inr is ↦ subst IsStatus (sym is) (4, lit< tt, refl)
       ];
@@ -319,7 +325,7 @@ module _ {S K : Type 0} (seen : S → SourceView) (shown : K → SinkView) (sour
       sink_faults = λ five. (all o.status refl five).1.unfailed;
       words = λ none. (
         unread (none_unread asked none),
-        elim (status_cases before after (form_for asked) e o reports) [
+        elim cases [
           | inl is ↦ elim (none_status old new asked e none cause) [
             | inl two ↦ inl (is ∙ two)
             | inr six ↦ inr (inr (is ∙ six))
@@ -344,12 +350,12 @@ module _ {S K : Type 0} (seen : S → SourceView) (shown : K → SinkView) (sour
 
   -- what was asked was done
   pub asked_promise : (r : Request) (e : Ending) →
-      Worked seen (traits_of r.mode).threads (traits_of r.mode).lists_roots r source e →
-      Reports (shown sink.0) (shown sink.1) (form_of r) e o
+      Worked seen (traits_of r.mode).manner r source e →
+      Reports (shown sink.0) (shown sink.1) (output_of r) e o
       → Promise seen shown (Some r) source sink o
   asked_promise r e worked reports = promise (Some r) e worked.cause reports
       (λ unread. worked.unread (is_false (traits_of r.mode).reads unread))
-      (λ load. line_by (seen source.0) (seen source.1) (shown sink.0) (shown sink.1) r.mode r.slots r e o load
+      (λ load. line_by (seen source.0) (seen source.1) (shown sink.0) (shown sink.1) r.mode r.form r e o load
       worked.cause reports)
     where
       is_false : (b : Bool) → ¬ (b ≡ true) → b ≡ false
@@ -371,7 +377,7 @@ words_cause (Some r) v f (inr (usage, none)) = cc
 
 pub refused_promise : {S K : Type 0} (seen : S → SourceView) (shown : K → SinkView) (asked : Option Request)
     (source : S) (sink : K × K) (f : Fault) (o : Outcome) → IsFaultOfWords asked f →
-    Reports (shown sink.0) (shown sink.1) Lines (Refused f) o
+    Reports (shown sink.0) (shown sink.1) (Lines Plain) (Refused f) o
     → Promise seen shown asked (source, source) sink o
 refused_promise seen shown asked source sink f o fault reports =
     promise seen shown (source, source) sink o asked (Refused f) (words_cause asked (seen source) f fault)
@@ -380,4 +386,4 @@ refused_promise seen shown asked source sink f o fault reports =
     no_line : (a : Option Request) → IfSome a (λ r. (traits_of r.mode).reads ≡ false →
         HasLine r.rounds (shown sink.0) (shown sink.1) o.status)
     no_line None = tt
-    no_line (Some r) = λ load. refused_line r.rounds (shown sink.0) (shown sink.1) Lines f o reports
+    no_line (Some r) = λ load. refused_line r.rounds (shown sink.0) (shown sink.1) (Lines Plain) f o reports

@@ -1,5 +1,5 @@
 -- What a whole run prints in full lines is the text of a run, and is never judged to be none.
-use Rattle.hd_run.proofs.Basics.{Audit, Bool, Cmd, Form, FullLines, Lines, List, Load, MOST_BYTES, Mode, Ok, Option, Promise, RanBy, Request, Result, Roots, ScriptBy, SinkView, Solo, Some, SourceView, Summary, TheRun, Took, [], ap, arith, false, form_by, form_of, inl, inr, length, numbers_by, numbers_for, ran_text, refl, subst, sym, traits_of, true, world_that, ℕ, ◌++◌, ◌∙◌, ◌∷◌, ◌≡◌, ◌≤◌, ◌⊎◌}
+use Rattle.hd_run.proofs.Basics.{Audit, Bool, Cmd, Form, Full, Lines, List, Load, MOST_BYTES, Mode, Ok, Option, Output, Plain, Promise, RanBy, Request, Result, Roots, ScriptBy, SinkView, Solo, Some, SourceView, Summary, TheRun, Took, [], ap, arith, false, inl, inr, length, numbers_by, numbers_for, output_by, output_of, ran_text, refl, subst, sym, traits_of, true, world_that, ℕ, ◌++◌, ◌∙◌, ◌∷◌, ◌≡◌, ◌≤◌, ◌⊎◌}
 use Rattle.std.proofs.lemmas.List.{append_cancel_left}
 use Rattle.hd_model.proofs.Basics.{cases_eq, ⊎_elim}
 use Rattle.hd_model.proofs.StepChains.{run_from_solo}
@@ -65,19 +65,19 @@ whole_runs_judged threads n lists run v h right =
 record RunsInFull (m : Mode) : Type 0 where
   judges : (traits_of m).judges ≡ false
   reads : (traits_of m).reads ≡ true
-  lists : (traits_of m).lists_roots ≡ false
+  lists : (traits_of m).manner.lists_roots ≡ false
 
-runs_in_full : (m : Mode) (slots : Bool) → form_by slots (traits_of m) ≡ FullLines → RunsInFull m
-runs_in_full Solo true is = record { judges = refl; reads = refl; lists = refl }
-runs_in_full TheRun true is = record { judges = refl; reads = refl; lists = refl }
-runs_in_full Load true is = cc
-runs_in_full Roots true is = cc
-runs_in_full Audit true is = cc
-runs_in_full Solo false is = cc
-runs_in_full TheRun false is = cc
-runs_in_full Load false is = cc
-runs_in_full Roots false is = cc
-runs_in_full Audit false is = cc
+runs_in_full : (m : Mode) (form : Form) → output_by form (traits_of m) ≡ Lines Full → RunsInFull m
+runs_in_full Solo Full is = record { judges = refl; reads = refl; lists = refl }
+runs_in_full TheRun Full is = record { judges = refl; reads = refl; lists = refl }
+runs_in_full Load Full is = cc
+runs_in_full Roots Full is = cc
+runs_in_full Audit Full is = cc
+runs_in_full Solo Plain is = cc
+runs_in_full TheRun Plain is = cc
+runs_in_full Load Plain is = cc
+runs_in_full Roots Plain is = cc
+runs_in_full Audit Plain is = cc
 
 -- what was added to what a sink states
 added : (before after : Option (List ℕ)) (piece first text : List ℕ) → Appends before after piece
@@ -92,12 +92,12 @@ added before after piece first text h was is =
 module _ (r : Request) (old new : SourceView) (before after : SinkView) (script first text : List ℕ)
     (given : old.left ≡ Some script) (was : before.written ≡ Some first)
     (is : after.written ≡ Some (first ++ text)) where
-  run_text : (reads threads listed : Bool) (form : Form) (lists : List (List Cmd)) (run : Ran)
-      → reads ≡ true → listed ≡ false → form ≡ FullLines → ScriptBy reads r old new lists
+  run_text : (reads threads listed : Bool) (output : Output) (lists : List (List Cmd)) (run : Ran)
+      → reads ≡ true → listed ≡ false → output ≡ Lines Full → ScriptBy reads r old new lists
       → RanBy threads (numbers_by reads r lists) lists run
-      → Took before after (ran_text form (world_that run) (roots_by listed (world_that run)))
+      → Took before after (ran_text output (world_that run) (roots_by listed (world_that run)))
       → IsScript script lists × IsRunText (numbers_for r.limits lists) lists text
-  run_text true threads false FullLines lists run a b c read whole took = (
+  run_text true threads false (Lines Full) lists run a b c read whole took = (
     subst (λ (bytes : List ℕ). IsScript bytes lists)
         (all_of old.left new.left script read.bytes given read.read.all.gave.consumed read.read.all.end)
         read.program.script,
@@ -106,10 +106,10 @@ module _ (r : Request) (old new : SourceView) (before after : SinkView) (script 
         first text took.appended was is)
         (whole_run_text threads (numbers_for r.limits lists) lists run whole),
   )
-  run_text true threads false Lines lists run a b c read whole took = cc
+  run_text true threads false (Lines Plain) lists run a b c read whole took = cc
   run_text true threads false Summary lists run a b c read whole took = cc
-  run_text true threads true form lists run a b c read whole took = cc
-  run_text false threads listed form lists run a b c read whole took = cc
+  run_text true threads true output lists run a b c read whole took = cc
+  run_text false threads listed output lists run a b c read whole took = cc
 
 same_lists : (a b : List (List Cmd)) (read : Result (List (List Cmd)) ℕ) → read ≡ Ok a → read ≡ Ok b → a ≡ b
 same_lists a b read one two = cc
@@ -153,15 +153,16 @@ module _ {S K : Type 0} (seen : S → SourceView) (shown : K → SinkView) where
   printed_text : (r : Request) (script text : List ℕ) → PrintsRun seen shown r script text
       → (lists : List (List Cmd)) × (IsScript script lists × IsRunText (numbers_for r.limits lists) lists text)
   printed_text r script text p =
-      let m = runs_in_full r.mode r.slots p.full in
+      let m = runs_in_full r.mode r.form p.full in
       let promise : Promise seen shown (Some r) p.source p.sink p.outcome =
       runs_promise (traits_of r.mode).judges (AuditPromise seen shown (Some r) p.source p.sink p.outcome)
       (Promise seen shown (Some r) p.source p.sink p.outcome) m.judges p.promise in
       let (lists, read, run, kept, whole, took) = promise.whole p.done in (
         lists,
         run_text r (seen p.source.0) (seen p.source.1) (shown p.sink.0) (shown p.sink.1) script p.before text
-            p.given p.begin p.printed (traits_of r.mode).reads (traits_of r.mode).threads
-            (traits_of r.mode).lists_roots (form_of r) lists run m.reads m.lists p.full read whole took,
+            p.given p.begin p.printed (traits_of r.mode).reads (traits_of r.mode).manner.threads
+            (traits_of r.mode).manner.lists_roots (output_of r) lists run m.reads m.lists p.full read whole
+            took,
       )
 
   pub printed_runs_judged : PrintedRunsAreJudgedRuns seen shown

@@ -11,6 +11,8 @@ mod SharedRun
 mod CallClaims
 mod AuditInputs
 mod AuditClaims
+pub mod ReadFaults
+pub mod ReportedTexts
 mod RunEndings
 mod LoadClaims
 mod WorkCauses

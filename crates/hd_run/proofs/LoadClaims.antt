@@ -1,10 +1,11 @@
 -- The run of a load: its numbers, the sum in its line, and the line.
-use Rattle.hd_run.proofs.Basics.{BLOCKS, Cmd, Done, Ending, Fault, Form, HEAP, HasLine, HasSumOf, IsLoadScript, LOAD_CALLERS, List, Option, Outcome, RanAllTogether, Refused, Reports, RootId, RunCause, SinkView, Stopped, Summary, Took, WorldView, append-nil, arith, commands_of, false, generated_list, length-map, load_numbers, numbers_for, part_of, ran_text, range_with_len, refl, status_of, subst, sym, text_for, true, ℕ, ◌*◌, ◌+◌, ◌<◌, ◌^◌, ◌∙◌, ◌≡◌, ◌≤◌}
+use Rattle.hd_run.proofs.Basics.{BLOCKS, Cmd, Done, Ending, Fault, HEAP, HasLine, HasSumOf, IsLoadScript, LOAD_CALLERS, List, Option, Outcome, Output, RanAllTogether, Refused, Reports, RootId, RunCause, SinkView, Stopped, Summary, Took, WorldView, append-nil, arith, commands_of, fault_status, generated_list, in_threads, length-map, load_numbers, numbers_for, part_of, ran_text, range_with_len, refl, status_of, subst, sym, text_for, ℕ, ◌*◌, ◌+◌, ◌<◌, ◌^◌, ◌∙◌, ◌≡◌, ◌≤◌}
 use Rattle.std.proofs.lemmas.Nat.{mul-le}
 use Rattle.hd_model.specs.Generated.{generated_lists}
 use Rattle.hd_script.specs.Load.{IsLoadRun}
 use Rattle.hd_script.proofs.LoadLine.{returned, loads_have_their_line}
-use Rattle.hd_run.proofs.RunEndings.{no_whole, reported_as as all_reported}
+use Rattle.hd_run.proofs.ReadFaults.{no_whole}
+use Rattle.hd_run.proofs.ReportedTexts.{reported_as}
 use Rattle.hd_run.specs.declared.ending.Ran.TheVariants as ran
 
 -- its script has four callers, so its numbers are those of every load
@@ -18,10 +19,11 @@ load_is rounds = λ i. record {
 }
 
 -- of a fault there is no line
-pub refused_line : (rounds : ℕ) (before after : SinkView) (form : Form) (f : Fault) (o : Outcome) →
-    Reports before after form (Refused f) o → HasLine rounds before after o.status
-refused_line rounds before after form f o reports zero =
-    absurd (no_whole f (all_reported before after form (Refused f) o reports 0 zero (λ five. cc)).0)
+pub refused_line : (rounds : ℕ) (before after : SinkView) (output : Output) (f : Fault) (o : Outcome) →
+    Reports before after output (Refused f) o → HasLine rounds before after o.status
+refused_line rounds before after output f o reports zero =
+    absurd (no_whole f (reported_as before after (fault_status f) (text_for output (Refused f)) o.status
+    reports.written 0 zero (λ five. cc)).0)
 
 module _ (rounds : ℕ) (lists : List (List Cmd)) (load : IsLoadScript rounds lists) where
   load_run : (w : WorldView) → RanAllTogether load_numbers lists w → IsLoadRun rounds w.journal w.state
@@ -43,7 +45,7 @@ module _ (rounds : ℕ) (lists : List (List Cmd)) (load : IsLoadScript rounds li
       double next in
       omega (arith, product)
 
-  pub load_sum : (e : Ending) → RunCause true false load_numbers lists e → HasSumOf Summary e
+  pub load_sum : (e : Ending) → RunCause in_threads load_numbers lists e → HasSumOf Summary e
   load_sum (Refused f) is = tt
   load_sum (Stopped run) at = tt
   load_sum (Done (ran.Alone w) roots) all = absurd all.0
@@ -52,7 +54,7 @@ module _ (rounds : ℕ) (lists : List (List Cmd)) (load : IsLoadScript rounds li
 
   -- and the line is known
   module _ (before after : SinkView) where
-    line_at : (e : Ending) → RunCause true false load_numbers lists e → status_of e ≡ 0 →
+    line_at : (e : Ending) → RunCause in_threads load_numbers lists e → status_of e ≡ 0 →
         Took before after (text_for Summary e) → HasLine rounds before after 0
     line_at (Refused f) is zero took = absurd (no_whole f zero)
     line_at (Stopped run) at zero took = cc
@@ -61,8 +63,9 @@ module _ (rounds : ℕ) (lists : List (List Cmd)) (load : IsLoadScript rounds li
         (loads_have_their_line rounds w.journal w.state load.least load.most (load_run w all.0))
         (subst (λ (rs : Option (List RootId)). Took before after (ran_text Summary w rs)) all.1 took)
 
-    pub line_of : (e : Ending) (o : Outcome) → RunCause true false load_numbers lists e →
+    pub line_of : (e : Ending) (o : Outcome) → RunCause in_threads load_numbers lists e →
         Reports before after Summary e o → HasLine rounds before after o.status
-    line_of e o cause reports zero = let at =
-        all_reported before after Summary e o reports 0 zero (λ five. cc) in
+    line_of e o cause reports zero =
+        let at = reported_as before after (status_of e) (text_for Summary e) o.status reports.written 0 zero
+        (λ five. cc) in
         line_at e cause at.0 at.1 refl

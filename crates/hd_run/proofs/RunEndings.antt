@@ -1,6 +1,8 @@
 -- The endings of a run: their statuses, what is kept, and that their text can be written.
-use Rattle.hd_run.proofs.Basics.{Alone, BadLine, Bool, CALLERS, Cmd, Done, Ending, Err, Fault, Form, FullLines, HasFewCallers, HasSumOf, IsReadyFor, IsStatus, IsWritable, Keeps, KeepsRun, Kept, Lines, List, NoMemory, Nothing, Numbers, Ok, OnErr, OnOk, Outcome, OverSize, Ran, RanAllTogether, RanBy, RanWhole, Refused, Reports, Result, Rose, Run, RunBy, RunCause, Shared, SinkView, SoloRun, Stopped, StoppedAt, StoppedAtBy, StoppedTogether, Summary, Took, Unread, Usage, WorldView, [], arith, false, fault_status, inl, inr, is_ok, journal_in, kept_of, kept_that, lines_form, lit<, memory_text, refl, run_ending, run_from_solo, status_of, stopped_text, subst, sym, text_for, true, world_of, world_that, ℕ, ◌∙◌, ◌≡◌, ◌≢◌, ◌≤◌, ◌⊎◌}
+use Rattle.hd_run.proofs.Basics.{Alone, BadLine, Bool, CALLERS, Cmd, Done, Ending, Err, Fault, Form, HasFewCallers, HasSumOf, IsReadyFor, IsStatus, IsWritable, Keeps, KeepsRun, Kept, Lines, List, Manner, NoMemory, Nothing, Numbers, Ok, OnErr, OnOk, Output, OverSize, Ran, RanAllTogether, RanBy, RanWhole, Refused, Result, Run, RunBy, RunCause, Shared, SoloRun, Stopped, StoppedAt, StoppedAtBy, StoppedTogether, Summary, Unread, Usage, WorldView, [], arith, false, fault_status, inl, inr, is_ok, journal_in, kept_of, kept_that, lit<, memory_text, refl, run_ending, run_from_solo, status_of, stopped_text, subst, sym, true, world_of, world_that, ℕ, ◌≡◌, ◌≢◌, ◌≤◌}
 use Rattle.hd_model.specs.declared.data.Memory.{Memory}
+use Rattle.hd_run.specs.Ending.{StoppedBy}
+use Rattle.hd_run.specs.Modes as modes
 use Rattle.hd_run.proofs.SharedRun.{few_callers}
 use Rattle.hd_run.specs.declared.ending.Ran.TheVariants as ran
 
@@ -12,11 +14,6 @@ ending_status (Refused (BadLine k)) = (2, lit< tt, refl)
 ending_status (Refused NoMemory) = (5, lit< tt, refl)
 ending_status (Stopped run) = (5, lit< tt, refl)
 ending_status (Done run roots) = (0, lit< tt, refl)
-
--- the status of a fault is not that of a whole run
-pub no_whole : (f : Fault) → fault_status f ≢ 0
-no_whole NoMemory is = cc
-no_whole f is = cc
 
 -- the status of an ending is not that of a fault of the sink
 pub not_five : (e : Ending) → status_of e ≢ 5
@@ -30,9 +27,8 @@ pub journal_kept : (run : Ran) → (world_that run).journal ≡ journal_in (worl
 journal_kept (ran.Alone w) = refl
 journal_kept (ran.Shared w) = refl
 
-pub nothing_reported : (form : Form) → memory_text ≡ stopped_text form []
-nothing_reported Lines = refl
-nothing_reported FullLines = refl
+pub nothing_reported : (output : Output) → memory_text ≡ stopped_text output []
+nothing_reported (Lines form) = refl
 nothing_reported Summary = refl
 
 -- the ending of a run keeps its world
@@ -64,71 +60,49 @@ module _ (n : Numbers) (lists : List (List Cmd)) (X : Kept → Type 0) (nothing 
       (λ w (at : StoppedAt n lists w). alone w at.ran.numbers at.ran.run)
       (λ w (at : StoppedTogether n lists w). shared w at.ran.numbers at.ran.run)
 
-  ending_has : (threads listed : Bool) (e : Ending) → RunCause threads listed n lists e → X (kept_of e)
-  ending_has threads listed (Refused f) is = nothing
-  ending_has threads false (Stopped run) at = stopped_has threads run at
-  ending_has threads true (Stopped run) (inl at) = stopped_has threads run at
-  ending_has threads true (Stopped run) (inr all) = ran_has threads run all
-  ending_has threads listed (Done run roots) all = ran_has threads run all.0
+  stopped_by : (threads listed : Bool) (run : Ran) → StoppedBy threads listed n lists run → X (kept_that run)
+  stopped_by threads false run at = stopped_has threads run at
+  stopped_by threads true run (inl at) = stopped_has threads run at
+  stopped_by threads true run (inr all) = ran_has threads run all
 
-module _ (threads listed : Bool) (n : Numbers) (lists : List (List Cmd)) (e : Ending)
-    (cause : RunCause threads listed n lists e) where
+  ending_has : (m : Manner) (e : Ending) → RunCause m n lists e → X (kept_of e)
+  ending_has m (Refused f) is = nothing
+  ending_has m (Stopped run) at = stopped_by m.threads m.lists_roots run at
+  ending_has m (Done run roots) all = ran_has m.threads run all.0
+
+module _ (m : Manner) (n : Numbers) (lists : List (List Cmd)) (e : Ending)
+    (cause : RunCause m n lists e) where
   -- its journal is a run
   pub run_keeps : KeepsRun (kept_of e)
   run_keeps = ending_has n lists KeepsRun tt
       (λ w numbers run. subst (λ (m : Numbers). SoloRun m w.journal w.state) (sym numbers) run)
-      (λ w numbers run. subst (λ (m : Numbers). Run m w.journal w.state) (sym numbers) run)
-      threads listed e cause
+      (λ w numbers run. subst (λ (m : Numbers). Run m w.journal w.state) (sym numbers) run) m e cause
 
   -- of few callers
   pub run_callers : n.callers ≤ CALLERS → HasFewCallers (journal_in (world_of (kept_of e)))
   run_callers few =
       ending_has n lists (λ kept. HasFewCallers (journal_in (world_of kept))) (λ k d lt. absurd (omega arith))
       (λ w numbers run. few_callers n w.journal w.state few (run_from_solo n w.journal w.state run))
-      (λ w numbers run. few_callers n w.journal w.state few run) threads listed e cause
+      (λ w numbers run. few_callers n w.journal w.state few run) m e cause
 
-pub lines_sum : (full : Bool) (e : Ending) → HasSumOf (lines_form full) e
-lines_sum full (Refused f) = tt
-lines_sum full (Stopped run) = tt
-lines_sum true (Done run roots) = tt
-lines_sum false (Done run roots) = tt
+pub lines_sum : (form : Form) (e : Ending) → HasSumOf (Lines form) e
+lines_sum form (Refused f) = tt
+lines_sum form (Stopped run) = tt
+lines_sum form (Done run roots) = tt
 
 -- the run of few callers can be written by lines
-pub lines_writable : (threads listed full : Bool) (n : Numbers) (lists : List (List Cmd)) (e : Ending) →
-    RunCause threads listed n lists e → n.callers ≤ CALLERS → IsWritable (lines_form full) e
-lines_writable threads listed full n lists e cause few =
-    record { callers = run_callers threads listed n lists e cause few; sum = lines_sum full e }
+pub lines_writable : (m : Manner) (form : Form) (n : Numbers) (lists : List (List Cmd)) (e : Ending) →
+    RunCause m n lists e → n.callers ≤ CALLERS → IsWritable (Lines form) e
+lines_writable m form n lists e cause few =
+    record { callers = run_callers m n lists e cause few; sum = lines_sum form e }
 
--- a fault can be written in any form
-pub fault_writable : (form : Form) (f : Fault) → IsWritable form (Refused f)
-fault_writable form f = record { callers = λ k d lt. absurd (omega arith); sum = tt }
+-- a fault can be written in any way
+pub fault_writable : (output : Output) (f : Fault) → IsWritable output (Refused f)
+fault_writable output f = record { callers = λ k d lt. absurd (omega arith); sum = tt }
 
 -- the run of one thread took all turns, or stopped
 pub turns_cause : (lists : List (List Cmd)) (n : Numbers) (w : WorldView) (taken : Result (Unit {0}) Memory) →
     OnOk taken (IsReadyFor n lists [] w) → OnErr taken (StoppedAt n lists w) →
-    RunCause false false n lists (run_ending (is_ok taken) (ran.Alone w))
+    RunCause modes.alone n lists (run_ending (is_ok taken) (ran.Alone w))
 turns_cause lists n w (Ok all) done stopped = (done.ran, refl)
 turns_cause lists n w (Err memory) done stopped = stopped
-
--- ---- a report
-
-module _ (before after : SinkView) (form : Form) (e : Ending) (o : Outcome)
-    (reports : Reports before after form e o)
-  where
-    -- but on status 5 all was written
-    pub reported_as : (k : ℕ) → o.status ≡ k → k ≢ 5 → (status_of e ≡ k) × Took before after (text_for form e)
-    reported_as k s other = elim reports.written [
-      | inl (is, took) ↦ (sym is ∙ s, took)
-      | inr (is, broke) ↦ absurd (other (sym s ∙ is))
-    ]
-
-    -- and then a write failed
-    pub write_rose : o.status ≡ 5 → Rose before.faults after.faults
-    write_rose s = elim reports.written [
-      | inl (is, took) ↦ absurd (not_five e (sym is ∙ s))
-      | inr (is, broke) ↦ subst (λ n. Rose n after.faults) broke.took.unfailed broke.failed.rose
-    ]
-
-    -- the status is that of the ending, or 5
-    pub status_cases : (o.status ≡ status_of e) ⊎ (o.status ≡ 5)
-    status_cases = elim reports.written [ inl (is, took) ↦ inl is | inr (is, broke) ↦ inr is ]

@@ -1,5 +1,5 @@
 -- The callers of a shared world once each has gone through its list: what they did is one run.
-use Rattle.hd_run.proofs.Basics.{All, All-cons, All-nil, All-weaker, Any, AreAll, Begin, Bool, CALLERS, CallerView, Chain, Cmd, Entry, HasFewCallers, HasParts, HasPlayed, HavePlayed, IsReadyToPlay, List, MatchBool, MayWantMemory, Numbers, RanAllTogether, Run, RunCause, State, StoppedTogether, WorldView, [], ap, arith, cases_lt, commands_of, drop, drop_all, false, get_or-map, get_or_past, inl, inr, length, length-map, link, list_of, map, nil_from_length, part_of, refl, run_ending, slice_index_or, stay, subst, sym, true, ℕ, ◌++◌, ◌<◌, ◌∙◌, ◌∷◌, ◌≡◌, ◌≤◌}
+use Rattle.hd_run.proofs.Basics.{All, All-cons, All-nil, All-weaker, Any, AreAll, Begin, Bool, CALLERS, CallerView, Chain, Cmd, Entry, HasFewCallers, HasParts, HasPlayed, HavePlayed, IsReadyToPlay, List, MatchBool, MayWantMemory, Numbers, RanAllTogether, Run, RunCause, State, StoppedTogether, WorldView, [], ap, arith, cases_lt, commands_of, drop, drop_all, false, get_or-map, get_or_past, in_threads, inl, inr, length, length-map, link, list_of, map, nil_from_length, part_of, refl, run_ending, slice_index_or, stay, subst, sym, true, ℕ, ◌++◌, ◌<◌, ◌∙◌, ◌∷◌, ◌≡◌, ◌≤◌}
 use Rattle.hd_model.specs.Step.{Step}
 use Rattle.hd_custody.specs.Views.{Named}
 use Rattle.hd_run.specs.declared.ending.Ran.TheVariants as ran
@@ -157,7 +157,7 @@ module _ (s : Named) (lists : List (List Cmd)) (before : List CallerView)
         }
 
         pub together_cause : (done : Bool) → MatchBool done (All (λ (p : CallerView). p.room ≡ 0) after)
-            (Any (λ (p : CallerView). 1 ≤ p.room) after) → RunCause true false n lists
+            (Any (λ (p : CallerView). 1 ≤ p.room) after) → RunCause in_threads n lists
             (run_ending done (ran.Shared w))
         together_cause true all = (whole all, refl)
         together_cause false some = stopped some

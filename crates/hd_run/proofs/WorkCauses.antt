@@ -1,18 +1,22 @@
 -- What the work of a request comes to, and that its ending can be written.
-use Rattle.hd_run.proofs.Basics.{BLOCKS, Bool, CALLERS, CauseBy, Cmd, Done, Ending, HEAP, HasSumOf, IsInLimits, IsJob, IsWritable, List, Lists, Load, Mode, Refused, Request, ScriptBy, Solo, SourceView, Stopped, Summary, TheRun, Traits, Worked, arith, false, form_by, form_of, generated_lists, inl, inr, not, numbers_by, numbers_for, refl, runs_alone, subst, sym, traits_of, true, ◌&&◌, ◌≡◌, ◌≤◌}
+use Rattle.hd_run.proofs.Basics.{BLOCKS, Bool, CALLERS, CauseBy, Cmd, Done, Ending, Form, Full, HEAP, HasSumOf, IsInLimits, IsJob, IsWritable, List, Lists, Load, Manner, Mode, Plain, Refused, Request, ScriptBy, Solo, SourceView, Stopped, Summary, TheRun, Traits, Worked, arith, false, generated_lists, in_threads, inl, inr, not, numbers_by, numbers_for, output_by, output_of, refl, runs_alone, subst, sym, traits_of, true, ◌&&◌, ◌≡◌, ◌≤◌}
 use Rattle.hd_run.proofs.RunEndings.{run_callers, lines_sum, fault_writable}
 use Rattle.hd_run.proofs.LoadClaims.{load_is, load_sum}
 
+-- by threads or by one, and roots are listed or not
+abbrev by : Bool → Bool → Manner
+by threads listed = record { threads = threads; lists_roots = listed }
+
 -- one thread runs the script, and lists the roots or not
-alone : (listed : Bool) (t : Traits) → runs_alone listed t ≡ true
-    → (t.threads ≡ false) × (t.lists_roots ≡ listed)
-alone true t is = listing t.threads t.lists_roots t.judges is
+is_alone : (listed : Bool) (t : Traits) → runs_alone listed t ≡ true
+    → (t.manner.threads ≡ false) × (t.manner.lists_roots ≡ listed)
+is_alone true t is = lists t.manner.threads t.manner.lists_roots t.judges is
   where
-    listing : (a b c : Bool) → (not a && b && not c) ≡ true → (a ≡ false) × (b ≡ true)
-    listing false true c is = (refl, refl)
-    listing false false c is = cc
-    listing true b c is = cc
-alone false t is = plain t.threads t.lists_roots t.judges is
+    lists : (a b c : Bool) → (not a && b && not c) ≡ true → (a ≡ false) × (b ≡ true)
+    lists false true c is = (refl, refl)
+    lists false false c is = cc
+    lists true b c is = cc
+is_alone false t is = plain t.manner.threads t.manner.lists_roots t.judges is
   where
     plain : (a b c : Bool) → (not a && not b && not c) ≡ true → (a ≡ false) × (b ≡ false)
     plain false false c is = (refl, refl)
@@ -36,16 +40,16 @@ module _ (r : Request) (old new : SourceView) where
   }
 
   -- and then its roots were listed
-  pub listed_cause : (b threads : Bool) (e after : Ending) → CauseBy b threads false r old new e →
-      Lists e after → CauseBy b threads true r old new after
+  pub listed_cause : (b threads : Bool) (e after : Ending) → CauseBy b (by threads false) r old new e →
+      Lists e after → CauseBy b (by threads true) r old new after
   listed_cause b threads (Refused f) after cause is =
-      subst (CauseBy b threads true r old new) (sym is) cause
+      subst (CauseBy b (by threads true) r old new) (sym is) cause
   listed_cause b threads (Stopped run) after (lists, script, at) is =
-      subst (CauseBy b threads true r old new) (sym is) (lists, script, inl at)
+      subst (CauseBy b (by threads true) r old new) (sym is) (lists, script, inl at)
   listed_cause b threads (Done run roots) after (lists, script, all) (inl stopped) =
-      subst (CauseBy b threads true r old new) (sym stopped) (lists, script, inr all.0)
+      subst (CauseBy b (by threads true) r old new) (sym stopped) (lists, script, inr all.0)
   listed_cause b threads (Done run roots) after (lists, script, all) (inr done) =
-      subst (CauseBy b threads true r old new) (sym done) (lists, script, (all.0, refl))
+      subst (CauseBy b (by threads true) r old new) (sym done) (lists, script, (all.0, refl))
 
   -- ---- what is written
 
@@ -54,42 +58,40 @@ module _ (r : Request) (old new : SourceView) where
   few true lists read = read.program.shape.most
   few false lists script = omega arith
 
-  sum_of : (m : Mode) (slots : Bool) (e : Ending) →
-      CauseBy (traits_of m).reads (traits_of m).threads (traits_of m).lists_roots r old new e →
-      HasSumOf (form_by slots (traits_of m)) e
-  sum_of Load slots e cause = in_summary slots (by e cause)
+  sum_of : (m : Mode) (form : Form) (e : Ending)
+      → CauseBy (traits_of m).reads (traits_of m).manner r old new e → HasSumOf (output_by form (traits_of m)) e
+  sum_of Load form e cause = in_summary form (each e cause)
     where
-      in_summary : (t : Bool) → HasSumOf Summary e → HasSumOf (form_by t (traits_of Load)) e
-      in_summary true is = is
-      in_summary false is = is
+      in_summary : (t : Form) → HasSumOf Summary e → HasSumOf (output_by t (traits_of Load)) e
+      in_summary Plain is = is
+      in_summary Full is = is
 
-      by : (f : Ending) → CauseBy false true false r old new f → HasSumOf Summary f
-      by (Refused f) cause = tt
-      by (Stopped run) cause = tt
-      by (Done run roots) (lists, script, all) = load_sum r.rounds lists script.1 (Done run roots) all
-  sum_of Solo true e cause = lines_sum true e
-  sum_of TheRun true e cause = lines_sum true e
-  sum_of m true e cause = lines_sum false e
-  sum_of m false e cause = lines_sum false e
+      each : (f : Ending) → CauseBy false in_threads r old new f → HasSumOf Summary f
+      each (Refused f) cause = tt
+      each (Stopped run) cause = tt
+      each (Done run roots) (lists, script, all) = load_sum r.rounds lists script.1 (Done run roots) all
+  sum_of Solo Full e cause = lines_sum Full e
+  sum_of TheRun Full e cause = lines_sum Full e
+  sum_of m Full e cause = lines_sum Plain e
+  sum_of m Plain e cause = lines_sum Plain e
 
-  pub cause_writable : (e : Ending) →
-      CauseBy reads (traits_of r.mode).threads (traits_of r.mode).lists_roots r old new e →
-      IsWritable (form_of r) e
-  cause_writable (Refused f) cause = fault_writable (form_of r) f
+  pub cause_writable : (e : Ending) → CauseBy reads (traits_of r.mode).manner r old new e
+      → IsWritable (output_of r) e
+  cause_writable (Refused f) cause = fault_writable (output_of r) f
   cause_writable (Stopped run) (lists, script, at) = record {
-    callers = run_callers _ _ _ lists (Stopped run) at (few reads lists script);
-    sum = sum_of r.mode r.slots (Stopped run) (lists, script, at);
+    callers = run_callers (traits_of r.mode).manner _ lists (Stopped run) at (few reads lists script);
+    sum = sum_of r.mode r.form (Stopped run) (lists, script, at);
   }
   cause_writable (Done run roots) (lists, script, all) = record {
-    callers = run_callers _ _ _ lists (Done run roots) all (few reads lists script);
-    sum = sum_of r.mode r.slots (Done run roots) (lists, script, all);
+    callers = run_callers (traits_of r.mode).manner _ lists (Done run roots) all (few reads lists script);
+    sum = sum_of r.mode r.form (Done run roots) (lists, script, all);
   }
 
 -- ---- the same of a source
 
 module _ {S : Type 0} (seen : S → SourceView) (r : Request) (source : S × S) where
-  pub listed_worked : (threads : Bool) (e after : Ending) → Worked seen threads false r source e
-      → Lists e after → Worked seen threads true r source after
+  pub listed_worked : (threads : Bool) (e after : Ending) → Worked seen (by threads false) r source e
+      → Lists e after → Worked seen (by threads true) r source after
   listed_worked threads e after worked is = record {
     cause = listed_cause r (seen source.0) (seen source.1) (traits_of r.mode).reads threads e after
         worked.cause is;
@@ -97,14 +99,12 @@ module _ {S : Type 0} (seen : S → SourceView) (r : Request) (source : S × S) 
   }
 
   pub alone_worked : (listed : Bool) (e : Ending) → runs_alone listed (traits_of r.mode) ≡ true →
-      Worked seen false listed r source e →
-      Worked seen (traits_of r.mode).threads (traits_of r.mode).lists_roots r source e
+      Worked seen (by false listed) r source e → Worked seen (traits_of r.mode).manner r source e
   alone_worked listed e is worked =
-      let says = alone listed (traits_of r.mode) is in
-      subst (λ b. Worked seen (traits_of r.mode).threads b r source e) (sym says.1)
-      (subst (λ b. Worked seen b listed r source e) (sym says.0) worked)
+      let says = is_alone listed (traits_of r.mode) is in
+      subst (λ b. Worked seen (by (traits_of r.mode).manner.threads b) r source e) (sym says.1)
+      (subst (λ b. Worked seen (by b listed) r source e) (sym says.0) worked)
 
-  pub worked_writable : (e : Ending) →
-      Worked seen (traits_of r.mode).threads (traits_of r.mode).lists_roots r source e →
-      IsWritable (form_of r) e
+  pub worked_writable : (e : Ending) → Worked seen (traits_of r.mode).manner r source e
+      → IsWritable (output_of r) e
   worked_writable e worked = cause_writable r (seen source.0) (seen source.1) e worked.cause

@@ -1,14 +1,14 @@
 -- What an audit finds, its cause, and its report. The texts and the statuses are this project's own.
-use Rattle.std.specs.Prelude.{◌≡◌, ℕ, ◌+◌, ◌≤◌, ◌++◌, ◌⊎◌, List, codes, decimal, Option, None, Some}
-use Rattle.hd_model.specs.{declared.command.Cmd.Cmd, declared.limits.TheConstants.MOST_BYTES, Judged.IsRunText, Judged.IsNoRun, State.Numbers, Text.newline}
-use Rattle.hd_io.specs.Sink.{SinkView, Took, WriteBrokeOff}
-use Rattle.hd_io.specs.Source.{SourceView, GaveCount, ReadBrokeOff}
+use Rattle.std.specs.Prelude.{◌≡◌, ℕ, ◌++◌, ◌⊎◌, List, codes, decimal, Option, None, Some}
+use Rattle.hd_model.specs.{declared.command.Cmd.Cmd, Judged.IsRunText, Judged.IsNoRun, State.Numbers, Text.newline}
+use Rattle.hd_io.specs.Sink.{SinkView}
+use Rattle.hd_io.specs.Source.{SourceView}
 use Rattle.hd_script.specs.AuditInput.{IsAuditInput, IsNoAuditInput}
 use Rattle.hd_audit.specs.declared.lines.Verdict.{Verdict}
 use Rattle.hd_audit.specs.declared.lines.Verdict.TheVariants as verdict
-use Rattle.hd_run.specs.{declared.audit.Finding.Finding, declared.outcome.Kept.TheVariants.Nothing, declared.outcome.Outcome.Outcome, declared.request.Request.Request, Bounds.Bounds, Bounds.numbers_for, Ending.ReadWhole, Report.fault_status, Report.fault_text}
+use Rattle.hd_run.specs.{declared.audit.Finding.Finding, declared.outcome.Kept.TheVariants.Nothing, declared.outcome.Outcome.Outcome, declared.request.Request.Request, Bounds.Bounds, Bounds.numbers_for, Ending.CauseOfFault, Ending.ReadBytes, Report.IsReported, Report.fault_status, Report.fault_text}
 use Rattle.hd_run.specs.declared.audit.Finding.TheVariants.{Refused, Right, WrongAt}
-use Rattle.hd_run.specs.declared.ending.Fault.TheVariants.{Usage, Unread, OverSize, BadLine, NoMemory}
+use Rattle.hd_run.specs.declared.fault.Fault.TheVariants.{Usage, Unread, OverSize, BadLine, NoMemory}
 
 -- ---- what is found
 
@@ -47,17 +47,8 @@ FindsIn b bytes (WrongAt line) = HasNoRun b bytes line
 
 -- ---- its cause
 
--- the source was read to its end, and this is true of its bytes
-abbrev pub ReadBytes : SourceView → SourceView → (List ℕ → Type 0) → Type 0
-ReadBytes old new IsSo = (bytes : List ℕ) × ReadWhole old new bytes × IsSo bytes
-
--- the cause of each finding; out of memory is free
 abbrev pub FindingCause : Bounds → SourceView → SourceView → Finding → Type 0
-FindingCause b old new (Refused Usage) = ⊥
-FindingCause b old new (Refused Unread) = ReadBrokeOff old new MOST_BYTES
-FindingCause b old new (Refused OverSize) = GaveCount old new (λ n. n ≡ MOST_BYTES + 1)
-FindingCause b old new (Refused (BadLine k)) = ReadBytes old new (λ bytes. IsNoAuditInput bytes k)
-FindingCause b old new (Refused NoMemory) = GaveCount old new (λ n. n ≤ MOST_BYTES)
+FindingCause b old new (Refused fault) = CauseOfFault IsNoAuditInput old new fault
 FindingCause b old new Right = ReadBytes old new (HasRun b)
 FindingCause b old new (WrongAt line) = ReadBytes old new (λ bytes. HasNoRun b bytes line)
 
@@ -85,10 +76,7 @@ finding_text (Refused fault) = fault_text fault
 finding_text Right = right_text
 finding_text (WrongAt line) = wrong_text line
 
--- The finding is reported, and nothing is kept: all of its text is written and its status returned; or a
--- write failed after a prefix of the text, and the status is 5.
+-- the finding is reported, and nothing is kept
 pub record ReportsFinding (old new : SinkView) (finding : Finding) (o : Outcome) : Type 0 where
   pub kept : o.kept ≡ Nothing
-  pub written :
-      ((o.status ≡ finding_status finding) × Took old new (finding_text finding))
-      ⊎ ((o.status ≡ 5) × WriteBrokeOff old new (finding_text finding))
+  pub written : IsReported old new (finding_status finding) (finding_text finding) o.status

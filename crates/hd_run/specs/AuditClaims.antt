@@ -3,9 +3,9 @@ use Rattle.std.specs.Prelude.{◌≡◌, ◌≢◌, ℕ, ◌+◌, ◌<◌, ◌�
 use Rattle.hd_model.specs.declared.limits.TheConstants.{MOST_BYTES}
 use Rattle.hd_io.specs.{Counts.Rose, Source.SourceView, Source.GaveCount, Sink.SinkView, Sink.Took}
 use Rattle.hd_script.specs.AuditInput.{IsNoAuditInput}
-use Rattle.hd_run.specs.{declared.audit.Finding.Finding, declared.outcome.Kept.TheVariants.Nothing, declared.outcome.Outcome.Outcome, declared.request.Request.Request, Bounds.Bounds, Claims.Promise, Modes.traits_of, Report.fault_text, Report.memory_text}
-use Rattle.hd_run.specs.declared.ending.Fault.TheVariants.{OverSize, BadLine}
-use Rattle.hd_run.specs.Audit.{HasRun, HasNoRun, ReadBytes, AuditCause, ReportsFinding, right_text, wrong_text}
+use Rattle.hd_run.specs.{declared.audit.Finding.Finding, declared.outcome.Kept.TheVariants.Nothing, declared.outcome.Outcome.Outcome, declared.request.Request.Request, Bounds.Bounds, Claims.Promise, Ending.ReadBytes, Modes.traits_of, Report.fault_text, Report.memory_text}
+use Rattle.hd_run.specs.declared.fault.Fault.TheVariants.{OverSize, BadLine}
+use Rattle.hd_run.specs.Audit.{HasRun, HasNoRun, AuditCause, ReportsFinding, right_text, wrong_text}
 
 -- words that are valid and name a mode that judges
 abbrev pub AsksToJudge : Option Request → Type 0

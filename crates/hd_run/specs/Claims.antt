@@ -7,17 +7,17 @@ use Rattle.hd_model.specs.Laws.{count_entries, makes_handle, frees_handle}
 use Rattle.hd_io.specs.{Counts.Rose, Source.SourceView, Source.GaveCount, Sink.SinkView, Sink.Took}
 use Rattle.hd_script.specs.Load.{line_of_rounds}
 use Rattle.hd_world.specs.World.{WorldView}
-use Rattle.hd_run.specs.{declared.ending.Ending.Ending, declared.ending.Fault.TheVariants.NoMemory, declared.ending.Ran.Ran, declared.outcome.Kept.Kept, declared.outcome.Outcome.Outcome, declared.mode.Form.Form, declared.request.Request.Request, Together.RanAllTogether, Together.StoppedTogether, Modes.traits_of}
+use Rattle.hd_run.specs.{declared.ending.Ending.Ending, declared.fault.Fault.TheVariants.NoMemory, declared.ending.Ran.Ran, declared.outcome.Kept.Kept, declared.outcome.Outcome.Outcome, declared.mode.Output.Output, declared.request.Request.Request, Together.RanAllTogether, Together.StoppedTogether, Modes.in_threads, Modes.traits_of}
 use Rattle.hd_run.specs.declared.outcome.Kept.TheVariants.{Nothing, Alone, Shared}
 use Rattle.hd_run.specs.Ending.{world_of, world_that, kept_that, ReadWhole, ScriptBy, RanBy, StoppedBy, RefusedBy, RunCause, numbers_by, journal_in, Cause}
-use Rattle.hd_run.specs.Report.{whole_text, stopped_text, form_for, Reports, text_by}
+use Rattle.hd_run.specs.Report.{whole_text, stopped_text, output_for, Reports, text_by}
 
 -- There was a script, read whole or made. What ran all of it, as its mode does, is kept, and its text was
 -- written.
 abbrev pub RunsWhole : Option Request → SourceView → SourceView → SinkView → SinkView → Kept → Type 0
 RunsWhole asked old new before after kept = IsSomeAnd asked (λ r. let t = traits_of r.mode in
     (lists : List (List Cmd)) × ScriptBy t.reads r old new lists
-    × (run : Ran) × (kept ≡ kept_that run) × RanBy t.threads (numbers_by t.reads r lists) lists run
+    × (run : Ran) × (kept ≡ kept_that run) × RanBy t.manner.threads (numbers_by t.reads r lists) lists run
     × Took before after (text_by r (world_that run)))
 
 -- What was read where nothing is kept: at most the limit of bytes, and nothing where no mode asks for it. Of
@@ -33,7 +33,7 @@ StopsForMemory asked old new kept =
     (ReadAtMost asked old new × (kept ≡ Nothing))
     ⊎ IsSomeAnd asked (λ r. let t = traits_of r.mode in
     (lists : List (List Cmd)) × ScriptBy t.reads r old new lists × (run : Ran) × (kept ≡ kept_that run)
-    × StoppedBy t.threads t.lists_roots (numbers_by t.reads r lists) lists run)
+    × StoppedBy t.manner.threads t.manner.lists_roots (numbers_by t.reads r lists) lists run)
 
 -- bytes that are no program
 abbrev pub IsNoProgram : List ℕ → Type 0
@@ -88,7 +88,7 @@ pub record Promise {S K : Type 0} (seen : S → SourceView) (shown : K → SinkV
     (asked : Option Request) (source : S × S) (sink : K × K) (o : Outcome) : Type 0 where
   -- whatever the words and the bytes: the work ended with a cause, and its ending is reported
   pub work : (ending : Ending) × Cause asked (seen source.0) (seen source.1) ending
-      × Reports (shown sink.0) (shown sink.1) (form_for asked) ending o
+      × Reports (shown sink.0) (shown sink.1) (output_for asked) ending o
   -- on status 0 the script was run whole, and its text is written
   pub whole : o.status ≡ 0 → RunsWhole asked (seen source.0) (seen source.1) (shown sink.0)
       (shown sink.1) o.kept
@@ -100,7 +100,7 @@ pub record Promise {S K : Type 0} (seen : S → SourceView) (shown : K → SinkV
       × Rose (seen source.0).faults (seen source.1).faults × (o.kept ≡ Nothing)
   pub write : o.status ≡ 5 → Rose (shown sink.0).faults (shown sink.1).faults
   pub memory : o.status ≡ 6 → StopsForMemory asked (seen source.0) (seen source.1) o.kept
-      × Took (shown sink.0) (shown sink.1) (stopped_text (form_for asked)
+      × Took (shown sink.0) (shown sink.1) (stopped_text (output_for asked)
       (journal_in (world_of o.kept)))
   pub statuses : IsStatus o.status
   -- no fault of the source or the sink is passed over
@@ -128,19 +128,19 @@ pub record Promise {S K : Type 0} (seen : S → SourceView) (shown : K → SinkV
   pub handles : KeepsCount o.kept
 
 -- What `run` promises of callers in threads over these lists, and so does `load`, which writes one line.
-pub record Together {K : Type 0} (shown : K → SinkView) (form : Form) (n : Numbers)
+pub record Together {K : Type 0} (shown : K → SinkView) (output : Output) (n : Numbers)
     (lists : List (List Cmd)) (sink_old sink_new : K) (o : Outcome) : Type 0 where
   -- whatever happens: the run ended with a cause, and its ending is reported
-  pub work : (ending : Ending) × RunCause true false n lists ending
-      × Reports (shown sink_old) (shown sink_new) form ending o
+  pub work : (ending : Ending) × RunCause in_threads n lists ending
+      × Reports (shown sink_old) (shown sink_new) output ending o
   -- on status 0 each caller did its whole list, in the journal of one run, and its text is written
   pub whole : o.status ≡ 0 → (w : WorldView) × (o.kept ≡ Shared w) × RanAllTogether n lists w
-      × Took (shown sink_old) (shown sink_new) (whole_text form w)
+      × Took (shown sink_old) (shown sink_new) (whole_text output w)
   -- each other status has a cause, and no other is returned
   pub write : o.status ≡ 5 → Rose (shown sink_old).faults (shown sink_new).faults
   pub memory : o.status ≡ 6 →
       ((o.kept ≡ Nothing) ⊎ ((w : WorldView) × (o.kept ≡ Shared w) × StoppedTogether n lists w))
-      × Took (shown sink_old) (shown sink_new) (stopped_text form (journal_in (world_of o.kept)))
+      × Took (shown sink_old) (shown sink_new) (stopped_text output (journal_in (world_of o.kept)))
   pub statuses : Contains (0 ∷ 5 ∷ 6 ∷ []) o.status
   pub sink_faults : o.status ≢ 5 → (shown sink_new).faults ≡ (shown sink_old).faults
   -- whatever the status: the journal of what is kept is a run, and its live handles are those that were made,

@@ -9,8 +9,8 @@ use Rattle.hd_io.specs.Source.{SourceView, GaveAll, GaveCount, ReadBrokeOff}
 use Rattle.hd_script.specs.declared.fault.ScriptFault.{ScriptFault}
 use Rattle.hd_script.specs.declared.fault.ScriptFault.TheVariants as script_fault
 use Rattle.hd_world.specs.World.{WorldView}
-use Rattle.hd_run.specs.{declared.ending.Fault.Fault, declared.ending.Ran.Ran, declared.ending.Ending.Ending, declared.outcome.Kept.Kept, declared.request.Request.Request, Bounds.numbers_for, Modes.traits_of, Turns.RanWhole, Turns.StoppedAt, Together.RanAllTogether, Together.StoppedTogether}
-use Rattle.hd_run.specs.declared.ending.Fault.TheVariants.{Usage, Unread, OverSize, BadLine, NoMemory}
+use Rattle.hd_run.specs.{declared.fault.Fault.Fault, declared.ending.Ran.Ran, declared.ending.Ending.Ending, declared.mode.Manner.Manner, declared.outcome.Kept.Kept, declared.request.Request.Request, Bounds.numbers_for, Modes.traits_of, Turns.RanWhole, Turns.StoppedAt, Together.RanAllTogether, Together.StoppedTogether}
+use Rattle.hd_run.specs.declared.fault.Fault.TheVariants.{Usage, Unread, OverSize, BadLine, NoMemory}
 use Rattle.hd_run.specs.declared.ending.Ran.TheVariants as ran
 use Rattle.hd_run.specs.declared.ending.Ending.TheVariants.{Refused, Stopped, Done}
 use Rattle.hd_run.specs.declared.outcome.Kept.TheVariants.{Nothing, Alone, Shared}
@@ -81,6 +81,10 @@ pub record ReadWhole (old new : SourceView) (bytes : List ℕ) : Type 0 where
   pub all : GaveAll old new bytes
   pub within : length bytes ≤ MOST_BYTES
 
+-- the source was read to its end, and this is true of its bytes
+abbrev pub ReadBytes : SourceView → SourceView → (List ℕ → Type 0) → Type 0
+ReadBytes old new IsSo = (bytes : List ℕ) × ReadWhole old new bytes × IsSo bytes
+
 -- the bytes are a program with these lists
 pub record IsProgram (bytes : List ℕ) (lists : List (List Cmd)) : Type 0 where
   pub script : script_of bytes ≡ Ok lists
@@ -135,44 +139,45 @@ abbrev pub roots_by : Bool → WorldView → Option (List RootId)
 roots_by false w = None
 roots_by true w = Some (roots_of w.state)
 
--- The cause of each fault of reading. Out of memory is free.
+-- The cause of each fault of reading, by which line of the bytes is at fault. Out of memory is free.
+abbrev pub CauseOfFault : (List ℕ → ℕ → Type 0) → SourceView → SourceView → Fault → Type 0
+CauseOfFault IsAtFault old new Usage = ⊥
+CauseOfFault IsAtFault old new Unread = ReadBrokeOff old new MOST_BYTES
+CauseOfFault IsAtFault old new OverSize = GaveCount old new (λ n. n ≡ MOST_BYTES + 1)
+CauseOfFault IsAtFault old new (BadLine k) = ReadBytes old new (λ bytes. IsAtFault bytes k)
+CauseOfFault IsAtFault old new NoMemory = GaveCount old new (λ n. n ≤ MOST_BYTES)
+
+-- and of reading a script
 abbrev pub FaultCause : SourceView → SourceView → Fault → Type 0
-FaultCause old new Usage = ⊥
-FaultCause old new Unread = ReadBrokeOff old new MOST_BYTES
-FaultCause old new OverSize = GaveCount old new (λ n. n ≡ MOST_BYTES + 1)
-FaultCause old new (BadLine k) =
-    (bytes : List ℕ) × ReadWhole old new bytes × (script_of bytes ≡ Err k)
-FaultCause old new NoMemory = GaveCount old new (λ n. n ≤ MOST_BYTES)
+FaultCause old new fault = CauseOfFault (λ bytes k. script_of bytes ≡ Err k) old new fault
 
 -- why no run is kept, by whether the mode reads: one that reads nothing is kept from a run by memory alone
 abbrev pub RefusedBy : Bool → SourceView → SourceView → Fault → Type 0
 RefusedBy true old new fault = FaultCause old new fault
 RefusedBy false old new fault = (fault ≡ NoMemory) × (new ≡ old)
 
--- The cause of each ending of a run of these lists, by whether its callers had threads and whether roots were
--- to be listed. Out of memory is free where no world is kept.
-abbrev pub RunCause : Bool → Bool → Numbers → List (List Cmd) → Ending → Type 0
-RunCause threads listed n lists (Refused fault) = fault ≡ NoMemory
-RunCause threads listed n lists (Stopped run) = StoppedBy threads listed n lists run
-RunCause threads listed n lists (Done run roots) =
-    RanBy threads n lists run × (roots ≡ roots_by listed (world_that run))
+-- The cause of each ending of a run of these lists, by the manner of the run. Out of memory is free where no
+-- world is kept.
+abbrev pub RunCause : Manner → Numbers → List (List Cmd) → Ending → Type 0
+RunCause m n lists (Refused fault) = fault ≡ NoMemory
+RunCause m n lists (Stopped run) = StoppedBy m.threads m.lists_roots n lists run
+RunCause m n lists (Done run roots) =
+    RanBy m.threads n lists run × (roots ≡ roots_by m.lists_roots (world_that run))
 
 -- there was a script, read whole or made, and the run of it has its cause
-abbrev pub RunsFor : Bool → Bool → Bool → Request → SourceView → SourceView → Ending → Type 0
-RunsFor reads threads listed r old new ending = (lists : List (List Cmd)) × ScriptBy reads r old new lists
-    × RunCause threads listed (numbers_by reads r lists) lists ending
+abbrev pub RunsFor : Bool → Manner → Request → SourceView → SourceView → Ending → Type 0
+RunsFor reads m r old new ending = (lists : List (List Cmd)) × ScriptBy reads r old new lists
+    × RunCause m (numbers_by reads r lists) lists ending
 
--- the cause of each ending of a request, by whether its mode reads, whether its callers have threads and
--- whether it lists roots
-abbrev pub CauseBy : Bool → Bool → Bool → Request → SourceView → SourceView → Ending → Type 0
-CauseBy reads threads listed r old new (Refused fault) = RefusedBy reads old new fault
-CauseBy reads threads listed r old new (Stopped run) = RunsFor reads threads listed r old new (Stopped run)
-CauseBy reads threads listed r old new (Done run roots) =
-    RunsFor reads threads listed r old new (Done run roots)
+-- the cause of each ending of a request, by whether its mode reads, and by the manner of its run
+abbrev pub CauseBy : Bool → Manner → Request → SourceView → SourceView → Ending → Type 0
+CauseBy reads m r old new (Refused fault) = RefusedBy reads old new fault
+CauseBy reads m r old new (Stopped run) = RunsFor reads m r old new (Stopped run)
+CauseBy reads m r old new (Done run roots) = RunsFor reads m r old new (Done run roots)
 
 -- The cause of each ending, by what the words ask for. Words that aren't valid are refused unread; memory may
 -- run out as they are read.
 abbrev pub Cause : Option Request → SourceView → SourceView → Ending → Type 0
 Cause None old new ending = ((ending ≡ Refused Usage) ⊎ (ending ≡ Refused NoMemory)) × (new ≡ old)
-Cause (Some r) old new ending = let t = traits_of r.mode in
-    CauseBy t.reads t.threads t.lists_roots r old new ending
+Cause (Some r) old new ending =
+    let t = traits_of r.mode in CauseBy t.reads t.manner r old new ending

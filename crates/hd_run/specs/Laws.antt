@@ -1,10 +1,11 @@
 -- What the turns of a journal say of each caller's part of it; and the limits as numbers, since a definition
 -- cites the program's own constants, which another number would change with them.
-use Rattle.std.specs.Prelude.{◌≡◌, ℕ, List, [], ◌++◌, map, codes, false, Option}
+use Rattle.std.specs.Prelude.{◌≡◌, ℕ, List, [], ◌++◌, map, codes, Option}
 use Rattle.clap.specs.Words.{new_app, with_rule}
 use Rattle.hd_model.specs.{declared.command.Cmd.Cmd, declared.data.Entry.Entry, declared.data.RootId.RootId, Run.part_of, Run.commands_of}
 use Rattle.hd_model.specs.declared.limits.TheConstants.{HEAP, BLOCKS, MOST_ROUNDS, MOST_BYTES}
-use Rattle.hd_run.specs.declared.ending.Fault.TheVariants.{Usage, Unread, OverSize, BadLine, NoMemory}
+use Rattle.hd_print.specs.declared.entries.Form.TheVariants.{Plain}
+use Rattle.hd_run.specs.declared.fault.Fault.TheVariants.{Usage, Unread, OverSize, BadLine, NoMemory}
 use Rattle.hd_run.specs.declared.ending.Ending.TheVariants.{Refused, Stopped, Done}
 use Rattle.hd_run.specs.{declared.ending.Ran.Ran, declared.limits.TheConstants.LEAST_HEAP, declared.mode.Mode.Mode, Report.status_of}
 use Rattle.hd_run.specs.Turns.{list_of, turns_from, turn_of, taken_by}
@@ -25,12 +26,12 @@ pub record LimitsAreThese : Type 0 where
       mode_rule) (number_rule (codes "heap") 3 1000000)) (number_rule (codes "blocks") 1 256))
       (number_rule (codes "rounds") 1 3000)) (flag_rule (codes "slots"))
   -- where they name no number, the heap has 1,000,000 cells, there are 256 blocks, and a load has 100 rounds;
-  -- and lines have no slots
+  -- and lines are plain
   pub defaults : (mode : Mode) → with_numbers [] mode ≡ record {
     mode = mode;
     limits = record { heap = 1000000; blocks = 256 };
     rounds = 100;
-    slots = false;
+    form = Plain;
   }
   -- the same limits hold where no words are read
   pub heap : (LEAST_HEAP ≡ 3) × (HEAP ≡ 1000000)

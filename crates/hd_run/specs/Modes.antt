@@ -2,8 +2,10 @@
 use Rattle.std.specs.Prelude.{Bool, true, false, not, ◌&&◌, Option, Some, None, codes, if◌then◌else◌}
 use Rattle.std.specs.Str.{bytes_eq}
 use Rattle.clap.specs.Words.{Text}
-use Rattle.hd_run.specs.{declared.mode.Form.Form, declared.mode.Mode.Mode, declared.mode.Traits.Traits, declared.request.Request.Request}
-use Rattle.hd_run.specs.declared.mode.Form.TheVariants.{Lines, FullLines, Summary}
+use Rattle.hd_print.specs.declared.entries.Form.{Form}
+use Rattle.hd_print.specs.declared.entries.Form.TheVariants.{Plain, Full}
+use Rattle.hd_run.specs.{declared.mode.Output.Output, declared.mode.Manner.Manner, declared.mode.Mode.Mode, declared.mode.Traits.Traits, declared.request.Request.Request}
+use Rattle.hd_run.specs.declared.mode.Output.TheVariants.{Lines, Summary}
 use Rattle.hd_run.specs.declared.mode.Mode.TheVariants.{Solo, Run, Load, Roots, Audit}
 
 -- the mode of a name
@@ -15,66 +17,66 @@ mode_of name = if bytes_eq name (codes "solo") then Some Solo
     else if bytes_eq name (codes "audit") then Some Audit
     else None
 
--- what each mode is: whether it reads a script, and else makes that of a load; whether its callers have
--- threads; whether it lists roots; whether it judges a text and runs nothing; and how it writes a run, and
--- how where slots are asked for
+-- how a script is run: by one thread; by one, and its roots are listed; by a thread for each caller
+abbrev pub alone : Manner
+alone = record { threads = false; lists_roots = false }
+
+abbrev pub listing : Manner
+listing = record { threads = false; lists_roots = true }
+
+abbrev pub in_threads : Manner
+in_threads = record { threads = true; lists_roots = false }
+
+-- what each mode is: whether it reads a script, and else makes that of a load; how it runs it; whether it
+-- judges a text and runs nothing; and how it writes a run where plain lines are asked for, and where full
+-- ones
 abbrev pub traits_of : Mode → Traits
 traits_of Solo = record {
   reads = true;
-  threads = false;
-  lists_roots = false;
+  manner = alone;
   judges = false;
-  form = Lines;
-  slots_form = FullLines;
+  plain = Lines Plain;
+  full = Lines Full;
 }
 traits_of Run = record {
   reads = true;
-  threads = true;
-  lists_roots = false;
+  manner = in_threads;
   judges = false;
-  form = Lines;
-  slots_form = FullLines;
+  plain = Lines Plain;
+  full = Lines Full;
 }
 traits_of Load = record {
   reads = false;
-  threads = true;
-  lists_roots = false;
+  manner = in_threads;
   judges = false;
-  form = Summary;
-  slots_form = Summary;
+  plain = Summary;
+  full = Summary;
 }
 traits_of Roots = record {
   reads = true;
-  threads = false;
-  lists_roots = true;
+  manner = listing;
   judges = false;
-  form = Lines;
-  slots_form = Lines;
+  plain = Lines Plain;
+  full = Lines Plain;
 }
 traits_of Audit = record {
   reads = true;
-  threads = false;
-  lists_roots = false;
+  manner = alone;
   judges = true;
-  form = Lines;
-  slots_form = Lines;
+  plain = Lines Plain;
+  full = Lines Plain;
 }
 
 -- whether one thread runs the script, and lists the roots or not
 abbrev pub runs_alone : Bool → Traits → Bool
-runs_alone true t = not t.threads && t.lists_roots && not t.judges
-runs_alone false t = not t.threads && not t.lists_roots && not t.judges
+runs_alone true t = not t.manner.threads && t.manner.lists_roots && not t.judges
+runs_alone false t = not t.manner.threads && not t.manner.lists_roots && not t.judges
 
--- how a mode writes a run, by whether slots are asked for
-abbrev pub form_by : Bool → Traits → Form
-form_by false t = t.form
-form_by true t = t.slots_form
+-- how a mode writes a run, by the form of lines that is asked for
+abbrev pub output_by : Form → Traits → Output
+output_by Plain t = t.plain
+output_by Full t = t.full
 
 -- how the run of a request is written
-abbrev pub form_of : Request → Form
-form_of r = form_by r.slots (traits_of r.mode)
-
--- lines, full or plain
-abbrev pub lines_form : Bool → Form
-lines_form false = Lines
-lines_form true = FullLines
+abbrev pub output_of : Request → Output
+output_of r = output_by r.form (traits_of r.mode)

@@ -6,7 +6,8 @@ use Rattle.hd_script.specs.AuditInput.{IsDivided}
 use Rattle.hd_audit.specs.Judging.{IsRight}
 use Rattle.hd_audit.specs.declared.lines.Verdict.{Verdict}
 use Rattle.hd_audit.specs.declared.lines.Verdict.TheVariants.{Run, Memory}
-use Rattle.hd_run.specs.{declared.ending.Ran.Ran, declared.mode.Form.TheVariants.FullLines, declared.outcome.Outcome.Outcome, declared.request.Request.Request, AuditClaims.ProgramPromise, Ending.RanBy, Ending.world_that, Modes.form_of, Modes.traits_of}
+use Rattle.hd_print.specs.declared.entries.Form.TheVariants.{Full}
+use Rattle.hd_run.specs.{declared.ending.Ran.Ran, declared.mode.Output.TheVariants.Lines, declared.outcome.Outcome.Outcome, declared.request.Request.Request, AuditClaims.ProgramPromise, Ending.RanBy, Ending.world_that, Modes.output_of, Modes.traits_of}
 
 -- No right verdict on the full text of what ran a whole script, callers in turn or in threads, is that it is
 -- no run.
@@ -25,7 +26,7 @@ pub record PrintsRun {S K : Type 0} (seen : S → SourceView) (shown : K → Sin
   pub sink : K × K
   pub outcome : Outcome
   pub promise : ProgramPromise seen shown (Some r) source sink outcome
-  pub full : form_of r ≡ FullLines
+  pub full : output_of r ≡ Lines Full
   pub done : outcome.status ≡ 0
   pub given : (seen source.0).left ≡ Some script
   pub before : List ℕ

@@ -1,13 +1,14 @@
 -- What a call writes and returns. The texts and the statuses are this project's own.
 use Rattle.std.specs.Prelude.{◌≡◌, ℕ, ◌^◌, ◌<◌, sum_by, List, ◌++◌, ◌⊎◌, codes, decimal, Option, None, Some, Result, MatchResult, All}
-use Rattle.std.specs.List.{concat}
 use Rattle.hd_model.specs.{declared.data.Entry.Entry, declared.data.RootId.RootId, declared.limits.TheConstants.CALLERS, Generated.load_text_of, Generated.value_returned, RootText.list_text}
-use Rattle.hd_model.specs.Text.{newline, lines_of, text_of}
-use Rattle.hd_model.specs.FullText.{full_lines, full_text_of}
+use Rattle.hd_model.specs.Text.{newline, text_of}
+use Rattle.hd_model.specs.FullText.{full_text_of}
 use Rattle.hd_io.specs.Sink.{SinkView, Took, WriteBrokeOff}
+use Rattle.hd_print.specs.EntryLines.{lines_by}
+use Rattle.hd_print.specs.declared.entries.Form.TheVariants.{Plain, Full}
 use Rattle.hd_world.specs.World.{WorldView}
-use Rattle.hd_run.specs.{declared.ending.Fault.Fault, declared.ending.Ending.Ending, declared.outcome.Outcome.Outcome, declared.mode.Form.Form, declared.mode.Form.TheVariants.Lines, declared.mode.Form.TheVariants.FullLines, declared.mode.Form.TheVariants.Summary, declared.request.Request.Request, Modes.traits_of, Modes.form_of}
-use Rattle.hd_run.specs.declared.ending.Fault.TheVariants.{Usage, Unread, OverSize, BadLine, NoMemory}
+use Rattle.hd_run.specs.{declared.fault.Fault.Fault, declared.ending.Ending.Ending, declared.outcome.Outcome.Outcome, declared.mode.Output.Output, declared.mode.Output.TheVariants.Lines, declared.mode.Output.TheVariants.Summary, declared.request.Request.Request, Modes.traits_of, Modes.output_of}
+use Rattle.hd_run.specs.declared.fault.Fault.TheVariants.{Usage, Unread, OverSize, BadLine, NoMemory}
 use Rattle.hd_run.specs.declared.ending.Ending.TheVariants.{Refused, Stopped, Done}
 use Rattle.hd_run.specs.Ending.{world_that, kept_of, world_of, journal_in, roots_by}
 
@@ -38,36 +39,35 @@ fault_text (BadLine k) = codes "fault line " ++ decimal k ++ newline
 fault_text NoMemory = memory_text
 
 -- what is written where memory ran out: the entries so far and its line, or its line alone
-abbrev pub stopped_text : Form → List Entry → List ℕ
-stopped_text Lines journal = lines_of journal ++ memory_text
-stopped_text FullLines journal = concat (full_lines journal) ++ memory_text
+abbrev pub stopped_text : Output → List Entry → List ℕ
+stopped_text (Lines form) journal = lines_by form journal ++ memory_text
 stopped_text Summary journal = memory_text
 
 -- what is written of a whole run: the text of its journal, plain or full, or the line of a load
-abbrev pub whole_text : Form → WorldView → List ℕ
-whole_text Lines w = text_of w.journal w.state
-whole_text FullLines w = full_text_of w.journal w.state
+abbrev pub whole_text : Output → WorldView → List ℕ
+whole_text (Lines Plain) w = text_of w.journal w.state
+whole_text (Lines Full) w = full_text_of w.journal w.state
 whole_text Summary w = load_text_of w.journal w.state
 
 -- what is written of what ran: after that the lines of the roots, where they were listed
-abbrev pub ran_text : Form → WorldView → Option (List RootId) → List ℕ
-ran_text form w None = whole_text form w
-ran_text form w (Some roots) = whole_text form w ++ list_text roots
+abbrev pub ran_text : Output → WorldView → Option (List RootId) → List ℕ
+ran_text output w None = whole_text output w
+ran_text output w (Some roots) = whole_text output w ++ list_text roots
 
 -- what is written of a whole run for a request
 abbrev pub text_by : Request → WorldView → List ℕ
-text_by r w = ran_text (form_of r) w (roots_by (traits_of r.mode).lists_roots w)
+text_by r w = ran_text (output_of r) w (roots_by (traits_of r.mode).manner.lists_roots w)
 
 -- what each ending writes
-abbrev pub text_for : Form → Ending → List ℕ
-text_for form (Refused fault) = fault_text fault
-text_for form (Stopped run) = stopped_text form (world_that run).journal
-text_for form (Done run roots) = ran_text form (world_that run) roots
+abbrev pub text_for : Output → Ending → List ℕ
+text_for output (Refused fault) = fault_text fault
+text_for output (Stopped run) = stopped_text output (world_that run).journal
+text_for output (Done run roots) = ran_text output (world_that run) roots
 
 -- how the run of a request is written, and how a refusal of the words is
-abbrev pub form_for : Option Request → Form
-form_for None = Lines
-form_for (Some r) = form_of r
+abbrev pub output_for : Option Request → Output
+output_for None = Lines Plain
+output_for (Some r) = output_of r
 
 -- the sink took all of a text; or a write failed, after a prefix of it
 abbrev pub Writes : {T E : Type 0} → SinkView → SinkView → List ℕ → Result T E → Type 0
@@ -79,25 +79,27 @@ abbrev pub HasFewCallers : List Entry → Type 0
 HasFewCallers journal = All (λ (e : Entry). e.caller < CALLERS) journal
 
 -- the sum that a load reports fits in 64 bits
-abbrev pub HasSum : Form → WorldView → Type 0
-HasSum Lines w = Unit {0}
-HasSum FullLines w = Unit {0}
+abbrev pub HasSum : Output → WorldView → Type 0
+HasSum (Lines form) w = Unit {0}
 HasSum Summary w = sum_by (λ (e : Entry). value_returned e.reply) w.journal < 2 ^ 64
 
-abbrev pub HasSumOf : Form → Ending → Type 0
-HasSumOf form (Refused fault) = Unit {0}
-HasSumOf form (Stopped run) = Unit {0}
-HasSumOf form (Done run roots) = HasSum form (world_that run)
+abbrev pub HasSumOf : Output → Ending → Type 0
+HasSumOf output (Refused fault) = Unit {0}
+HasSumOf output (Stopped run) = Unit {0}
+HasSumOf output (Done run roots) = HasSum output (world_that run)
 
 -- the text of an ending can be written
-pub record IsWritable (form : Form) (ending : Ending) : Type 0 where
+pub record IsWritable (output : Output) (ending : Ending) : Type 0 where
   pub callers : HasFewCallers (journal_in (world_of (kept_of ending)))
-  pub sum : HasSumOf form ending
+  pub sum : HasSumOf output ending
 
--- The ending is reported, and what it keeps is kept: all of its text is written and its status
--- returned; or a write failed after a prefix of the text, and the status is 5.
-pub record Reports (old new : SinkView) (form : Form) (ending : Ending) (o : Outcome) : Type 0 where
+-- all of a text is written and its own status returned; or a write failed after a prefix of the text, and the
+-- status is 5
+abbrev pub IsReported : SinkView → SinkView → ℕ → List ℕ → ℕ → Type 0
+IsReported old new own text status =
+    ((status ≡ own) × Took old new text) ⊎ ((status ≡ 5) × WriteBrokeOff old new text)
+
+-- the ending is reported, and what it keeps is kept
+pub record Reports (old new : SinkView) (output : Output) (ending : Ending) (o : Outcome) : Type 0 where
   pub kept : o.kept ≡ kept_of ending
-  pub written :
-      ((o.status ≡ status_of ending) × Took old new (text_for form ending))
-      ⊎ ((o.status ≡ 5) × WriteBrokeOff old new (text_for form ending))
+  pub written : IsReported old new (status_of ending) (text_for output ending) o.status

@@ -5,7 +5,8 @@ use Rattle.std.specs.{Option.option_map_or, declared.alloc.Global.Global, Str.by
 use Rattle.clap.specs.Words.{App, IsUnsignedIn, Row, Rule, Text, first_of, one_of, fault_of, matches_of, new_app, new_rule, one_text, with_rule}
 use Rattle.clap.specs.{declared.error.kind.ErrorKind.ErrorKind, declared.error.kind.ErrorKind.TheVariants.OutOfMemory, declared.builder.action.ArgAction.TheVariants.SetTrue, declared.builder.value_parser.ValueParser.TheVariants.Unsigned, declared.parser.matches.Found.Found}
 use Rattle.hd_model.specs.declared.limits.TheConstants.{HEAP, BLOCKS, MOST_ROUNDS}
-use Rattle.hd_run.specs.{declared.limits.TheConstants.LEAST_HEAP, declared.request.TheConstants.ROUNDS, declared.ending.Fault.Fault, declared.ending.Fault.TheVariants.Usage, declared.ending.Fault.TheVariants.NoMemory, declared.mode.Mode.Mode, declared.request.Request.Request}
+use Rattle.hd_run.specs.{declared.limits.TheConstants.LEAST_HEAP, declared.request.TheConstants.ROUNDS, declared.fault.Fault.Fault, declared.fault.Fault.TheVariants.Usage, declared.fault.Fault.TheVariants.NoMemory, declared.mode.Mode.Mode, declared.request.Request.Request}
+use Rattle.hd_print.specs.EntryLines.{form_of}
 use Rattle.hd_run.specs.Modes.{mode_of, traits_of, runs_alone}
 
 -- a positional word, which is required: the mode
@@ -54,7 +55,7 @@ with_numbers rows mode = record {
     blocks = number_of rows (codes "blocks") BLOCKS;
   };
   rounds = number_of rows (codes "rounds") ROUNDS;
-  slots = is_given rows (codes "slots");
+  form = form_of (is_given rows (codes "slots"));
 }
 
 -- what is asked for by what the command finds in the words

@@ -3,7 +3,7 @@ ghost use Rattle.std.specs.Prelude.{◌≡◌, ◌≤◌, length};
 ghost use Rattle.hd_model.specs.declared.limits.TheConstants.{MOST_BYTES};
 ghost use Rattle.hd_run.specs.Audit.{FindsIn, FindingCause, finding_of, finding_status};
 
-use crate::ending::{Fault, unparsed, unread};
+use crate::fault::{Fault, unparsed, unread};
 use crate::limits::Limits;
 use hd_audit::{Verdict, audit};
 use hd_io::{Source, read_all};

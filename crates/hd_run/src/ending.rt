@@ -1,26 +1,15 @@
 ghost use Rattle.std.specs.Prelude.{◌≡◌};
-ghost use Rattle.hd_run.specs.Ending.{kept_of, kept_that, world_that, unread_fault, unparsed_fault};
-ghost use Rattle.hd_run.specs.{Ending.run_ending, Ending.Lists, Report.fault_status, Report.status_of};
+ghost use Rattle.hd_run.specs.Ending.{kept_of, kept_that, world_that};
+ghost use Rattle.hd_run.specs.{Ending.run_ending, Ending.Lists, Report.status_of};
 
 use crate::Kept;
+use crate::fault::Fault;
 use crate::root_list::RootList;
 use hd_gate::Closed;
-use hd_io::ReadFault;
 use hd_model::Memory;
-use hd_script::ScriptFault;
 use hd_world::World;
 use std::alloc::Global;
 use std::thread::Threads;
-
-/// Why nothing was run.
-#[derive(Clone, Copy)]
-pub(crate) enum Fault {
-    Usage,
-    Unread,
-    OverSize,
-    BadLine(u32),
-    NoMemory,
-}
 
 /// The world that ran a script: that of one thread, or one that callers in threads shared.
 #[derive(Drop)]
@@ -72,19 +61,6 @@ impl Ran {
     }
 }
 
-impl Fault {
-    pub(crate) fn status(self) -> u8
-        ensures { result ≡ fault_status self }
-    {
-        match self {
-            Fault::Usage => 2,
-            Fault::OverSize | Fault::BadLine(_) => 3,
-            Fault::Unread => 4,
-            Fault::NoMemory => 6,
-        }
-    }
-}
-
 impl Ending {
     pub(crate) fn status(&self) -> u8
         ensures { result ≡ status_of self.now }
@@ -130,26 +106,5 @@ impl Ending {
             Ending::Refused(fault) => Ending::Refused(fault),
             Ending::Stopped(ran) => Ending::Stopped(ran),
         }
-    }
-}
-
-/// Not all was read.
-pub(crate) fn unread(fault: ReadFault) -> Fault
-    ensures { result ≡ unread_fault fault }
-{
-    match fault {
-        ReadFault::Failed => Fault::Unread,
-        ReadFault::TooLong => Fault::OverSize,
-        ReadFault::Memory => Fault::NoMemory,
-    }
-}
-
-/// No script was made of the bytes.
-pub(crate) fn unparsed(fault: ScriptFault) -> Fault
-    ensures { result ≡ unparsed_fault fault }
-{
-    match fault {
-        ScriptFault::Line(number) => Fault::BadLine(number),
-        ScriptFault::Memory => Fault::NoMemory,
     }
 }

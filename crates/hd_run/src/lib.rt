@@ -1,9 +1,13 @@
 //! Runs a script, from its bytes to the text of its journal.
 #![tactic(auto)]
 
-ghost use Rattle.std.specs.Prelude.{◌≡◌, ◌≤◌, IfOk};
+ghost use Rattle.std.specs.Prelude.{◌≡◌, ◌≤◌, IfOk, Some};
 ghost use Rattle.hd_model.specs.Generated.{load_numbers, generated_lists};
-ghost use Rattle.hd_run.specs.{declared.mode.Form.TheVariants.Summary, declared.limits.TheConstants.LEAST_HEAP, Bounds.Bounds, Bounds.numbers_for, Modes.lines_form};
+ghost use Rattle.hd_run.specs.{declared.mode.Output.TheVariants.Lines, declared.mode.Output.TheVariants.Summary, declared.limits.TheConstants.LEAST_HEAP, Bounds.Bounds, Bounds.numbers_for};
+ghost use Rattle.hd_print.specs.EntryLines.{form_of};
+ghost use Rattle.hd_print.specs.declared.entries.Form.TheVariants.{Plain};
+ghost use Rattle.hd_run.specs.declared.ending.Ending.TheVariants.{Refused};
+ghost use Rattle.hd_run.specs.Report.{Reports};
 ghost use Rattle.hd_run.specs.Words.{request_of, solo_of, listing_of, audit_of};
 ghost use Rattle.hd_run.specs.Claims.{Promise, Together, HasLine};
 ghost use Rattle.hd_run.specs.AuditClaims.{AuditPromise, ProgramPromise};
@@ -11,6 +15,7 @@ ghost use Rattle.hd_run.specs.Turns.{RanWhole};
 
 mod audit;
 mod ending;
+mod fault;
 mod laws;
 mod limits;
 mod mode;
@@ -26,20 +31,22 @@ mod turns;
 mod work;
 
 use crate::audit::{Finding, judge};
-use crate::ending::{Ending, Fault};
-use crate::limits::Limits;
-use crate::mode::Form;
+use crate::ending::Ending;
+use crate::mode::Output;
 use crate::report::{report, report_finding};
-use crate::request::{read_audit_words, read_words, read_words_alone};
+use crate::request::{Request, read_audit_words, read_words, read_words_alone};
 use crate::threads::run_callers;
 use crate::turns::Opened;
 use crate::work::{work, work_alone};
+pub use fault::{Fault, unparsed, unread};
 use hd_io::{Pace, Sink, Source};
 use hd_model::Memory;
 use hd_model::limits::{BLOCKS, HEAP, MOST_ROUNDS};
+use hd_print::Form;
 use hd_script::{Scripts, generate};
 use hd_world::World;
 pub use laws::{limits_are_these, parts_follow_the_turns};
+pub use limits::{LEAST_HEAP, Limits};
 pub use outcome::{Kept, Outcome};
 pub use printed::{printed_runs_are_judged_runs, whole_runs_are_judged_runs};
 use std::alloc::Global;
@@ -65,13 +72,13 @@ pub fn top<R: Threads + Wait + Sync, S: Source, K: Sink, P: Pace>(
     match read_words(alloc, words) {
         Ok(request) => {
             if request.mode.traits().judges {
-                return audit_mode(alloc, words, source, sink);
+                return audited(alloc, request, source, sink);
             }
-            let form = request.form();
+            let output = request.output();
             let ending = work(rt, alloc, request, source, pace);
-            report(sink, form, ending)
+            report(sink, output, ending)
         }
-        Err(fault) => report(sink, Form::Lines, Ending::Refused(fault)),
+        Err(fault) => refuse(sink, fault),
     }
 }
 
@@ -90,11 +97,11 @@ pub fn solo<S: Source, K: Sink>(
 {
     match read_words_alone(alloc, words, false) {
         Ok(request) => {
-            let form = request.form();
+            let output = request.output();
             let ending = work_alone(alloc, request, source);
-            report(sink, form, ending)
+            report(sink, output, ending)
         }
-        Err(fault) => report(sink, Form::Lines, Ending::Refused(fault)),
+        Err(fault) => refuse(sink, fault),
     }
 }
 
@@ -113,11 +120,11 @@ pub fn roots<R: Threads + Sync, S: Source, K: Sink>(
 {
     match read_words_alone(alloc, words, true) {
         Ok(request) => {
-            let form = request.form();
+            let output = request.output();
             let ending = work_alone(alloc, request, source).list_roots(rt, alloc);
-            report(sink, form, ending)
+            report(sink, output, ending)
         }
-        Err(fault) => report(sink, Form::Lines, Ending::Refused(fault)),
+        Err(fault) => refuse(sink, fault),
     }
 }
 
@@ -134,9 +141,29 @@ pub fn audit_mode<S: Source, K: Sink>(
         (source.old, source.new) (sink.old, sink.new) result }
 {
     match read_audit_words(alloc, words) {
-        Ok(request) => report_finding(sink, judge(alloc, &request.limits, source)),
+        Ok(request) => audited(alloc, request, source, sink),
         Err(fault) => report_finding(sink, Finding::Refused(fault)),
     }
+}
+
+// Reports that words are refused.
+fn refuse<K: Sink>(sink: &mut K, fault: Fault) -> Outcome
+    ensures { Reports (K.seen sink.old) (K.seen sink.new) (Lines Plain) (Refused fault) result }
+{
+    report(sink, Output::Lines(Form::Plain), Ending::Refused(fault))
+}
+
+// Judges the text that the source gives, over a heap and a table as it is asked.
+fn audited<S: Source, K: Sink>(
+    alloc: Global,
+    request: Request,
+    source: &mut S,
+    sink: &mut K,
+) -> Outcome
+    ensures { AuditPromise S.seen K.seen (Some request)
+        (source.old, source.new) (sink.old, sink.new) result }
+{
+    report_finding(sink, judge(alloc, &request.limits, source))
 }
 
 /// Runs a script by a thread for each of its callers, over a heap of at most `heap` cells, 3 to
@@ -154,14 +181,14 @@ pub fn run<R: Threads + Wait + Sync, K: Sink, P: Pace>(
 ) -> Outcome
     requires heap { (LEAST_HEAP ≤ heap) × (heap ≤ HEAP) }
     requires blocks { (1 ≤ blocks) × (blocks ≤ BLOCKS) }
-    ensures { Together K.seen (lines_form full)
+    ensures { Together K.seen (Lines (form_of full))
         (numbers_for (record { heap = heap; blocks = blocks }) scripts.now)
         scripts.now sink.old sink.new result }
 {
     // The scripts state that they are of few callers.
     let _callers = scripts.callers();
     let ending = run_callers(rt, alloc, scripts, &Limits::new(heap, blocks), pace);
-    report(sink, Form::lines(full), ending)
+    report(sink, Output::Lines(Form::of(full)), ending)
 }
 
 /// Runs the script of a load of 1 to 3,000 rounds as `run` does, and writes one line.
@@ -178,10 +205,10 @@ pub fn load<R: Threads + Wait + Sync, K: Sink, P: Pace>(
     ensures line { HasLine rounds (K.seen sink.old) (K.seen sink.new) result.status }
 {
     let Ok(scripts) = generate(alloc, rounds) else {
-        return report(sink, Form::Summary, Ending::Refused(Fault::NoMemory));
+        return report(sink, Output::Summary, Ending::Refused(Fault::NoMemory));
     };
     let ending = run_callers(rt, alloc, &scripts, &Limits::new(HEAP, BLOCKS), pace);
-    report(sink, Form::Summary, ending)
+    report(sink, Output::Summary, ending)
 }
 
 /// The world that a script leads to, over a heap of at most `heap` cells, 3 to 1,000,000, and a

@@ -10,13 +10,15 @@ use std::alloc::Global;
 use std::marker::Model;
 
 /// The cells of a heap, at least: those of an object without fields.
-pub(crate) const LEAST_HEAP: u32 = 3;
+pub const LEAST_HEAP: u32 = 3;
 
 /// The most cells of a heap, and the blocks of a table, as a run may have them.
 #[derive(Drop)]
-pub(crate) struct Limits {
-    pub(crate) heap: u32,
-    pub(crate) blocks: u32,
+pub struct Limits {
+    /// The most cells of a heap.
+    pub heap: u32,
+    /// The blocks of a table.
+    pub blocks: u32,
 }
 
 impl Model for Limits {
@@ -33,7 +35,8 @@ impl Model for Limits {
 }
 
 impl Limits {
-    pub(crate) fn new(heap: u32, blocks: u32) -> Limits
+    /// These limits.
+    pub fn new(heap: u32, blocks: u32) -> Limits
         requires heap { (LEAST_HEAP ≤ heap) × (heap ≤ HEAP) }
         requires blocks { (1 ≤ blocks) × (blocks ≤ BLOCKS) }
         ensures { result ≡ record { heap = heap; blocks = blocks } }

@@ -1,6 +1,8 @@
 // The modes of the program.
 ghost use Rattle.std.specs.Prelude.{◌≡◌};
-ghost use Rattle.hd_run.specs.Modes.{mode_of, traits_of, runs_alone, form_by, lines_form};
+ghost use Rattle.hd_run.specs.Modes.{mode_of, traits_of, runs_alone, output_by};
+
+use hd_print::Form;
 
 /// The modes of the program.
 #[derive(Clone, Copy)]
@@ -12,13 +14,20 @@ pub(crate) enum Mode {
     Audit,
 }
 
-/// How a run is written: a line for each entry, plain or full, and one for its end, or one line for
-/// all.
+/// How a run is written: a line for each entry and one for its end, or one line for all.
 #[derive(Clone, Copy)]
-pub(crate) enum Form {
-    Lines,
-    FullLines,
+pub(crate) enum Output {
+    Lines(Form),
     Summary,
+}
+
+/// How a script is run.
+#[derive(Clone, Copy)]
+pub(crate) struct Manner {
+    /// Each caller has a thread of its own.
+    pub(crate) threads: bool,
+    /// The roots of the world are listed afterwards.
+    pub(crate) lists_roots: bool,
 }
 
 /// What a mode is.
@@ -26,15 +35,12 @@ pub(crate) enum Form {
 pub(crate) struct Traits {
     /// It runs the script that the source gives, and else makes that of a load.
     pub(crate) reads: bool,
-    /// Each caller has a thread of its own.
-    pub(crate) threads: bool,
-    /// It lists the roots of the world once the script was run.
-    pub(crate) lists_roots: bool,
+    pub(crate) manner: Manner,
     /// It judges a text against the script, and runs nothing.
     pub(crate) judges: bool,
-    /// How it writes a run, and how where the words ask for slots.
-    pub(crate) form: Form,
-    pub(crate) slots_form: Form,
+    /// How it writes a run where the words ask for plain lines, and how where for full ones.
+    pub(crate) plain: Output,
+    pub(crate) full: Output,
 }
 
 impl Mode {
@@ -63,28 +69,21 @@ impl Mode {
             Mode::Roots => (true, false, true, false),
             Mode::Audit => (true, false, false, true),
         };
-        let (form, slots_form) = match self {
-            Mode::Solo | Mode::Run => (Form::Lines, Form::FullLines),
-            Mode::Load => (Form::Summary, Form::Summary),
-            Mode::Roots | Mode::Audit => (Form::Lines, Form::Lines),
+        let (plain, full) = match self {
+            Mode::Solo | Mode::Run => (Output::Lines(Form::Plain), Output::Lines(Form::Full)),
+            Mode::Load => (Output::Summary, Output::Summary),
+            Mode::Roots | Mode::Audit => (Output::Lines(Form::Plain), Output::Lines(Form::Plain)),
         };
         Traits {
             reads,
-            threads,
-            lists_roots,
+            manner: Manner {
+                threads,
+                lists_roots,
+            },
             judges,
-            form,
-            slots_form,
+            plain,
+            full,
         }
-    }
-}
-
-impl Form {
-    /// Lines, full or plain.
-    pub(crate) fn lines(full: bool) -> Form
-        ensures { result ≡ lines_form full }
-    {
-        if full { Form::FullLines } else { Form::Lines }
     }
 }
 
@@ -94,16 +93,19 @@ impl Traits {
         ensures { result ≡ runs_alone lists_roots self }
     {
         if lists_roots {
-            !self.threads && self.lists_roots && !self.judges
+            !self.manner.threads && self.manner.lists_roots && !self.judges
         } else {
-            !self.threads && !self.lists_roots && !self.judges
+            !self.manner.threads && !self.manner.lists_roots && !self.judges
         }
     }
 
-    /// How it writes a run, where slots are asked for or not.
-    pub(crate) fn form_by(self, slots: bool) -> Form
-        ensures { result ≡ form_by slots self }
+    /// How it writes a run, where lines of a form are asked for.
+    pub(crate) fn output(self, form: Form) -> Output
+        ensures { result ≡ output_by form self }
     {
-        if slots { self.slots_form } else { self.form }
+        match form {
+            Form::Plain => self.plain,
+            Form::Full => self.full,
+        }
     }
 }

@@ -1,38 +1,39 @@
 ghost use Rattle.std.specs.Prelude.{◌≡◌, true, false, Some, ◌^◌, ◌-◌, IfOk, IfErr, IsErrAnd, IfSome};
 ghost use Rattle.clap.specs.Words.{app_of, rule_of, found_of, kind_of, rows_of};
-ghost use Rattle.hd_run.specs.Modes.{traits_of, runs_alone, form_of};
+ghost use Rattle.hd_run.specs.Modes.{traits_of, runs_alone, output_of};
 ghost use Rattle.hd_run.specs.Words.{request_of, if_alone, audit_of, asked_by, number_rule};
 ghost use Rattle.hd_run.specs.Words.{flag_rule, numbered, program, is_given};
 ghost use Rattle.hd_run.specs.Words.{number_of, request_or_usage, IsRefusal};
 ghost use Rattle.hd_run.specs.Words.{IsFaultOfWords, IsInLimits, GivesNumbers, GivesNumber};
 
-use crate::ending::Fault;
+use crate::fault::Fault;
 use crate::limits::{LEAST_HEAP, Limits};
-use crate::mode::{Form, Mode};
+use crate::mode::{Mode, Output};
 use clap::builder::ValueParser;
 use clap::error::ErrorKind;
 use clap::{Arg, ArgAction, ArgMatches, Command, Error};
 use hd_model::limits::{BLOCKS, HEAP, MOST_ROUNDS};
+use hd_print::Form;
 use std::alloc::{AllocError, Global};
 
 // The rounds of a load where the words give no number.
 const ROUNDS: u32 = 100;
 
-/// What the words ask for: a mode, its limits, the rounds of a load, and whether lines have slots.
+/// What the words ask for: a mode, its limits, the rounds of a load, and the form of lines.
 #[derive(Drop)]
 pub(crate) struct Request {
     pub(crate) mode: Mode,
     pub(crate) limits: Limits,
     pub(crate) rounds: u32,
-    pub(crate) slots: bool,
+    pub(crate) form: Form,
 }
 
 impl Request {
     /// How its run is written.
-    pub(crate) fn form(&self) -> Form
-        ensures { result ≡ form_of self.now }
+    pub(crate) fn output(&self) -> Output
+        ensures { result ≡ output_of self.now }
     {
-        self.mode.traits().form_by(self.slots)
+        self.mode.traits().output(self.form)
     }
 }
 
@@ -157,7 +158,7 @@ fn asked_by(matches: &ArgMatches) -> Option<Request>
         mode,
         limits: Limits::new(heap, blocks),
         rounds,
-        slots,
+        form: Form::of(slots),
     })
 }
 

@@ -1,9 +1,10 @@
 // The callers of a script in threads of their own.
-ghost use Rattle.std.specs.Prelude.{◌≡◌, ◌<◌, ◌≤◌, true, false, [], length, map, All, Any, IfOk, MatchBool};
-ghost use Rattle.hd_run.specs.{Bounds.numbers_for, Ending.RunCause, Ending.Keeps, Turns.list_of};
+ghost use Rattle.std.specs.Prelude.{◌≡◌, ◌<◌, ◌≤◌, [], length, map, All, Any, IfOk, MatchBool};
+ghost use Rattle.hd_run.specs.{Bounds.numbers_for, Ending.RunCause, Ending.Keeps, Modes.in_threads, Turns.list_of};
 ghost use Rattle.hd_run.specs.Together.{IsReadyToPlay, AreReadyToPlay, HasPlayed, HavePlayed};
 
-use crate::ending::{Ending, Fault, Ran};
+use crate::ending::{Ending, Ran};
+use crate::fault::Fault;
 use crate::limits::Limits;
 use hd_gate::{Caller, Callers, Shared};
 use hd_io::Pace;
@@ -22,7 +23,7 @@ pub(crate) fn run_callers<R: Threads + Wait + Sync, P: Pace>(
     limits: &Limits,
     pace: &P,
 ) -> Ending
-    ensures { RunCause true false (numbers_for limits.now scripts.now) scripts.now result }
+    ensures { RunCause in_threads (numbers_for limits.now scripts.now) scripts.now result }
 {
     match Team::open(alloc, scripts, limits) {
         Ok(team) => team.run(rt, scripts, pace),
@@ -65,7 +66,7 @@ impl Team {
     fn run<R: Threads + Wait + Sync, P: Pace>(self, rt: &R, scripts: &Scripts, pace: &P) -> Ending
         requires { AreReadyToPlay scripts.now self.shared self.callers }
         ensures kept { Keeps result }
-        ensures cause { RunCause true false self.shared.numbers scripts.now result }
+        ensures cause { RunCause in_threads self.shared.numbers scripts.now result }
     {
         let Team {
             shared,

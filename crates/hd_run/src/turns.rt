@@ -1,5 +1,6 @@
-ghost use Rattle.std.specs.Prelude.{◌≡◌, ◌+◌, ◌<◌, [], drop, length, false, IfOk, OnOk, OnErr};
+ghost use Rattle.std.specs.Prelude.{◌≡◌, ◌+◌, ◌<◌, [], drop, length, IfOk, OnOk, OnErr};
 ghost use Rattle.hd_run.specs.{Bounds.numbers_for, Ending.RunCause, Ending.Keeps};
+ghost use Rattle.hd_run.specs.Modes as modes;
 ghost use Rattle.hd_run.specs.Turns.{turns_from, IsReadyFor, IsReadyToRun, RanWhole, StoppedAt};
 
 use crate::ending::{Ending, Ran};
@@ -38,7 +39,7 @@ impl Opened {
     pub(crate) fn run(self, scripts: &Scripts) -> Ending
         requires { IsReadyToRun scripts.now self.alone }
         ensures kept { Keeps result }
-        ensures cause { RunCause false false self.alone.numbers scripts.now result }
+        ensures cause { RunCause modes.alone self.alone.numbers scripts.now result }
     {
         let Opened { mut alone } = self;
         let done = take_turns(&mut alone, scripts).is_ok();

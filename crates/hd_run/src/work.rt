@@ -1,8 +1,10 @@
-ghost use Rattle.std.specs.Prelude.{◌≡◌, true, false, IfOk, IfErr};
-ghost use Rattle.hd_run.specs.{Bounds.numbers_for, Modes.traits_of, Words.IsInLimits, Work.IsJob, Work.Worked};
+ghost use Rattle.std.specs.Prelude.{◌≡◌, false, IfOk, IfErr};
+ghost use Rattle.hd_run.specs.{Bounds.numbers_for, Modes.alone, Modes.traits_of, Words.IsInLimits, Work.IsJob, Work.Worked};
+ghost use Rattle.hd_run.specs.declared.mode.Manner.{Manner};
 ghost use Rattle.hd_run.specs.Ending.{FaultCause, ReadProgram, RefusedBy, RunCause, script_or_fault};
 
-use crate::ending::{Ending, Fault, unparsed, unread};
+use crate::ending::Ending;
+use crate::fault::{Fault, unparsed, unread};
 use crate::limits::Limits;
 use crate::request::Request;
 use crate::threads::run_callers;
@@ -24,12 +26,12 @@ pub(crate) fn work<R: Threads + Wait + Sync, S: Source, P: Pace>(
     pace: &P,
 ) -> Ending
     requires { IsInLimits request }
-    ensures { let t = traits_of request.mode in
-        Worked S.seen t.threads t.lists_roots request (source.old, source.new) result }
+    ensures { Worked S.seen (traits_of request.mode).manner request (source.old, source.new)
+        result }
 {
-    let traits = request.mode.traits();
-    let ending = run_by(rt, alloc, traits.threads, request, source, pace);
-    if traits.lists_roots {
+    let manner = request.mode.traits().manner;
+    let ending = run_by(rt, alloc, manner.threads, request, source, pace);
+    if manner.lists_roots {
         ending.list_roots(rt, alloc)
     } else {
         ending
@@ -46,7 +48,8 @@ fn run_by<R: Threads + Wait + Sync, S: Source, P: Pace>(
     pace: &P,
 ) -> Ending
     requires { IsInLimits request }
-    ensures { Worked S.seen threads false request (source.old, source.new) result }
+    ensures { let manner : Manner = record { threads = threads; lists_roots = false } in
+        Worked S.seen manner request (source.old, source.new) result }
 {
     if !threads {
         return work_alone(alloc, request, source);
@@ -60,7 +63,7 @@ fn run_by<R: Threads + Wait + Sync, S: Source, P: Pace>(
 /// Does what was asked by one thread, and lists no roots.
 pub(crate) fn work_alone<S: Source>(alloc: Global, request: Request, source: &mut S) -> Ending
     requires { IsInLimits request }
-    ensures { Worked S.seen false false request (source.old, source.new) result }
+    ensures { Worked S.seen alone request (source.old, source.new) result }
 {
     match prepare(alloc, request, source) {
         Ok((scripts, limits)) => run_alone(alloc, &scripts, &limits),
@@ -92,7 +95,7 @@ fn prepare<S: Source>(
 
 // Runs a script by one thread, its callers one after another.
 fn run_alone(alloc: Global, scripts: &Scripts, limits: &Limits) -> Ending
-    ensures { RunCause false false (numbers_for limits.now scripts.now) scripts.now result }
+    ensures { RunCause alone (numbers_for limits.now scripts.now) scripts.now result }
 {
     match Opened::open(alloc, scripts, limits) {
         Ok(opened) => opened.run(scripts),

@@ -69,6 +69,28 @@ module _ (t : Table) (is : IsTable t) (b : ℕ) where
       sym (ap (roots_in root_by) (entries-none (row_at t) (ROWS * b) ROWS (λ q low high.
       no_row (row_at t q) q refl (at_block q low high) (λ j. no_use (get t.uses b) j k use_is other))))
 
+-- where no handle holds its target there is no root
+no_root : (o : Option (Handle Addr)) (k : ℕ) → ((h : Handle Addr) → o ≡ Some h → held_of h ≡ None)
+    → option_and_then (λ (h : Handle Addr). option_map (root_by (record { 0 = k }) h.kind) (held_of h)) o ≡ None
+no_root None k none = refl
+no_root (Some h) k none = ap (option_map (root_by (record { 0 = k }) h.kind)) (none h refl)
+
+module _ (t : Table) (first : ℕ) where
+  none_held : (n : ℕ) → ((row : ℕ) → row < n → root_at t (record { 0 = first + row }) ≡ None)
+      → [] ≡ roots_in root_by (entries_of first n (row_at t))
+  none_held zero none = none_yet t first
+  none_held (suc n) none =
+      let next : n + 1 ≡ suc n = omega arith in
+      (λ i. none_held n (λ row less. none row (omega arith)) i ++ option_to_list (sym (none n (omega arith)) i))
+      ∙ sym (one_more t first n) ∙ ap (λ k. roots_in root_by (entries_of first k (row_at t))) next
+
+-- so none in a block whose kind never holds
+pub none_holds : (t : Table) → IsTable t → (b : ℕ) (kind : Kind) → block.Rows kind ≡ block_kind_of (get t.uses b)
+    → ((h : Handle Addr) → h.kind ≡ kind → held_of h ≡ None) → [] ≡ roots_of_block t b
+none_holds t is b kind use_is none =
+    none_held t (ROWS * b) ROWS (λ row less. no_root (row_at t (ROWS * b + row)) (ROWS * b + row)
+    (λ h is_stored. none h (of_kind t is b kind row less use_is h is_stored)))
+
 module _ (t : Table) where
   -- the roots of n blocks
   pub blocks_join : (b n : ℕ) → flat_map (roots_of_block t) (range_with_len b n)

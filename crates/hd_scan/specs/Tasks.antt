@@ -3,9 +3,8 @@ use Rattle.std.specs.Prelude.{ℕ, ◌&&◌, ◌||◌, ◌==◌, Bool, true, fal
 use Rattle.hd_model.specs.{declared.data.Kind.Kind, State.Handle, Kinds.is_kind, Collect.is_lost}
 use Rattle.hd_model.specs.declared.data.Kind.TheVariants as kind
 use Rattle.hd_model.specs.Role.{Role, holds, short, long, attaches, role}
-use Rattle.hd_scan.specs.{declared.task.Task.Task, declared.task.Role.Role as Named}
+use Rattle.hd_scan.specs.declared.task.Task.{Task}
 use Rattle.hd_scan.specs.declared.task.Task.TheVariants as task
-use Rattle.hd_scan.specs.declared.task.Role.TheVariants as named
 
 -- the kind of handle that a task goes over
 abbrev pub task_kind : Task → Kind
@@ -53,13 +52,6 @@ role_number attaches = 3
 
 abbrev pub is_role : Role → Role → Bool
 is_role a b = role_number a == role_number b
-
--- a role, by its name in the code
-abbrev pub role_from : Named → Role
-role_from named.Holds = holds
-role_from named.Short = short
-role_from named.Long = long
-role_from named.Attaches = attaches
 
 -- the tasks of three roles
 abbrev pub root_tasks : List Task

@@ -1,10 +1,10 @@
 // The list of roots, gathered block by block, in as many threads as there are processors.
-ghost use Rattle.std.specs.Prelude.{◌≡◌, ◌*◌, ◌≤◌, ◌++◌, flat_map, IfOk, OnOk, Some};
+ghost use Rattle.std.specs.Prelude.{false, None, ◌≡◌, ◌*◌, ◌≤◌, ◌++◌, flat_map, IfOk, OnOk, Some};
 ghost use Rattle.std.specs.Option.{option_to_list};
-ghost use Rattle.hd_model.specs.{declared.data.Addr.Addr, State.Handle, State.handles_of, Table.row_at};
+ghost use Rattle.hd_model.specs.{declared.data.Addr.Addr, RootText.held_of, State.Handle, State.handles_of, Table.row_at};
 ghost use Rattle.hd_scan.specs.Gathering.{roots_of, roots_of_block, root_at};
 
-use crate::task::{Role, role_by};
+use hd_commands::{Role, role_by};
 use hd_model::limits::ROWS;
 use hd_model::{Addr, Kind, Memory, Slot};
 use hd_seg::{BlockKind, Seg};
@@ -108,11 +108,24 @@ fn roots_of_block(alloc: Global, seg: &Seg, block: u32) -> Result<Vec<Root>, All
     let BlockKind::Rows(kind) = seg.block_kind(block) else {
         return Ok(roots);
     };
+    if !may_hold(kind) {
+        return Ok(roots);
+    }
     for row in 0..ROWS {
         let root = root_at(seg, Slot(ROWS * block + row), kind);
         add(&mut roots, root)?;
     }
     Ok(roots)
+}
+
+// Whether handles of a kind may hold their target.
+fn may_hold(kind: Kind) -> bool
+    ensures { result ≡ false → (h : Handle Addr) → h.kind ≡ kind → held_of h ≡ None }
+{
+    match kind {
+        Kind::Short | Kind::Long | Kind::Dependent => false,
+        Kind::Strong | Kind::Pinned | Kind::Variable | Kind::Counted => true,
+    }
 }
 
 // Adds a root to a list, if there is one.

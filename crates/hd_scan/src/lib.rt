@@ -18,4 +18,4 @@ pub use gathering::{Root, gather, gather_alone};
 pub use passes::pass;
 pub use relocation::relocate;
 pub use roots::promote;
-pub use task::{Task, pins};
+pub use task::Task;

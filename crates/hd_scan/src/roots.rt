@@ -4,8 +4,9 @@ ghost use Rattle.hd_model.specs.{Heap.objects_of, Kinds.is_paired, Leads.Grows, 
 ghost use Rattle.hd_scan.specs.{Tasks.task_kind, Tasks.takes, Whole.WholeRoots};
 ghost use Rattle.hd_scan.specs.Passes.{IsTargetBy, PinsBy, RootPass, view_at};
 
-use crate::task::{Task, pins};
+use crate::task::Task;
 use hd_ages::{AgeMap, DueRows};
+use hd_commands::pins_by;
 use hd_model::limits::{BLOCKS, ROWS};
 use hd_model::{Marker, Slot, Steps};
 use hd_seg::Seg;
@@ -114,7 +115,7 @@ fn promote_row<M: Marker>(seg: &Seg, slot: Slot, task: Task, paired: bool, marke
         return false;
     }
     marker.promote(at);
-    if pins(task.kind(), row.extra) {
+    if pins_by(task.kind(), row.extra) {
         marker.pin(at);
     }
     true

@@ -1,11 +1,12 @@
 ghost use Rattle.std.specs.Prelude.{◌≡◌};
-ghost use Rattle.hd_model.specs.{declared.data.Addr.Addr, Kinds.is_paired, State.Handle};
-ghost use Rattle.hd_model.specs.Role.{role_of, role_of_strength, role_of_count, pins_by, pins_by_strength};
-ghost use Rattle.hd_scan.specs.Tasks.{takes, task_kind, task_role, is_clearing, is_role, role_from};
-ghost use Rattle.hd_seg.specs.Row.{extra_of, row_of};
+ghost use Rattle.hd_model.specs.{declared.data.Addr.Addr, Kinds.is_paired, State.Handle, Role.role_of};
+ghost use Rattle.hd_commands.specs.Handles.{extra_of, role_as};
+ghost use Rattle.hd_scan.specs.Tasks.{takes, task_kind, task_role, is_clearing, is_role};
+ghost use Rattle.hd_seg.specs.Row.{row_of};
 
-use hd_model::{Kind, Strength};
-use hd_seg::{Extra, Row};
+use hd_commands::{Extra, Role, role_by};
+use hd_model::{Addr, Kind};
+use hd_seg::Row;
 
 /// What a pass does, and to which handles. The first four promote the targets of the handles that
 /// hold them, and pin those of the ones that pin; the others clear the handles whose target is not
@@ -26,16 +27,6 @@ pub enum Task {
     ClearVariableLong,
     /// The ref-counted handles with a count of 0.
     ClearCounted,
-}
-
-/// What a handle is to a collection: it holds its target, is weak and cleared before finalization,
-/// is weak and cleared after it, or attaches a secondary to its target.
-#[derive(Clone, Copy, PartialEq, Eq)]
-pub enum Role {
-    Holds,
-    Short,
-    Long,
-    Attaches,
 }
 
 impl Task {
@@ -75,7 +66,7 @@ impl Task {
 
     /// The role of the handles that it takes.
     fn role(self) -> Role
-        ensures { role_from result ≡ task_role self }
+        ensures { role_as result ≡ task_role self }
     {
         match self {
             Task::Strong | Task::Pinned | Task::VariableRoots | Task::CountedRoots => Role::Holds,
@@ -112,73 +103,9 @@ impl Task {
     }
 
     /// Whether it takes a handle of its kind with an extra.
-    pub(crate) fn takes(self, extra: Extra) -> bool
+    pub(crate) fn takes(self, extra: Extra<Addr>) -> bool
         ensures { result ≡ is_role (task_role self) (role_of (task_kind self) (extra_of extra)) }
     {
         self.role() == role_by(self.kind(), extra)
-    }
-}
-
-/// The role of a variable handle, by its strength.
-fn role_of_strength(strength: Strength) -> Role
-    ensures { role_from result ≡ role_of_strength strength }
-{
-    match strength {
-        Strength::Short => Role::Short,
-        Strength::Long => Role::Long,
-        Strength::Strong | Strength::Pinned => Role::Holds,
-    }
-}
-
-/// The role of a ref-counted handle, by its count.
-fn role_of_count(count: u32) -> Role
-    ensures { role_from result ≡ role_of_count count }
-{
-    if count > 0 { Role::Holds } else { Role::Long }
-}
-
-/// The role of a handle. A variable one without a strength and a ref-counted one without a count,
-/// which no table has, count as weak long ones.
-pub(crate) fn role_by(kind: Kind, extra: Extra) -> Role
-    ensures { role_from result ≡ role_of kind (extra_of extra) }
-{
-    match kind {
-        Kind::Short => Role::Short,
-        Kind::Long => Role::Long,
-        Kind::Strong | Kind::Pinned => Role::Holds,
-        Kind::Dependent => Role::Attaches,
-        Kind::Variable => match extra {
-            Extra::Strength(strength) => role_of_strength(strength),
-            Extra::Nothing | Extra::Secondary(_) | Extra::Count(_) => Role::Long,
-        },
-        Kind::Counted => match extra {
-            Extra::Count(count) => role_of_count(count),
-            Extra::Nothing | Extra::Secondary(_) | Extra::Strength(_) => Role::Long,
-        },
-    }
-}
-
-// Whether a strength pins.
-fn pins_by_strength(strength: Strength) -> bool
-    ensures { result ≡ pins_by_strength strength }
-{
-    match strength {
-        Strength::Short | Strength::Long | Strength::Strong => false,
-        Strength::Pinned => true,
-    }
-}
-
-/// Whether a handle of a kind with an extra keeps its target from moving, as one made with
-/// `GCHandleType.Pinned` does.
-pub fn pins(kind: Kind, extra: Extra) -> bool
-    ensures { result ≡ pins_by kind (extra_of extra) }
-{
-    match kind {
-        Kind::Pinned => true,
-        Kind::Variable => match extra {
-            Extra::Strength(strength) => pins_by_strength(strength),
-            Extra::Nothing | Extra::Secondary(_) | Extra::Count(_) => false,
-        },
-        Kind::Short | Kind::Long | Kind::Strong | Kind::Counted | Kind::Dependent => false,
     }
 }

@@ -22,3 +22,9 @@ pub use parsing::parse;
 pub use reading::{Reading, read_line};
 pub use scripts::Scripts;
 pub use text::next_word;
+
+/// What single words of a script say: none where a word does not say that.
+pub mod words {
+    pub use crate::numbers::{handle, number, object};
+    pub use crate::reading::{fin, make, spells, strength, trimmed_kind};
+}

@@ -9,7 +9,7 @@ pub(crate) const LAST_REGISTER: u8 = REGISTERS as u8 - 1;
 
 /// The number that a word writes, where it is at most `most`.
 #[tactic(auto, unfolding(hd_model::specs::Grammar::number_of))]
-pub(crate) fn number(word: &[u8], most: u64) -> Option<u64>
+pub fn number(word: &[u8], most: u64) -> Option<u64>
     ensures value { result ≡ number_of most word.now }
     ensures bound { IfSome result (λ n. n ≤ most) }
 {
@@ -66,7 +66,7 @@ fn register(word: &[u8], letter: u8) -> Option<u8>
 }
 
 /// The object register that a word denotes.
-pub(crate) fn object(word: &[u8]) -> Option<u8>
+pub fn object(word: &[u8]) -> Option<u8>
     ensures value { result ≡ object_register_in word.now }
     ensures bound { IfSome result (λ n. n < REGISTERS) }
 {
@@ -74,7 +74,7 @@ pub(crate) fn object(word: &[u8]) -> Option<u8>
 }
 
 /// The handle register that a word denotes.
-pub(crate) fn handle(word: &[u8]) -> Option<u8>
+pub fn handle(word: &[u8]) -> Option<u8>
     ensures value { result ≡ handle_register_in word.now }
     ensures bound { IfSome result (λ n. n < REGISTERS) }
 {

@@ -65,47 +65,38 @@ fn read_words(bytes: &[u8]) -> Option<(Reading, &[u8])>
     Some((Reading::Command(five_words(word, a, b, c, d)?), rest_d))
 }
 
+// The first of these texts that a word is says what is read; another word has no reading.
+macro_rules! by_word {
+    ($word:expr; $($text:literal => $read:expr,)+) => {{
+        $(if spells($word, $text) {
+            return Some($read);
+        })+
+        None
+    }};
+}
+
 // A command of two words.
 #[tactic(auto, unfolding(hd_model::specs::Grammar::two_words))]
 fn two_words(word: &[u8], a: &[u8]) -> Option<Cmd>
     ensures exact { result ≡ grammar.two_words word.now a.now }
     ensures valid { IfSome result IsValid }
 {
-    if spells(word, "read") {
-        Some(Cmd::Read { o: object(a)? })
-    } else if spells(word, "drop") {
-        Some(Cmd::Clear { d: object(a)? })
-    } else if spells(word, "gen") {
-        Some(Cmd::Gen { s: object(a)? })
-    } else if spells(word, "suppress") {
-        Some(Cmd::Suppress { s: object(a)? })
-    } else if spells(word, "reregister") {
-        Some(Cmd::Reregister { s: object(a)? })
-    } else if spells(word, "final") {
-        Some(Cmd::Final { d: object(a)? })
-    } else if spells(word, "collect") {
-        Some(Cmd::Collect {
-            n: small(a, OLDEST)?,
-        })
-    } else if spells(word, "hfree") {
-        Some(Cmd::HFree { s: handle(a)? })
-    } else if spells(word, "addr") {
-        Some(Cmd::AddrOf { s: handle(a)? })
-    } else if spells(word, "hup") {
-        Some(Cmd::HUp { s: handle(a)? })
-    } else if spells(word, "hdown") {
-        Some(Cmd::HDown { s: handle(a)? })
-    } else if spells(word, "trim") {
-        Some(Cmd::Trim {
-            kind: trimmed_kind(a)?,
-        })
-    } else if spells(word, "cremove") {
-        Some(Cmd::CRemove { k: object(a)? })
-    } else if spells(word, "gcroot") {
-        Some(Cmd::GcRoot { s: object(a)? })
-    } else {
-        None
-    }
+    by_word!(word;
+        "read" => Cmd::Read { o: object(a)? },
+        "drop" => Cmd::Clear { d: object(a)? },
+        "gen" => Cmd::Gen { s: object(a)? },
+        "suppress" => Cmd::Suppress { s: object(a)? },
+        "reregister" => Cmd::Reregister { s: object(a)? },
+        "final" => Cmd::Final { d: object(a)? },
+        "collect" => Cmd::Collect { n: small(a, OLDEST)? },
+        "gcroot" => Cmd::GcRoot { s: object(a)? },
+        "cremove" => Cmd::CRemove { k: object(a)? },
+        "hfree" => Cmd::HFree { s: handle(a)? },
+        "addr" => Cmd::AddrOf { s: handle(a)? },
+        "hup" => Cmd::HUp { s: handle(a)? },
+        "hdown" => Cmd::HDown { s: handle(a)? },
+        "trim" => Cmd::Trim { kind: trimmed_kind(a)? },
+    )
 }
 
 // A command of three words.
@@ -114,76 +105,22 @@ fn three_words(word: &[u8], a: &[u8], b: &[u8]) -> Option<Cmd>
     ensures exact { result ≡ grammar.three_words word.now a.now b.now }
     ensures valid { IfSome result IsValid }
 {
-    match three_on_objects(word, a, b) {
-        Some(cmd) => Some(cmd),
-        None => three_on_handles(word, a, b),
-    }
-}
-
-#[tactic(auto, unfolding(hd_model::specs::Grammar::three_on_objects))]
-fn three_on_objects(word: &[u8], a: &[u8], b: &[u8]) -> Option<Cmd>
-    ensures exact { result ≡ grammar.three_on_objects word.now a.now b.now }
-    ensures valid { IfSome result IsValid }
-{
-    if spells(word, "new") {
-        let (d, fields) = (object(a)?, small(b, MOST_FIELDS)?);
-        Some(Cmd::New {
-            d,
-            fields,
-            fin: false,
-        })
-    } else if spells(word, "val") {
-        let (o, n) = (object(a)?, number(b, u64::MAX)?);
-        Some(Cmd::Val { o, n })
-    } else if spells(word, "copy") {
-        let (d, s) = (object(a)?, object(b)?);
-        Some(Cmd::Copy { d, s })
-    } else if spells(word, "sput") {
-        let (k, s) = (small(a, LAST_REGISTER)?, object(b)?);
-        Some(Cmd::SPut { k, s })
-    } else if spells(word, "sget") {
-        let (d, k) = (object(a)?, small(b, LAST_REGISTER)?);
-        Some(Cmd::SGet { d, k })
-    } else if spells(word, "cadd") {
-        let (k, v) = (object(a)?, object(b)?);
-        Some(Cmd::CAdd { k, v })
-    } else if spells(word, "cfind") {
-        let (d, k) = (object(a)?, object(b)?);
-        Some(Cmd::CFind { d, k })
-    } else {
-        None
-    }
-}
-
-#[tactic(auto, unfolding(hd_model::specs::Grammar::three_on_handles))]
-fn three_on_handles(word: &[u8], a: &[u8], b: &[u8]) -> Option<Cmd>
-    ensures exact { result ≡ grammar.three_on_handles word.now a.now b.now }
-    ensures valid { IfSome result IsValid }
-{
-    if spells(word, "hget") {
-        let (d, s) = (object(a)?, handle(b)?);
-        Some(Cmd::HGet { d, s })
-    } else if spells(word, "hset") {
-        let (s, t) = (handle(a)?, object(b)?);
-        Some(Cmd::HSet { s, t })
-    } else if spells(word, "hsec") {
-        let (h, s) = (handle(a)?, object(b)?);
-        Some(Cmd::HSec { h, s })
-    } else if spells(word, "hdep") {
-        let (d, s) = (object(a)?, handle(b)?);
-        Some(Cmd::HDep { d, s })
-    } else if spells(word, "hvar") {
-        let (s, strength) = (handle(a)?, strength(b)?);
-        Some(Cmd::HVar { s, strength })
-    } else if spells(word, "hput") {
-        let (k, s) = (small(a, LAST_REGISTER)?, handle(b)?);
-        Some(Cmd::HPut { k, s })
-    } else if spells(word, "hpick") {
-        let (d, k) = (handle(a)?, small(b, LAST_REGISTER)?);
-        Some(Cmd::HPick { d, k })
-    } else {
-        None
-    }
+    by_word!(word;
+        "new" => Cmd::New { d: object(a)?, fields: small(b, MOST_FIELDS)?, fin: false },
+        "val" => Cmd::Val { o: object(a)?, n: number(b, u64::MAX)? },
+        "copy" => Cmd::Copy { d: object(a)?, s: object(b)? },
+        "sput" => Cmd::SPut { k: small(a, LAST_REGISTER)?, s: object(b)? },
+        "sget" => Cmd::SGet { d: object(a)?, k: small(b, LAST_REGISTER)? },
+        "cadd" => Cmd::CAdd { k: object(a)?, v: object(b)? },
+        "cfind" => Cmd::CFind { d: object(a)?, k: object(b)? },
+        "hget" => Cmd::HGet { d: object(a)?, s: handle(b)? },
+        "hset" => Cmd::HSet { s: handle(a)?, t: object(b)? },
+        "hsec" => Cmd::HSec { h: handle(a)?, s: object(b)? },
+        "hdep" => Cmd::HDep { d: object(a)?, s: handle(b)? },
+        "hvar" => Cmd::HVar { s: handle(a)?, strength: strength(b)? },
+        "hput" => Cmd::HPut { k: small(a, LAST_REGISTER)?, s: handle(b)? },
+        "hpick" => Cmd::HPick { d: handle(a)?, k: small(b, LAST_REGISTER)? },
+    )
 }
 
 // A command of four words.
@@ -192,21 +129,12 @@ fn four_words(word: &[u8], a: &[u8], b: &[u8], c: &[u8]) -> Option<Cmd>
     ensures exact { result ≡ grammar.four_words word.now a.now b.now c.now }
     ensures valid { IfSome result IsValid }
 {
-    if spells(word, "new") {
-        let (d, fields, fin) = (object(a)?, small(b, MOST_FIELDS)?, fin(c)?);
-        Some(Cmd::New { d, fields, fin })
-    } else if spells(word, "set") {
-        let (o, i, v) = (object(a)?, small(b, 255)?, object(c)?);
-        Some(Cmd::Set { o, i, v })
-    } else if spells(word, "get") {
-        let (d, o, i) = (object(a)?, object(b)?, small(c, 255)?);
-        Some(Cmd::Get { d, o, i })
-    } else if spells(word, "hnew") {
-        let (d, make, t) = (handle(a)?, make(b)?, object(c)?);
-        Some(Cmd::HNew { d, make, t })
-    } else {
-        None
-    }
+    by_word!(word;
+        "hnew" => Cmd::HNew { d: handle(a)?, make: make(b)?, t: object(c)? },
+        "new" => Cmd::New { d: object(a)?, fields: small(b, MOST_FIELDS)?, fin: fin(c)? },
+        "set" => Cmd::Set { o: object(a)?, i: small(b, 255)?, v: object(c)? },
+        "get" => Cmd::Get { d: object(a)?, o: object(b)?, i: small(c, 255)? },
+    )
 }
 
 // A command of five words.
@@ -228,97 +156,64 @@ fn hnew(a: &[u8], kind: &[u8], c: &[u8], d: &[u8]) -> Option<Cmd>
     ensures exact { result ≡ grammar.hnew_of a.now kind.now c.now d.now }
     ensures valid { IfSome result IsValid }
 {
-    if spells(kind, "var") {
-        let (register, t) = (handle(a)?, object(c)?);
-        Some(Cmd::HNew {
-            d: register,
-            make: Make::Variable(strength(d)?),
-            t,
-        })
-    } else if spells(kind, "dep") {
-        let (register, t) = (handle(a)?, object(c)?);
-        Some(Cmd::HNew {
-            d: register,
-            make: Make::Dependent(object(d)?),
-            t,
-        })
-    } else {
-        None
-    }
+    by_word!(kind;
+        "var" => Cmd::HNew { d: handle(a)?, t: object(c)?, make: Make::Variable(strength(d)?) },
+        "dep" => Cmd::HNew { d: handle(a)?, t: object(c)?, make: Make::Dependent(object(d)?) },
+    )
 }
 
-// The strength of a variable handle.
+/// The strength of a variable handle.
 #[tactic(auto, unfolding(hd_model::specs::Grammar::strength_of))]
-fn strength(word: &[u8]) -> Option<Strength>
+pub fn strength(word: &[u8]) -> Option<Strength>
     ensures { result ≡ grammar.strength_of word.now }
 {
-    if spells(word, "short") {
-        Some(Strength::Short)
-    } else if spells(word, "long") {
-        Some(Strength::Long)
-    } else if spells(word, "strong") {
-        Some(Strength::Strong)
-    } else if spells(word, "pinned") {
-        Some(Strength::Pinned)
-    } else {
-        None
-    }
+    by_word!(word;
+        "short" => Strength::Short,
+        "long" => Strength::Long,
+        "strong" => Strength::Strong,
+        "pinned" => Strength::Pinned,
+    )
 }
 
-// A kind of handle that needs no more than its target.
+/// A kind of handle that needs no more than its target.
 #[tactic(auto, unfolding(hd_model::specs::Grammar::make_of))]
-fn make(word: &[u8]) -> Option<Make>
+pub fn make(word: &[u8]) -> Option<Make>
     ensures exact { result ≡ grammar.make_of word.now }
     ensures valid { IfSome result IsValidMake }
 {
-    if spells(word, "short") {
-        Some(Make::Short)
-    } else if spells(word, "long") {
-        Some(Make::Long)
-    } else if spells(word, "strong") {
-        Some(Make::Strong)
-    } else if spells(word, "pinned") {
-        Some(Make::Pinned)
-    } else if spells(word, "ref") {
-        Some(Make::Counted)
-    } else {
-        None
-    }
+    by_word!(word;
+        "short" => Make::Short,
+        "long" => Make::Long,
+        "strong" => Make::Strong,
+        "pinned" => Make::Pinned,
+        "ref" => Make::Counted,
+    )
 }
 
-// A kind of handle whose blocks can be given back: one without extra data.
+/// A kind of handle whose blocks can be given back: one without extra data.
 #[tactic(auto, unfolding(hd_model::specs::Grammar::trimmed_kind_of))]
-fn trimmed_kind(word: &[u8]) -> Option<Kind>
+pub fn trimmed_kind(word: &[u8]) -> Option<Kind>
     ensures exact { result ≡ grammar.trimmed_kind_of word.now }
     ensures valid { IfSome result (λ kind. is_paired kind ≡ false) }
 {
-    if spells(word, "short") {
-        Some(Kind::Short)
-    } else if spells(word, "long") {
-        Some(Kind::Long)
-    } else if spells(word, "strong") {
-        Some(Kind::Strong)
-    } else if spells(word, "pinned") {
-        Some(Kind::Pinned)
-    } else {
-        None
-    }
+    by_word!(word;
+        "short" => Kind::Short,
+        "long" => Kind::Long,
+        "strong" => Kind::Strong,
+        "pinned" => Kind::Pinned,
+    )
 }
 
-// `fin`, which registers a new object for finalization.
+/// `fin`, which registers a new object for finalization.
 #[tactic(auto, unfolding(hd_model::specs::Grammar::fin_of))]
-fn fin(word: &[u8]) -> Option<bool>
+pub fn fin(word: &[u8]) -> Option<bool>
     ensures { result ≡ grammar.fin_of word.now }
 {
-    if spells(word, "fin") {
-        Some(true)
-    } else {
-        None
-    }
+    by_word!(word; "fin" => true,)
 }
 
 /// Whether a word is this text.
-pub(crate) fn spells(word: &[u8], text: &str) -> bool
+pub fn spells(word: &[u8], text: &str) -> bool
     ensures { result ≡ bytes_eq word.now text.now }
 {
     let letters = text.as_bytes();

@@ -22,9 +22,10 @@ pub use Rattle.hd_model.specs.declared.data.Kind.{Kind}
 pub use Rattle.hd_seg.specs.Blocks.{HasUnused, IsBlocks, IsLinked, IsListed, Uses, block_at, extras_at, numbered, use_at, use_of, uses_in}
 pub use Rattle.hd_seg.specs.Cells.{IsPaired, IsSeg, cell_at, cell_in, extra_held, extra_place, place_in, row_by, row_in, table_in, with_cell}
 pub use Rattle.hd_seg.specs.Mapped.{mapped, with_entry}
-pub use Rattle.hd_seg.specs.Row.{block_kind_of, extra_from, extra_of, handle_of, row_of}
+pub use Rattle.hd_commands.specs.Handles.{extra_of}
+pub use Rattle.hd_seg.specs.Row.{block_kind_of, extra_from, handle_of, row_of}
 pub use Rattle.hd_seg.specs.declared.block.Block.{Block}
 pub use Rattle.hd_seg.specs.declared.cells.Cell.{Cell}
-pub use Rattle.hd_seg.specs.declared.row.Extra.{Extra}
+pub use Rattle.hd_commands.specs.declared.handle.Extra.{Extra}
 pub use Rattle.hd_seg.specs.declared.row.Row.{Row}
 pub use Rattle.hd_model.specs.declared.limits.TheConstants.{BLOCKS, CLUMP, CLUMPS, KINDS, ROWS}

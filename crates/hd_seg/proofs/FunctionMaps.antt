@@ -141,7 +141,7 @@ len-mapped_none : {A : Type 0} (first : ℕ) (f : ℕ → Option A) → len (map
 unfolding mapped entries_of
 len-mapped_none {A} first f = len-empty nat_cmp A
 
-at_most_one : (b : Bool) → cond b 1 0 ≤ 1
+pub at_most_one : (b : Bool) → cond b 1 0 ≤ 1
 at_most_one true = omega arith
 at_most_one false = omega arith
 

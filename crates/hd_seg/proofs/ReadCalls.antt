@@ -73,12 +73,12 @@ module _ {u : Uses} {cells : List Cell} {masks : List ℕ} {live : ℕ} (inv : I
   pub empty_read : cell_at cells slot ≡ cell.Empty → None ≡ option_map row_of (get t.rows slot)
   empty_read is = none_read (row-empty _ _ _ is)
 
-  pub extra_read : (e : Extra) → cell_at cells slot ≡ cell.Extra e
+  pub extra_read : (e : Extra Addr) → cell_at cells slot ≡ cell.Extra e
       → None ≡ option_map row_of (get t.rows slot)
   extra_read e is = none_read (row-extra _ _ _ e is)
 
   -- a target is that of a live row
-  pub row_read : (target : Option Addr) (e : Extra) → cell_at cells slot ≡ cell.Target target
+  pub row_read : (target : Option Addr) (e : Extra Addr) → cell_at cells slot ≡ cell.Target target
       → e ≡ extra_held (cell_in cells (extra_place u slot))
       → Some (record { target = target; extra = e }) ≡ option_map row_of (get t.rows slot)
   row_read target e is held =

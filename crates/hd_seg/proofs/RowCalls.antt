@@ -16,7 +16,7 @@ fits_handles None e is = absurd (true≢false (sym is))
 fits_handles (Some (handles_of k)) e is = (refl, is)
 fits_handles (Some extra_data) e is = absurd (true≢false (sym is))
 
-no_target_extra : (e : Extra) → NoTarget (cell.Extra e)
+no_target_extra : (e : Extra Addr) → NoTarget (cell.Extra e)
 no_target_extra e t is = cc
 
 no_target_empty : NoTarget cell.Empty
@@ -148,7 +148,7 @@ module _ {u : Uses} {cells : List Cell} {masks : List ℕ} {live : ℕ} (inv : I
       aim-seg = seg-same inv its_block aim_write aim_now live_row (inv.fitting slot h live_row)
 
     -- another extra
-    module _ (e : Extra) (fitting : fits h.kind (extra_of e) ≡ true) where
+    module _ (e : Extra Addr) (fitting : fits h.kind (extra_of e) ≡ true) where
       abbrev pub eked : List Cell
       eked = with_cell cells (extra_place u slot) (cell.Extra e)
 

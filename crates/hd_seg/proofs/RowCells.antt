@@ -2,7 +2,7 @@
 use Rattle.hd_seg.proofs.Basics.{Addr, BlockUse, Cell, Extra, Handle, IsPaired, IsSeg, IsTable, Kind, List, None, Option, ROWS, Some, Table, Uses, [], ap, arith, cell_at, cell_in, drop, extra_data, extra_from, extra_held, extra_of, extra_place, fits, get, get_or-set_other, get_or-set_same, handles_of, inl, inr, is_some, length, length-set, mapped, place_in, refl, row_by, row_in, set, subst, suc, sym, table_in, take, take_at, true, with_cell, zero, ℕ, ◌%◌, ◌*◌, ◌++◌, ◌+◌, ◌/◌, ◌<◌, ◌∙◌, ◌∷◌, ◌≡◌, ◌≢◌, ◌≤◌, ◌⊎◌}
 use Rattle.hd_seg.proofs.FunctionMaps.{get-mapped, get-mapped_out, cases_within, len-mapped_le}
 use Rattle.hd_seg.proofs.{ChainLinks.some_of, BlockAdd.extras_apart, RowRewrite.single_nothing}
-use Rattle.hd_seg.specs.declared.row.Extra.TheVariants as extra
+use Rattle.hd_commands.specs.declared.handle.Extra.TheVariants as extra
 use Rattle.hd_seg.specs.declared.cells.Cell.TheVariants as cell
 
 pub cases_option : {A : Type 0} (o : Option A) → (o ≡ None) ⊎ ((x : A) × (o ≡ Some x))
@@ -16,7 +16,7 @@ cases_use None = inl refl
 cases_use (Some extra_data) = inr (inl refl)
 cases_use (Some (handles_of k)) = inr (inr (k, refl))
 
-pub extra-from-of : (e : Extra) → extra_from (extra_of e) ≡ e
+pub extra-from-of : (e : Extra Addr) → extra_from (extra_of e) ≡ e
 extra-from-of extra.Nothing = refl
 extra-from-of (extra.Strength s) = refl
 extra-from-of (extra.Secondary o) = refl
@@ -38,7 +38,7 @@ row-empty o c x is = ap (λ d. row_by o d x) is ∙ at o
     at (Some extra_data) = refl
     at (Some (handles_of k)) = refl
 
-pub row-extra : (o : Option BlockUse) (c x : Cell) (e : Extra) → c ≡ cell.Extra e → row_by o c x ≡ None
+pub row-extra : (o : Option BlockUse) (c x : Cell) (e : Extra Addr) → c ≡ cell.Extra e → row_by o c x ≡ None
 row-extra o c x e is = ap (λ d. row_by o d x) is ∙ at o
   where
     at : (u : Option BlockUse) → row_by u (cell.Extra e) x ≡ None
@@ -288,7 +288,7 @@ module _ {u : Uses} (p : IsPaired u) (slot : ℕ) {k : Kind}
       ))
 
   -- the extra that was written, or nothing where the kind has no extra data
-  pub held_now : (e : Extra) → length cells ≡ ROWS * (u.table.blocks + 1) → fits k (extra_of e) ≡ true
+  pub held_now : (e : Extra Addr) → length cells ≡ ROWS * (u.table.blocks + 1) → fits k (extra_of e) ≡ true
       → extra_of (extra_held (cell_in (with_cell cells (extra_place u slot) (cell.Extra e))
       (extra_place u slot))) ≡ extra_of e
   held_now e room fitting =

@@ -9,11 +9,11 @@ use Rattle.hd_model.specs.declared.limits.TheConstants.{ROWS}
 use Rattle.hd_model.specs.State.{Handle, BlockUse, handles_of, extra_data}
 use Rattle.hd_model.specs.Kinds.{is_paired}
 use Rattle.hd_model.specs.Table.{Table, IsTable, fits, has_handles}
-use Rattle.hd_seg.specs.declared.row.Extra.{Extra}
+use Rattle.hd_commands.specs.declared.handle.Extra.{Extra}
 use Rattle.hd_seg.specs.declared.cells.Cell.{Cell}
 use Rattle.hd_seg.specs.declared.cells.Cell.TheVariants as cell
-use Rattle.hd_seg.specs.declared.row.Extra.TheVariants.{Nothing}
-use Rattle.hd_seg.specs.Row.{extra_of}
+use Rattle.hd_commands.specs.declared.handle.Extra.TheVariants.{Nothing}
+use Rattle.hd_commands.specs.Handles.{extra_of}
 use Rattle.hd_seg.specs.Mapped.{mapped}
 use Rattle.hd_seg.specs.Blocks.{Uses}
 
@@ -31,7 +31,7 @@ with_cell cells None c = cells
 with_cell cells (Some q) c = slice_set cells q c
 
 -- the extra in a cell
-abbrev pub extra_held : Cell → Extra
+abbrev pub extra_held : Cell → Extra Addr
 extra_held cell.Empty = Nothing
 extra_held (cell.Target _) = Nothing
 extra_held (cell.Extra e) = e

@@ -4,20 +4,15 @@ use Rattle.hd_model.specs.declared.data.Addr.{Addr}
 use Rattle.hd_model.specs.declared.data.Kind.{Kind}
 use Rattle.hd_model.specs.State as state
 use Rattle.hd_model.specs.State.{Handle, BlockUse, handles_of, extra_data}
-use Rattle.hd_seg.specs.declared.row.Extra.{Extra}
-use Rattle.hd_seg.specs.declared.row.Extra.TheVariants.{Nothing, Strength, Secondary, Count}
+use Rattle.hd_commands.specs.Handles.{extra_of}
+use Rattle.hd_commands.specs.declared.handle.Extra.{Extra}
+use Rattle.hd_commands.specs.declared.handle.Extra.TheVariants.{Nothing, Strength, Secondary, Count}
 use Rattle.hd_seg.specs.declared.row.Row.{Row}
 use Rattle.hd_seg.specs.declared.row.BlockKind.{BlockKind}
 use Rattle.hd_seg.specs.declared.row.BlockKind.TheVariants as block
 
--- an extra of the program, and back
-abbrev pub extra_of : Extra → state.Extra Addr
-extra_of Nothing = state.nothing
-extra_of (Strength s) = state.strength s
-extra_of (Secondary o) = state.secondary o
-extra_of (Count c) = state.count c
-
-abbrev pub extra_from : state.Extra Addr → Extra
+-- an extra as the program has it
+abbrev pub extra_from : state.Extra Addr → Extra Addr
 extra_from state.nothing = Nothing
 extra_from (state.strength s) = Strength s
 extra_from (state.secondary o) = Secondary o

@@ -11,10 +11,9 @@ ghost use Rattle.hd_seg.specs.Row.{block_kind_of};
 ghost use Rattle.hd_seg.specs.Blocks.{use_of, use_at, HasUnused, numbered};
 
 use crate::block::{Block, UNUSED};
-use crate::filled::filled;
 use crate::row::BlockKind;
 use hd_model::limits::{BLOCKS, KINDS};
-use hd_model::{Kind, Memory};
+use hd_model::{Kind, Memory, filled};
 use std::alloc::{AllocError, Global};
 use std::marker::Model;
 

@@ -1,6 +1,6 @@
 // The cells of blocks. A block has 64 of them, for the targets of its rows or for their extras.
 
-use crate::row::Extra;
+use hd_commands::Extra;
 use hd_model::Addr;
 
 /// One cell of a block.
@@ -11,5 +11,5 @@ pub(crate) enum Cell {
     /// The target of a live row.
     Target(Option<Addr>),
     /// The extra of the live row at this row index of the block that this data block belongs to.
-    Extra(Extra),
+    Extra(Extra<Addr>),
 }

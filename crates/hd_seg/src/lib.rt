@@ -9,11 +9,11 @@ mod block;
 mod blocks;
 mod cells;
 mod change;
-mod filled;
 mod row;
 mod seg;
 mod writes;
 
 pub use change::rewrite_row;
-pub use row::{BlockKind, Extra, Full, Row};
+pub use hd_commands::Extra;
+pub use row::{BlockKind, Full, Row};
 pub use seg::Seg;

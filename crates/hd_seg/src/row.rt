@@ -1,19 +1,11 @@
-use hd_model::{Addr, Kind, Strength};
-
-/// What a row has beside its target.
-#[derive(Clone, Copy, Debug, PartialEq, Eq)]
-pub enum Extra {
-    Nothing,
-    Strength(Strength),
-    Secondary(Option<Addr>),
-    Count(u32),
-}
+use hd_commands::Extra;
+use hd_model::{Addr, Kind};
 
 /// A live row: the address that its handle references, or null, and its extra.
 #[derive(Clone, Copy, Debug, PartialEq, Eq)]
 pub struct Row {
     pub target: Option<Addr>,
-    pub extra: Extra,
+    pub extra: Extra<Addr>,
 }
 
 /// What a block is used for.

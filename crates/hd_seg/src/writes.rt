@@ -5,9 +5,9 @@ ghost use Rattle.hd_seg.specs.Cells.{cell_at, cell_in, extra_held, extra_place, 
 
 use crate::blocks::Blocks;
 use crate::cells::Cell;
-use crate::row::Extra;
-use hd_model::Slot;
+use hd_commands::Extra;
 use hd_model::limits::{BLOCKS, ROWS};
+use hd_model::{Addr, Slot};
 
 /// The cell index of the extra of a slot's row, if its block has a data block.
 pub(crate) fn extra_place(blocks: &Blocks, slot: Slot) -> Option<usize>
@@ -45,7 +45,7 @@ pub(crate) fn cell_of(cells: &[Cell], slot: Slot) -> Cell
 }
 
 /// The extra in a cell, where there is one.
-pub(crate) fn extra_in(cells: &[Cell], place: Option<usize>) -> Extra
+pub(crate) fn extra_in(cells: &[Cell], place: Option<usize>) -> Extra<Addr>
     requires { ForSome place (λ q. q < length cells.now) }
     ensures { result ≡ extra_held (cell_in cells.now place) }
 {

@@ -5,9 +5,8 @@ ghost use Rattle.hd_show.specs.Blocks.{block_row, blocks_text, counts_line, data
 use crate::columns::{pad, push_cell, push_end, push_hyphen};
 use crate::ranges::push_free;
 use crate::rows::Rows;
-use crate::text::Text;
 use hd_model::{Kind, Memory};
-use hd_print::{Line, kind_name};
+use hd_print::{Line, Text, kind_name};
 use hd_seen::SeenBlock;
 
 /// Appends a line for each block.

@@ -3,9 +3,8 @@ ghost use Rattle.std.specs.Prelude.{◌≡◌, ◌++◌, ◌+◌, ◌≤◌, cod
 ghost use Rattle.hd_model.specs.Text.{identity_text, newline};
 ghost use Rattle.hd_show.specs.Columns.{padded, object_word, slot_word};
 
-use crate::text::Text;
 use hd_model::{Id, Memory, Slot};
-use hd_print::Line;
+use hd_print::{Line, Text};
 
 // The bytes of the longest identity: two numbers of ten digits and a dot.
 const LONGEST_IDENTITY: usize = 21;

@@ -1,12 +1,10 @@
 // The tables of handles and of the weak table's slots.
 ghost use Rattle.std.specs.Prelude.{◌≡◌, ◌++◌, ◌+◌, ◌≤◌, IfOk, length};
-ghost use Rattle.hd_model.specs.CommandText.{strength_word};
 ghost use Rattle.hd_show.specs.Handles.{entries_text, entry_row, extra_word, handle_row, handles_text, key_word};
 
 use crate::columns::{pad, push_end, push_object};
-use crate::text::Text;
-use hd_model::{Id, Memory, Strength};
-use hd_print::{Line, kind_name};
+use hd_model::{Id, Memory};
+use hd_print::{Line, Text, kind_name, strength_name};
 use hd_seen::{SeenEntry, SeenExtra, SeenHandle};
 
 /// Appends a line for each handle.
@@ -49,19 +47,6 @@ fn push_extra(line: &mut Line, extra: SeenExtra)
         SeenExtra::Strength(strength) => line.push_str(strength_name(strength)),
         SeenExtra::Secondary(id) => push_object(line, id),
         SeenExtra::Count(count) => line.push_number(count),
-    }
-}
-
-// The word for a strength.
-fn strength_name(strength: Strength) -> &'static str
-    ensures word { result.now ≡ strength_word strength }
-    ensures short { length result.now ≤ 6 }
-{
-    match strength {
-        Strength::Short => "short",
-        Strength::Long => "long",
-        Strength::Strong => "strong",
-        Strength::Pinned => "pinned",
     }
 }
 

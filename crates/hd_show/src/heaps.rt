@@ -5,10 +5,9 @@ ghost use Rattle.hd_show.specs.Heaps.{generation_row, generations_text, is_in, n
 use crate::columns::{push_cell, push_end};
 use crate::sums::RegionSums;
 use crate::tally::plus;
-use crate::text::Text;
 use hd_model::Memory;
 use hd_model::limits::OLDEST;
-use hd_print::Line;
+use hd_print::{Line, Text};
 use hd_seen::SeenRegion;
 
 /// What there is in some regions: objects, their cells, the regions, pinned objects and set cards.

@@ -9,9 +9,8 @@ ghost use Rattle.hd_show.specs.Kinds.{block_is, handle_is, is_of, kind_row, kind
 use crate::columns::{push_cell, push_end};
 use crate::rows::Rows;
 use crate::tally::plus;
-use crate::text::Text;
 use hd_model::{Kind, Memory};
-use hd_print::{Line, kind_name};
+use hd_print::{Line, Text, kind_name};
 use hd_seen::{SeenBlock, SeenHandle, Snapshot};
 
 /// Appends a line for each kind, and one for all.

@@ -19,7 +19,6 @@ mod registers;
 mod rows;
 mod sums;
 mod tally;
-mod text;
 
 use crate::blocks::push_blocks;
 use crate::handles::{push_entries, push_handles};
@@ -33,8 +32,8 @@ use crate::lists::{push_board, push_queue, push_statics};
 use crate::registers::push_registers;
 use crate::rows::Rows;
 use crate::sums::RegionSums;
-use crate::text::Text;
 use hd_model::Memory;
+use hd_print::Text;
 use hd_seen::Snapshot;
 use std::alloc::Global;
 

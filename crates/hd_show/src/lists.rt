@@ -3,9 +3,8 @@ ghost use Rattle.std.specs.Prelude.{◌≡◌, ◌++◌, IfOk};
 ghost use Rattle.hd_show.specs.Lists.{queue_row, queue_text, static_rows, statics_text, board_rows, board_text};
 
 use crate::columns::{pad, push_end, push_object, push_slot};
-use crate::text::Text;
 use hd_model::{Id, Memory, Slot};
-use hd_print::Line;
+use hd_print::{Line, Text};
 
 /// Appends the queue, the next object first.
 pub(crate) fn push_queue(text: &mut Text, queue: &[Id]) -> Result<(), Memory>

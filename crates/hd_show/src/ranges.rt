@@ -4,10 +4,9 @@ ghost use Rattle.hd_show.specs.Blocks.{free_rows, is_free_row, rows_by};
 ghost use Rattle.hd_show.specs.Ranges.{left_word, range_word, ranges_of, ranges_word};
 
 use crate::rows::Rows;
-use crate::text::Text;
 use hd_model::Memory;
 use hd_model::limits::ROWS;
-use hd_print::Line;
+use hd_print::{Line, Text};
 
 /// All numbers from one to another.
 #[derive(Clone, Copy)]

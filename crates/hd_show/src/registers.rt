@@ -5,9 +5,8 @@ ghost use Rattle.std.specs.List.{enumerate_from};
 ghost use Rattle.hd_show.specs.Registers.{caller_objects, caller_slots, handle_register, object_register, registers_text};
 
 use crate::columns::{pad, push_end, push_object, push_slot};
-use crate::text::Text;
 use hd_model::{Id, Memory, Slot};
-use hd_print::Line;
+use hd_print::{Line, Text};
 use hd_seen::PLACES;
 
 /// Appends the registers of all callers.

@@ -1,7 +1,7 @@
 -- The names that most proofs of this crate cite, passed on from one place.
 pub use Rattle.std.proofs.lemmas.Option.{same_Some}
 pub use Rattle.std.proofs.Common.{Bool, None, Option, Some, ap, arith, cond, false, inl, inr, not, refl, subst, sym, true, ℕ, ◌&&◌, ◌*◌, ◌+◌, ◌<◌, ◌||◌, ◌↔◌, ◌∙◌, ◌≡◌, ◌≢◌, ◌⊎◌}
-pub use Rattle.std.proofs.lemmas.Bool.{and_parts, and_right, cases_eq, cases_lt, or_right}
+pub use Rattle.std.proofs.lemmas.Bool.{and_parts, and_right, cases_eq, cases_lt, not-true, or_right}
 pub use Rattle.std.specs.FinMap.{get, get-empty}
 pub use Rattle.std.specs.FinSet.{contains, contains-empty}
 pub use Rattle.std.specs.Ordering.{nat_cmp}

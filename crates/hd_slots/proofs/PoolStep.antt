@@ -1,6 +1,7 @@
 -- Over every step the pool after it is tied to the state after it.
 use Rattle.hd_slots.proofs.Basics.{Adding, Adds, AddsLeast, Back, BlockUse, Bool, Change, Cmd, Dependent, Entry, FreeSlots, Frees, GivesBackLeast, GivesLeast, Grown, GrowsFor, GrowsUnoffered, HasNoneFor, IfSome, IsFreeFor, IsLeastFreeFor, IsLeastUnused, IsLeastWholeOf, IsOffer, IsTied, Keeps, Kind, MayGrow, MayNote, MayOffer, None, NoneAllFree, NoneFree, Numbers, Offers, One, Option, ROWS, Slot, Some, State, Step, StepOf, Takes, TakesFor, TakesLeast, TakesSlot, Two, Zero, adding_of, and_right, ap, arith, asks_of, block_of, blocks_needed, cases_eq, change_in, cond, contains, extra_data, false, first_slot, get, get_beside, get_inserted, get_left, get_removed, given_of, grown_by, handle_slot, handles_of, in_idle, in_new, inl, inr, is_free, is_live, is_refused, is_some, kind_in_use, kind_of, kind_of_block, nat_cmp, needs_new, not, noted, refl, slots_of, step_keeps, subst, sym, true, use_of, without_use, ℕ, ◌&&◌, ◌*◌, ◌+◌, ◌<◌, ◌↔◌, ◌∙◌, ◌≡◌, ◌≢◌, ◌⊎◌}
 use Rattle.std.specs.Option.{ForSome}
+use Rattle.hd_model.proofs.StepWrites.{same_slot}
 use Rattle.hd_pool.proofs.SetMembers.{insert_same, insert_other, remove_same, remove_other, union_same, union_other, difference_same, difference_other}
 use Rattle.hd_store.specs.Offers.{Takes as TakesOffer}
 use Rattle.hd_slots.specs.{declared.change.Change.TheVariants.GivesBack as Gives, Change.without_block}
@@ -11,9 +12,6 @@ use Rattle.std.specs.FinSet as set
 use Rattle.hd_model.specs.declared.data.Refusal.TheVariants as refusal
 use Rattle.hd_model.specs.declared.data.Reply.TheVariants as reply
 use Rattle.hd_model.specs.declared.command.Cmd.TheVariants as cmd
-
-same_slot : (a b : Slot) → a.0 ≡ b.0 → a ≡ b
-same_slot a b e i = record { 0 = e i }
 
 module _ (n : Numbers) (s : State) (p : FreeSlots) (tied : IsTied n s p) (e : Entry) (t : State)
     (step : Step n s e t) where

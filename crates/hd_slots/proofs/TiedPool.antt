@@ -1,5 +1,5 @@
 -- A pool that is tied to a state states which slots and blocks are free there.
-use Rattle.hd_slots.proofs.Basics.{BlockUse, Bool, Dependent, FreeSlots, Handle, HasNoWholeOf, HasNoneFor, Id, IsAllFree, IsFree, IsFreeFor, IsLeastAllFree, IsLeastFree, IsLeastFreeFor, IsLeastWholeOf, IsTied, IsWholeOf, Kind, None, NoneAllFree, NoneFree, Numbers, Option, Slot, Some, State, and_parts, and_right, ap, arith, block_of, contains, contains-empty, extra_data, false, first_slot, get, get-empty, handle_at, handles_of, is_live, is_some, kind_in_use, kind_of_block, nat_cmp, not, refl, start_is_well_formed, start_of, subst, sym, true, use_of, ℕ, ◌&&◌, ◌||◌, ◌∙◌, ◌≡◌}
+use Rattle.hd_slots.proofs.Basics.{BlockUse, Dependent, FreeSlots, Handle, HasNoWholeOf, HasNoneFor, Id, IsAllFree, IsFree, IsFreeFor, IsLeastAllFree, IsLeastFree, IsLeastFreeFor, IsLeastWholeOf, IsTied, IsWholeOf, Kind, None, NoneAllFree, NoneFree, Numbers, Option, Slot, Some, State, and_parts, and_right, ap, arith, block_of, contains, contains-empty, extra_data, false, first_slot, get, get-empty, handle_at, handles_of, is_live, is_some, kind_in_use, kind_of_block, nat_cmp, not, refl, start_is_well_formed, start_of, subst, sym, use_of, ℕ, ◌&&◌, ◌||◌, ◌∙◌, ◌≡◌, not-true}
 use Rattle.hd_slots.proofs.StepLiveSlots.{neither}
 use Rattle.std.specs.FinMap as map
 use Rattle.std.specs.FinSet as set
@@ -9,10 +9,6 @@ pub use_of_kind : (u : Option BlockUse) (kind : Kind) → kind_in_use u ≡ Some
 use_of_kind None kind e = cc
 use_of_kind (Some extra_data) kind e = cc
 use_of_kind (Some (handles_of k)) kind e = cc
-
-not_true : (b : Bool) → not b ≡ true → b ≡ false
-not_true true e = cc
-not_true false e = refl
 
 -- an empty pool is tied to the first state
 pub tied_at_start : (n : Numbers) (s : State) (p : FreeSlots) → s ≡ start_of n → p ≡ record
@@ -41,7 +37,7 @@ module _ (n : Numbers) (s : State) (p : FreeSlots) (tied : IsTied n s p) where
   pub in_state : (kind : Kind) (slot : Slot) → IsFreeFor p kind slot → IsFree s kind slot
   in_state kind slot free =
       let parts = and_parts _ _ (sym (tied.free slot) ∙ free.0) in
-      let none = neither (get s.handles slot.0) (get s.weak slot.0) (not_true (is_live s slot.0) parts.0) in
+      let none = neither (get s.handles slot.0) (get s.weak slot.0) (not-true (is_live s slot.0) parts.0) in
       record {
         no_handle = none.0;
         not_weak = none.1;

@@ -3,12 +3,12 @@ ghost use Rattle.std.specs.Prelude.{◌≡◌, ◌/◌, ◌≤◌, map, option_m
 ghost use Rattle.std.specs.FinMap.{entries, get};
 ghost use Rattle.hd_model.specs.declared.limits.TheConstants.{ROWS};
 ghost use Rattle.hd_store.specs.declared.info.EntryInfo.{EntryInfo as EntryInfoValue};
-ghost use Rattle.hd_store.specs.Info.{extra_seen as extra_told, handle_seen as handle_told};
+ghost use Rattle.hd_commands.specs.Handles.{extra_of};
 ghost use Rattle.hd_seen.specs.Seen.{age_of, entry_seen, extra_seen, handle_seen};
 
 use crate::growing::add;
-use hd_model::Slot;
 use hd_model::limits::{CLUMP, CLUMPS, ROWS};
+use hd_model::{Id, Slot};
 use hd_seen::{SeenEntry, SeenExtra, SeenHandle};
 use hd_store::{EntryInfo, ExtraInfo, HandleInfo, Store};
 use std::alloc::{AllocError, Global};
@@ -75,12 +75,12 @@ fn age(store: &Store, slot: Slot) -> u8
 }
 
 // A handle, as it is seen.
-fn seen_handle(slot: Slot, info: HandleInfo, age: u8) -> SeenHandle
+fn seen_handle(slot: Slot, info: HandleInfo<Id>, age: u8) -> SeenHandle
     ensures { result ≡ record {
       slot = slot;
       kind = info.kind;
       target = info.target;
-      extra = extra_seen (extra_told info.extra);
+      extra = extra_seen (extra_of info.extra);
       age = age;
     } }
 {
@@ -94,8 +94,8 @@ fn seen_handle(slot: Slot, info: HandleInfo, age: u8) -> SeenHandle
 }
 
 // What it has beside its target.
-fn seen_extra(extra: ExtraInfo) -> SeenExtra
-    ensures { result ≡ extra_seen (extra_told extra) }
+fn seen_extra(extra: ExtraInfo<Id>) -> SeenExtra
+    ensures { result ≡ extra_seen (extra_of extra) }
 {
     match extra {
         ExtraInfo::Nothing => SeenExtra::Nothing,

@@ -1,10 +1,11 @@
 // The words that a dialogue has beside the commands of a script.
-ghost use Rattle.std.specs.Prelude.{◌≡◌, bytes_eq, is_some};
+ghost use Rattle.std.specs.Prelude.{◌≡◌, is_some};
 ghost use Rattle.hd_script.specs.Words.{words_at};
 ghost use Rattle.hd_step.specs.Dialogue.{is_own};
 
 use hd_model::Memory;
 use hd_script::next_word;
+use hd_script::words::spells;
 use std::alloc::Global;
 
 /// A word that a dialogue has beside the commands of a script.
@@ -71,20 +72,4 @@ pub(crate) fn asked_by(line: &[u8]) -> Option<Own>
     } else {
         None
     }
-}
-
-// Whether a word is this text.
-fn spells(word: &[u8], text: &str) -> bool
-    ensures { result ≡ bytes_eq word.now text.now }
-{
-    let letters = text.as_bytes();
-    if word.len() != letters.len() {
-        return false;
-    }
-    'letters: for i in 0..letters.len() {
-        if word[i] != letters[i] {
-            return false;
-        }
-    }
-    true
 }

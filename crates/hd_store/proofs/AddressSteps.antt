@@ -1,10 +1,9 @@
 -- What each command does with the pinned addresses.
-use Rattle.hd_store.proofs.StoreWords.{Addr, RepliesPlace, Bool, Cmd, CollectedSteps, Done, Entry, Err, FinMap, GrowsFor, Handle, HasCollected, HasNames, HasPlace, HasRun, Id, IsOffer, IsOutcome, IsPlainStep, IsValid, KeepsNames, KeepsPlaces, LeavesHeap, Machine, MayReturn, MayOffer, MayRun, Moves, None, Ok, Option, Outcome, Refusal, Reply, Report, Result, Slot, Some, State, Step, StepOf, TakesSteps, Zero, aged_by, reply_place, reply_with, ap, asks_of, class_of, cond, done_of, empty, entry_of, false, get, get_inserted, handle_at, handle_register_of, if◌then◌else◌, insert, is_collect, kept_places, key_register, name_in, nat_cmp, no_room, nothing_at, option_and_then, option_map_or, pinned_by, pinned_in, pinned_target, pins, refl, refuses, register_of, same_Some, subst, sym, touched_by, true, true≢false, with_place, with_places, ℕ, ◌<◌, ◌∙◌, ◌≡◌, ◌≤◌}
+use Rattle.hd_store.proofs.StoreWords.{Addr, RepliesPlace, Bool, Cmd, CollectedSteps, Done, Entry, Err, FinMap, GrowsFor, Handle, HasCollected, HasNames, HasPlace, HasRun, Id, IsOffer, IsOutcome, IsPlainStep, IsValid, KeepsNames, KeepsPlaces, LeavesHeap, Machine, MayReturn, MayOffer, MayRun, Moves, None, Ok, Option, Outcome, Refusal, Reply, Report, Result, Slot, Some, State, Step, StepOf, TakesSteps, Zero, aged_by, reply_place, reply_with, ap, asks_of, class_of, cond, done_of, empty, entry_by, false, get, get_inserted, handle_at, handle_register_of, if◌then◌else◌, insert, is_collect, kept_places, key_register, name_in, nat_cmp, no_room, nothing_at, option_and_then, option_map_or, pinned_by, pinned_in, pinned_target, pins, refl, refuses, register_of, same_Some, subst, sym, touched_by, true, true≢false, with_place, with_places, ℕ, ◌<◌, ◌∙◌, ◌≡◌, ◌≤◌}
 use Rattle.hd_model.specs.Aging.{is_refused}
 use Rattle.hd_model.specs.Command.{reply_root}
 use Rattle.hd_model.specs.Anchors.{ReturnsRoot}
 use Rattle.hd_model.proofs.{OutcomePlaces.step_placed, Journals.ages_placed}
-use Rattle.hd_store.specs.declared.done.CallerCommand.{CallerCommand}
 use Rattle.hd_store.proofs.IdentityReadings.{no_some}
 use Rattle.hd_model.specs.declared.data.Refusal.TheVariants as refusal
 use Rattle.hd_model.specs.declared.data.Reply.TheVariants as reply
@@ -205,11 +204,16 @@ collect-steps m n report caller before after steps = record {
       subst (λ j. CollectedSteps m.state m.ages j before after) (ap (number_in n) same_n) steps;
 }
 
+-- a command was done with any pinned addresses, and took so many steps
+abbrev pub Ran : Machine → Machine → ℕ → Cmd → Option Slot → Entry → (before after : ℕ) → Type 0
+Ran m k caller c offer e before after =
+    HasRun m caller c offer e (KeepsPlaces m e k) × TakesSteps m.state m.ages e before after
+
 -- what was done without a use of pinned addresses was done with any
-pub plain-kept : (m k : Machine) (asked : CallerCommand) (offer : Option Slot) → MayRun m asked offer
-    → (e : Entry) → HasRun m asked offer e (IsPlainStep m asked.cmd k e)
-    → HasRun m asked offer e (KeepsPlaces m e k)
-plain-kept m k asked offer may e did =
+pub plain-kept : (m k : Machine) (caller : ℕ) (c : Cmd) (offer : Option Slot) → MayRun m caller c offer
+    → (e : Entry) → HasRun m caller c offer e (IsPlainStep m c k e)
+    → HasRun m caller c offer e (KeepsPlaces m e k)
+plain-kept m k caller c offer may e did =
     let step = did.effect in
     let still : uses_places e.cmd ≡ false = ap uses_places did.command ∙ step.plain in
     record {
@@ -219,19 +223,17 @@ plain-kept m k asked offer may e did =
         caller = subst (λ x. x < m.numbers.callers) (sym did.caller) may.caller;
         valid = subst IsValid (sym did.command) may.valid;
         does = subst (StepOf m.numbers m.state e k.state) (sym did.command) step.step;
-      }) (names-kept (touched_by asked.cmd).makes_object m.names k.names step.names) step.ages step.numbers;
+      }) (names-kept (touched_by c).makes_object m.names k.names step.names) step.ages step.numbers;
       offer = did.offer;
       growth = did.growth;
     }
 
-pub plain-runs : (m k : Machine) (asked : CallerCommand) (offer : Option Slot) → MayRun m asked offer
-    → key_register (class_of asked.cmd) ≡ None → (steps : ℕ) (did e : Entry) → e ≡ did
-    → HasRun m asked offer did (IsPlainStep m asked.cmd k did)
-    → HasRun m asked offer e (KeepsPlaces m e k) × TakesSteps m.state m.ages e steps steps
-plain-runs m k asked offer may no_key steps did e entry ran =
-    subst (λ x. HasRun m asked offer x (KeepsPlaces m x k) × TakesSteps m.state m.ages x steps steps)
-    (sym entry) (
-      plain-kept m k asked offer may did ran,
+pub plain-runs : (m k : Machine) (caller : ℕ) (c : Cmd) (offer : Option Slot) → MayRun m caller c offer
+    → key_register (class_of c) ≡ None → (steps : ℕ) (did e : Entry) → e ≡ did
+    → HasRun m caller c offer did (IsPlainStep m c k did) → Ran m k caller c offer e steps steps
+plain-runs m k caller c offer may no_key steps did e entry ran =
+    subst (λ x. Ran m k caller c offer x steps steps) (sym entry) (
+      plain-kept m k caller c offer may did ran,
       others-steps did uses_places (ap uses_places ran.command ∙ ran.effect.plain) (λ n. refl) m steps
           (ap (λ c. key_register (class_of c)) ran.command ∙ no_key),
     )
@@ -265,38 +267,39 @@ module _ (m k : Machine) (e : Entry) (keeps : KeepsPlaces m e k) (h place : ℕ)
       (does.outcome.after ∙ ap (λ (o : Outcome). o.after) outcome_is)
       ∙ get_inserted empty x.0 does.place ∙ ap Some place_is)
 
--- a command that takes no slot and gives none back has an effect
-without-room : (m : Machine) (asked : CallerCommand) (offered : Option Slot) → MayRun m asked offered
-    → asks_of m.state asked.caller asked.cmd ≡ no_room → (done : Done) (e : Entry) → e ≡ entry_of asked done
-    → {E : Type 0} → E → HasRun m asked offered e E
-without-room m asked offered may nothing done e entry effect = record {
-  caller = ap (λ (x : Entry). x.caller) entry;
-  command = ap (λ (x : Entry). x.cmd) entry;
-  effect = effect;
-  offer = λ slot given. absurd (subst (λ a. MayOffer m.state a slot) nothing
-      (subst (IsOffer m.state asked.caller asked.cmd) given may.offer));
-  growth = subst (λ a. GrowsFor m.numbers m.state a offered e) (sym nothing) tt;
-}
+-- what was done by a command was done by the one that was asked, with the entry that was made
+pub as-asked : (m k : Machine) (caller : ℕ) (given c : Cmd) (offer : Option Slot) (r : Result Done Refusal)
+    (before after : ℕ) (e : Entry) → given ≡ c → e ≡ entry_by caller c (done_of r)
+    → MayRun m caller given offer
+    → (MayRun m caller c offer → Ran m k caller c offer (entry_by caller c (done_of r)) before after)
+    → Ran m k caller given offer e before after
+as-asked m k caller given c offer r before after e is entry may ran =
+    subst (λ x. Ran m k caller given offer x before after) (sym entry)
+    (subst (λ d. Ran m k caller d offer (entry_by caller c (done_of r)) before after) (sym is)
+    (ran (subst (λ d. MayRun m caller d offer) is may)))
 
 -- so was what takes no slot and gives none back
-pub others-run : (m k : Machine) (asked : CallerCommand) (offered : Option Slot) (c : Cmd) → asked.cmd ≡ c
-    → asks_of m.state asked.caller c ≡ no_room → (r : Result Done Refusal) (before after : ℕ)
-    → MayRun m asked offered
-    → KeepsPlaces m (entry_of (record { caller = asked.caller; cmd = c }) (done_of r)) k
-    → TakesSteps m.state m.ages (entry_of (record { caller = asked.caller; cmd = c }) (done_of r))
-    before after → (e : Entry) → e ≡ entry_of asked (done_of r)
-    → HasRun m asked offered e (KeepsPlaces m e k) × TakesSteps m.state m.ages e before after
-others-run m k asked offered c is none r before after may keeps steps e entry =
-    let same = entry ∙ (λ i. entry_of (record { caller = asked.caller; cmd = is i }) (done_of r)) in (
-      without-room m asked offered may (ap (asks_of m.state asked.caller) is ∙ none) (done_of r) e entry
-          (subst (λ x. KeepsPlaces m x k) (sym same) keeps),
-      subst (λ x. TakesSteps m.state m.ages x before after) (sym same) steps,
-    )
+pub others-run : (m k : Machine) (caller : ℕ) (c : Cmd) (offer : Option Slot) (r : Result Done Refusal)
+    (before after : ℕ) → asks_of m.state caller c ≡ no_room
+    → KeepsPlaces m (entry_by caller c (done_of r)) k
+    → TakesSteps m.state m.ages (entry_by caller c (done_of r)) before after
+    → MayRun m caller c offer → Ran m k caller c offer (entry_by caller c (done_of r)) before after
+others-run m k caller c offer r before after none keeps steps may = (
+  record {
+    caller = refl;
+    command = refl;
+    effect = keeps;
+    offer = λ slot given. absurd (subst (λ a. MayOffer m.state a slot) none
+        (subst (IsOffer m.state caller c) given may.offer));
+    growth = subst (λ a. GrowsFor m.numbers m.state a offer (entry_by caller c (done_of r))) (sym none) tt;
+  },
+  steps,
+)
 
 -- `gcroot`, which changes nothing
 module _ (m : Machine) (caller r : ℕ) where
   abbrev asking : Done → Entry
-  asking done = entry_of (record { caller = caller; cmd = cmd.GcRoot r }) done
+  asking done = entry_by caller (cmd.GcRoot r) done
 
   ages_stay : (b : Bool) → m.ages ≡ cond b m.ages m.ages
   ages_stay true = refl
@@ -344,40 +347,13 @@ module _ (m : Machine) (caller r : ℕ) where
       (done_of (Err refused)) (ap (λ (q : Refusal). done_of (Err q)) is))
 
 -- so was a search of the weak table
-pub looked-run : (m k : Machine) (asked : CallerCommand) (offered : Option Slot) (c : Cmd) → asked.cmd ≡ c
-    → asks_of m.state asked.caller c ≡ no_room → (r : Result Done Refusal) (before after : ℕ)
-    → MayRun m asked offered
-    → IsPlainStep m c k (entry_of (record { caller = asked.caller; cmd = c }) (done_of r))
-    → TakesSteps m.state m.ages (entry_of (record { caller = asked.caller; cmd = c }) (done_of r))
-    before after → (e : Entry) → e ≡ entry_of asked (done_of r)
-    → HasRun m asked offered e (KeepsPlaces m e k) × TakesSteps m.state m.ages e before after
-looked-run m k asked offered c is none r before after may did steps e entry =
-    others-run m k asked offered c is none r before after may
-    (plain-moves m k (entry_of (record { caller = asked.caller; cmd = c }) (done_of r)) did.plain (record {
-      caller = may.caller;
-      valid = subst IsValid is may.valid;
-      does = did.step;
-    }) (names-kept (touched_by c).makes_object m.names k.names did.names) did.ages did.numbers) steps e entry
-
--- and a `cadd`
-pub added-run : (m k : Machine) (asked : CallerCommand) (offered : Option Slot) (c : Cmd) → asked.cmd ≡ c
-    → (r : Result Done Refusal) (before after : ℕ) → MayRun m asked offered
-    → HasRun m (record { caller = asked.caller; cmd = c }) offered
-    (entry_of (record { caller = asked.caller; cmd = c }) (done_of r))
-    (IsPlainStep m c k (entry_of (record { caller = asked.caller; cmd = c }) (done_of r)))
-    → TakesSteps m.state m.ages (entry_of (record { caller = asked.caller; cmd = c }) (done_of r))
-    before after → (e : Entry) → e ≡ entry_of asked (done_of r)
-    → HasRun m asked offered e (KeepsPlaces m e k) × TakesSteps m.state m.ages e before after
-added-run m k asked offered c is r before after may did steps e entry =
-    let same : record { caller = asked.caller; cmd = c } ≡ asked =
-    λ i. record { caller = asked.caller; cmd = sym is i } in
-    let ran : HasRun m asked offered (entry_of asked (done_of r))
-    (IsPlainStep m asked.cmd k (entry_of asked (done_of r))) =
-    subst (λ (a : CallerCommand). HasRun m a offered (entry_of a (done_of r))
-    (IsPlainStep m a.cmd k (entry_of a (done_of r)))) same did in
-    subst (λ x. HasRun m asked offered x (KeepsPlaces m x k) × TakesSteps m.state m.ages x before after)
-    (sym entry) (
-      plain-kept m k asked offered may (entry_of asked (done_of r)) ran,
-      subst (λ (a : CallerCommand). TakesSteps m.state m.ages (entry_of a (done_of r)) before after) same
-          steps,
-    )
+pub looked-run : (m k : Machine) (caller : ℕ) (c : Cmd) (offer : Option Slot) (r : Result Done Refusal)
+    (before after : ℕ) → asks_of m.state caller c ≡ no_room
+    → IsPlainStep m c k (entry_by caller c (done_of r))
+    → TakesSteps m.state m.ages (entry_by caller c (done_of r)) before after
+    → MayRun m caller c offer → Ran m k caller c offer (entry_by caller c (done_of r)) before after
+looked-run m k caller c offer r before after none did steps may =
+    others-run m k caller c offer r before after none
+    (plain-moves m k (entry_by caller c (done_of r)) did.plain
+    (record { caller = may.caller; valid = may.valid; does = did.step })
+    (names-kept (touched_by c).makes_object m.names k.names did.names) did.ages did.numbers) steps may

@@ -1,5 +1,5 @@
 -- How the weak table of a store reads by identity, and the handles beside it.
-use Rattle.hd_store.proofs.StoreWords.{Addr, Bool, Dependent, FinMap, Handle, Heap, Id, IsTied, None, Option, Parts, Some, ap, cases_eq, cond, entry_named, eq_by_cmp, false, get, get-remove, get-retain_keys, get_beside, get_inserted, get_left, id_at, inl, inr, insert, is_none, nat_cmp, nat_cmp-IsAntisymmetric, nat_cmp_total, option_map, option_or, refl, remove, rename_handle, row_of, rows_by_id, secondary, secondary_of, state_of, sym, true, unheld, weak_by_id, weak_handle, ℕ, ◌∙◌, ◌≡◌}
+use Rattle.hd_store.proofs.StoreWords.{Addr, Bool, Dependent, FinMap, Handle, Heap, Id, IsTied, None, Option, Parts, Some, ap, cond, entry_named, false, get, get-retain_keys, get_beside, get_inserted, get_left, id_at, insert, is_none, nat_cmp, nat_cmp-IsAntisymmetric, option_map, option_or, refl, remove, rename_handle, row_of, rows_by_id, secondary, secondary_of, state_of, sym, true, unheld, weak_by_id, weak_handle, ℕ, ◌∙◌, ◌≡◌, insert_cases, remove_cases, get_removed}
 use Rattle.hd_store.proofs.{EntryMaps.same_numbers, EntryMaps.get-mapped, IdentityReadings.no_some, IdentityReadings.rows-get}
 use Rattle.hd_model.proofs.SceneReadings.{option_agrees}
 
@@ -11,12 +11,6 @@ kept_mapped g false o = refl
 pub none_kept : {A : Type 0} (b : Bool) (o : Option A) → o ≡ None → cond b o None ≡ None
 none_kept true o is = is
 none_kept false o is = refl
-
-swapped : {A : Type 0} (b c : Bool) (o : Option A) → cond b (cond c None o) None ≡ cond c None (cond b o None)
-swapped true true o = refl
-swapped true false o = refl
-swapped false true o = refl
-swapped false false o = refl
 
 module _ (rows : FinMap nat_cmp (Handle Addr)) (held : FinMap nat_cmp (Option Id)) where
   -- a slot that the weak table holds has no handle
@@ -67,26 +61,20 @@ pub unheld-put : (rows : FinMap nat_cmp (Handle Addr)) (held : FinMap nat_cmp (O
     (row : Handle Addr) → get held slot ≡ None
     → unheld (insert rows slot row) held ≡ insert (unheld rows held) slot row
 unheld-put rows held slot row free =
-    same_numbers (unheld (insert rows slot row) held) (insert (unheld rows held) slot row) (λ s.
-    unheld-get (insert rows slot row) held s
-    ∙ elim (cases_eq s slot) [
-      | inl same ↦ (λ i. cond (is_none (get held (same i))) (get (insert rows slot row) (same i)) None)
-          ∙ (λ i. cond (is_none (free i)) (get_inserted rows slot row i) None)
-          ∙ sym (get_inserted (unheld rows held) slot row)
-          ∙ ap (get (insert (unheld rows held) slot row)) (sym same)
-      | inr apart ↦ ap (λ o. cond (is_none (get held s)) o None) (get_beside rows slot row s apart)
-          ∙ sym (unheld-get rows held s) ∙ sym (get_beside (unheld rows held) slot row s apart)
-    ])
+    let after = insert (unheld rows held) slot row in
+    same_numbers _ _ (λ s. unheld-get (insert rows slot row) held s
+    ∙ insert_cases rows slot (λ j o. cond (is_none (get held j)) o None ≡ get after j) row s
+    (ap (λ o. cond (is_none o) (Some row) None) free ∙ sym (get_inserted (unheld rows held) slot row))
+    (λ apart. sym (unheld-get rows held s) ∙ sym (get_beside (unheld rows held) slot row s apart)))
 
 pub unheld-end : (rows : FinMap nat_cmp (Handle Addr)) (held : FinMap nat_cmp (Option Id)) (slot : ℕ)
     → unheld (remove rows slot) held ≡ remove (unheld rows held) slot
 unheld-end rows held slot =
-    same_numbers (unheld (remove rows slot) held) (remove (unheld rows held) slot) (λ s.
-    unheld-get (remove rows slot) held s
-    ∙ ap (λ o. cond (is_none (get held s)) o None) (get-remove nat_cmp_total rows slot s)
-    ∙ swapped (is_none (get held s)) (eq_by_cmp nat_cmp s slot) (get rows s)
-    ∙ ap (cond (eq_by_cmp nat_cmp s slot) None) (sym (unheld-get rows held s))
-    ∙ sym (get-remove nat_cmp_total (unheld rows held) slot s))
+    let after = remove (unheld rows held) slot in
+    same_numbers _ _ (λ s. unheld-get (remove rows slot) held s
+    ∙ remove_cases rows slot (λ j o. cond (is_none (get held j)) o None ≡ get after j) s
+    (none_kept (is_none (get held slot)) None refl ∙ sym (get_removed (unheld rows held) slot))
+    (λ apart. sym (unheld-get rows held s) ∙ sym (get_left (unheld rows held) slot s apart)))
 
 -- other rows, the same in the slots that the weak table holds, have the same entries
 pub weak-same : (h : Heap) (old new : FinMap nat_cmp (Handle Addr)) (held : FinMap nat_cmp (Option Id))

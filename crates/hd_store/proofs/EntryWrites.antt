@@ -1,6 +1,6 @@
 -- An entry of the weak table that is put, or taken: what the machine sees, and that the store keeps what it
 -- keeps.
-use Rattle.hd_store.proofs.StoreWords.{Addr, Dependent, FinMap, Handle, Id, IsSome, IsStored, Machine, MayHaveEntry, None, Option, Parts, Slot, Some, T, Table, WeakEntry, WeakTable, age_of, ap, arith, cases_eq, cond, entry_at, entry_named, get, get_beside, get_inserted, id_at, inl, inr, insert, is_none, is_object, is_some, live_at, machine_of, name_in, nat_cmp, object_at, option_map, refl, rows_by_id, same_Some, state_of, subst, sym, true, unheld, weak_by_id, with_row, with_weak, ℕ, ◌∙◌, ◌≡◌}
+use Rattle.hd_store.proofs.StoreWords.{Addr, Dependent, FinMap, Handle, Id, IsSome, IsStored, Machine, MayHaveEntry, None, Option, Parts, Slot, Some, T, Table, WeakEntry, WeakTable, age_of, ap, arith, cond, entry_at, entry_named, get, get_beside, get_inserted, id_at, insert, is_none, is_object, is_some, live_at, machine_of, name_in, nat_cmp, object_at, option_map, refl, rows_by_id, same_Some, state_of, subst, sym, true, unheld, weak_by_id, with_row, with_weak, ℕ, ◌∙◌, ◌≡◌, insert_cases, IsTied}
 use Rattle.hd_store.proofs.{EntryMaps.same_numbers, IdentityReadings.no_some, IdentityReadings.names-are, EntrySweep.attaching, EntrySweep.row-known, EntrySearch.held-some}
 use Rattle.hd_store.proofs.EntryReadings.{none_kept, unheld-get, weak-get, tied-agrees}
 use Rattle.hd_store.proofs.StoreRows.{IsStorable, AreTied, storable-put, stored-entries, object, held-live}
@@ -47,19 +47,15 @@ module _ (f : Parts) (m : Machine) (view : machine_of f ≡ m) (stored : IsStore
   }
 
   tied : AreTied with_attached
-  tied s k is =
-      elim (cases_eq s slot.0) [
-        | inl same ↦ record {
-          target = target;
-          value = value;
-          row = ap (get (insert f.table.rows slot.0 row)) same ∙ get_inserted f.table.rows slot.0 row;
-          key_is = key_is ∙ same_Some key k (sym (get_inserted f.weak.held slot.0 key)
-              ∙ ap (get (insert f.weak.held slot.0 key)) (sym same) ∙ is);
-        }
-        | inr apart ↦ tied-agrees f with_attached s k
-            (stored.tied s k (sym (get_beside f.weak.held slot.0 key s apart) ∙ is))
-            (get_beside f.table.rows slot.0 row s apart) (λ x e. refl)
-      ]
+  tied s k =
+      insert_cases f.weak.held slot.0 (λ j o. o ≡ Some k → IsTied f.heap (insert f.table.rows slot.0 row) j k)
+      key s (λ is. record {
+        target = target;
+        value = value;
+        row = get_inserted f.table.rows slot.0 row;
+        key_is = key_is ∙ same_Some key k is;
+      }) (λ apart is. tied-agrees f with_attached s k (stored.tied s k is)
+      (get_beside f.table.rows slot.0 row s apart) (λ x e. refl))
 
   pub stored-attached : IsStored with_attached
   stored-attached =
@@ -70,38 +66,27 @@ module _ (f : Parts) (m : Machine) (view : machine_of f ≡ m) (stored : IsStore
   weak_attached : weak_by_id f.heap (insert f.table.rows slot.0 row) (insert f.weak.held slot.0 key)
       ≡ insert (weak_by_id f.heap f.table.rows f.weak.held) slot.0 (entry_named (id_at f.heap) (Some row) key)
   weak_attached =
-      let rows = insert f.table.rows slot.0 row in
       let held = insert f.weak.held slot.0 key in
       let old = weak_by_id f.heap f.table.rows f.weak.held in
       let entry = entry_named (id_at f.heap) (Some row) key in
-      same_numbers (weak_by_id f.heap rows held) (insert old slot.0 entry) (λ s.
-      weak-get f.heap rows held s
-      ∙ elim (cases_eq s slot.0) [
-        | inl same ↦ (λ i. option_map (entry_named (id_at f.heap) (get rows (same i))) (get held (same i)))
-            ∙ (λ i. option_map (entry_named (id_at f.heap) (get_inserted f.table.rows slot.0 row i))
-            (get_inserted f.weak.held slot.0 key i))
-            ∙ sym (get_inserted old slot.0 entry) ∙ ap (get (insert old slot.0 entry)) (sym same)
-        | inr apart ↦
-            (λ i. option_map (entry_named (id_at f.heap) (get_beside f.table.rows slot.0 row s apart i))
-            (get_beside f.weak.held slot.0 key s apart i))
-            ∙ sym (weak-get f.heap f.table.rows f.weak.held s) ∙ sym (get_beside old slot.0 entry s apart)
-      ])
+      same_numbers _ _ (λ s. weak-get f.heap (insert f.table.rows slot.0 row) held s
+      ∙ insert_cases f.table.rows slot.0
+      (λ j o. option_map (entry_named (id_at f.heap) o) (get held j) ≡ get (insert old slot.0 entry) j) row s
+      (ap (option_map (entry_named (id_at f.heap) (Some row))) (get_inserted f.weak.held slot.0 key)
+      ∙ sym (get_inserted old slot.0 entry))
+      (λ apart. ap (option_map (entry_named (id_at f.heap) (get f.table.rows s)))
+      (get_beside f.weak.held slot.0 key s apart)
+      ∙ sym (weak-get f.heap f.table.rows f.weak.held s) ∙ sym (get_beside old slot.0 entry s apart)))
 
   handles_kept : unheld (insert f.table.rows slot.0 row) (insert f.weak.held slot.0 key)
       ≡ unheld f.table.rows f.weak.held
   handles_kept =
       let rows = insert f.table.rows slot.0 row in
-      let held = insert f.weak.held slot.0 key in
-      same_numbers (unheld rows held) (unheld f.table.rows f.weak.held) (λ s.
-      unheld-get rows held s
-      ∙ elim (cases_eq s slot.0) [
-        | inl same ↦ (λ i. cond (is_none (get held (same i))) (get rows (same i)) None)
-            ∙ (λ i. cond (is_none (get_inserted f.weak.held slot.0 key i)) (get rows slot.0) None)
-            ∙ sym vacant ∙ ap (get (unheld f.table.rows f.weak.held)) (sym same)
-        | inr apart ↦ (λ i. cond (is_none (get_beside f.weak.held slot.0 key s apart i))
-            (get_beside f.table.rows slot.0 row s apart i) None)
-            ∙ sym (unheld-get f.table.rows f.weak.held s)
-      ])
+      let was = unheld f.table.rows f.weak.held in
+      same_numbers _ _ (λ s. unheld-get rows (insert f.weak.held slot.0 key) s
+      ∙ insert_cases f.weak.held slot.0 (λ j o. cond (is_none o) (get rows j) None ≡ get was j) key s (sym vacant)
+      (λ apart. ap (λ o. cond (is_none (get f.weak.held s)) o None) (get_beside f.table.rows slot.0 row s apart)
+      ∙ sym (unheld-get f.table.rows f.weak.held s)))
 
   pub machine-attached : machine_of with_attached
       ≡ record m {

@@ -1,5 +1,5 @@
 -- The weak table has room for each free slot in a block of dependent handles.
-use Rattle.hd_store.proofs.StoreWords.{BlockUse, Bool, Contains, Contains-append_left, Contains-append_right, Contains-get_or, Dependent, FinMap, Id, IfSome, IsSome, IsStored, IsTable, List, Machine, None, Option, Parts, Slot, Some, State, T, [], ap, arith, block_of, cases_eq, cond, counts_keys, entries, extra_data, false, fewer, get, get_beside, handles_of, idle_found, idle_slot, inl, inr, insert, is_kind, is_some, key_found, len, len-entries, len-insert, length, length-append, machine_of, map, member_cases, nat_cmp, nat_cmp_total, not_in_none, one_dependent, one_extra, range_with_len, refl, slot_of_key, subst, sum_by, sum_by-cons, sym, true, ℕ, ⊎_elim, ◌%◌, ◌*◌, ◌++◌, ◌+◌, ◌/◌, ◌<◌, ◌∙◌, ◌∷◌, ◌≡◌, ◌≤◌}
+use Rattle.hd_store.proofs.StoreWords.{BlockUse, Bool, Contains, Contains-append_left, Contains-append_right, Contains-get_or, Dependent, FinMap, Id, IfSome, IsSome, IsStored, IsTable, List, Machine, None, Option, Parts, Slot, Some, State, T, [], ap, arith, block_of, cond, counts_keys, entries, extra_data, false, fewer, get, handles_of, idle_found, idle_slot, insert, is_kind, is_some, key_found, len, len-entries, len-insert, length, length-append, machine_of, map, member_cases, nat_cmp, nat_cmp_total, not_in_none, one_dependent, one_extra, range_with_len, refl, slot_of_key, subst, sum_by, sum_by-cons, sym, true, ℕ, ⊎_elim, ◌%◌, ◌*◌, ◌++◌, ◌+◌, ◌/◌, ◌<◌, ◌∙◌, ◌∷◌, ◌≡◌, ◌≤◌, insert_cases}
 use Rattle.std.proofs.lemmas.List.FromFn.{length-range_with_len, get_or-range_with_len}
 use Rattle.hd_model.proofs.MapEntries.{entry_of}
 use Rattle.hd_store.proofs.EntrySearch.{at-idle}
@@ -82,10 +82,8 @@ module _ (f : Parts) (stored : IsStored f) (table : IsTable f.table) where
       → len f.weak.held < ROWS * (f.weak.blocks / 2)
   room-held slot free here =
       let more = insert f.weak.held slot None in
-      let all = few_slots more (λ s is. elim (cases_eq s slot) [
-        | inl same ↦ subst IsDependent (sym same) here
-        | inr apart ↦ held-block s (sym (ap is_some (get_beside f.weak.held slot None s apart)) ∙ is)
-      ]) in
+      let all = few_slots more (λ s. insert_cases f.weak.held slot (λ k o. IsSome o → IsDependent k) None s
+      (λ _. here) (λ _. held-block s)) in
       let one : len more ≡ len f.weak.held + 1 =
       len-insert nat_cmp_total f.weak.held slot None
       ∙ ap (λ o. cond (is_some o) (len f.weak.held) (len f.weak.held + 1)) free in

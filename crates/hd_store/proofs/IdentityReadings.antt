@@ -1,5 +1,5 @@
 -- How a heap, its rows and its roots read by identity, and how that changes with the heap.
-use Rattle.hd_store.proofs.StoreWords.{Addr, FinMap, Handle, HasIdentities, Heap, Id, None, Object, Option, Placed, Some, T, ap, cases_eq, entries, entry_named, from_entries, get, get_beside, get_inserted, id_at, id_in, inl, inr, insert, is_some, map, name_in, named_in, names_of, nat_cmp, object_in, objects_by_id, option_map, read_object, refl, region_of, rename_handle, rename_object, rows_by_id, same_Some, subst, sym, unwrap_or, weak_by_id, ℕ, ◌∙◌, ◌≡◌}
+use Rattle.hd_store.proofs.StoreWords.{Addr, FinMap, Handle, HasIdentities, Heap, Id, None, Object, Option, Placed, Some, T, ap, cases_eq, entries, entry_named, from_entries, get, get_beside, get_inserted, id_at, id_in, inl, inr, insert, is_some, map, name_in, named_in, names_of, nat_cmp, object_in, objects_by_id, option_map, read_object, refl, region_of, rename_handle, rename_object, rows_by_id, same_Some, subst, sym, unwrap_or, weak_by_id, ℕ, ◌∙◌, ◌≡◌, write_cases}
 use Rattle.hd_store.proofs.EntryMaps.{same_numbers, get-mapped, Under, AreApart, under, get-rekeyed}
 
 pub no_some : {A : Type 0} (x : A) → Some x ≡ None → ⊥
@@ -173,19 +173,11 @@ pub record Replaces (h k : Heap) (a : ℕ) (old new : Placed) : Type 0 where
   pub regions : k.regions ≡ h.regions
 
 module _ (h k : Heap) (a : ℕ) (old new : Placed) (r : Replaces h k a old new) where
-  at_it : get k.objects a ≡ Some new
-  at_it = put-here h k a new r.objects
-
-  elsewhere : (b : ℕ) → (b ≡ a → ⊥) → get k.objects b ≡ get h.objects b
-  elsewhere = put-beside h k a new r.objects
-
   id_same : (b : ℕ) → id_in (get k.objects b) ≡ id_in (get h.objects b)
   id_same b =
-      elim (cases_eq b a) [
-        | inl is ↦ ap (λ c. id_in (get k.objects c)) is ∙ ap id_in at_it ∙ r.same ∙ sym (ap id_in r.was)
-            ∙ ap (λ c. id_in (get h.objects c)) (sym is)
-        | inr apart ↦ ap id_in (elsewhere b apart)
-      ]
+      ap (λ m. id_in (get m b)) r.objects
+      ∙ write_cases h.objects a (λ o. id_in o ≡ id_in (get h.objects b)) new b
+      (λ is. r.same ∙ sym (ap id_in r.was) ∙ ap (λ c. id_in (get h.objects c)) (sym is)) refl
 
   -- every address has the identity that it had
   pub ids-replace : id_at k ≡ id_at h
@@ -194,13 +186,10 @@ module _ (h k : Heap) (a : ℕ) (old new : Placed) (r : Replaces h k a old new) 
   name_same : (b : ℕ) → option_map (λ (p : Placed). p.id) (get k.objects b) ≡ option_map
       (λ (p : Placed). p.id) (get h.objects b)
   name_same b =
-      elim (cases_eq b a) [
-        | inl is ↦ ap (λ c. option_map (λ (p : Placed). p.id) (get k.objects c)) is
-            ∙ ap (option_map (λ (p : Placed). p.id)) at_it ∙ ap Some r.same
-            ∙ sym (ap (option_map (λ (p : Placed). p.id)) r.was)
-            ∙ ap (λ c. option_map (λ (p : Placed). p.id) (get h.objects c)) (sym is)
-        | inr apart ↦ ap (option_map (λ (p : Placed). p.id)) (elsewhere b apart)
-      ]
+      let name : Option Placed → Option Id = option_map (λ (p : Placed). p.id) in
+      ap (λ m. name (get m b)) r.objects
+      ∙ write_cases h.objects a (λ o. name o ≡ name (get h.objects b)) new b
+      (λ is. ap Some r.same ∙ sym (ap name r.was) ∙ ap (λ c. name (get h.objects c)) (sym is)) refl
 
   pub names-replace : names_of k ≡ names_of h
   names-replace = same_numbers (names_of k) (names_of h)

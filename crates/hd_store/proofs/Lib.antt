@@ -16,9 +16,8 @@ mod StoreRows
 mod EntryWrites
 mod SlotHandle
 mod StoreNew
-mod FoundHandle
 mod NewBlockSlot
-mod MadeRowAge
+mod MadeHandleAge
 mod StoreOpen
 mod QueueTake
 mod SceneReading

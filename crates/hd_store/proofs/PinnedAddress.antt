@@ -1,5 +1,5 @@
 -- The address of an object may be returned as its pinned address.
-use Rattle.hd_store.proofs.StoreWords.{Addr, AreAddresses, FinMap, HasPlace, Id, IsFreePlace, IsSome, IsStored, Machine, MatchOption, MayReturn, Meet, None, Option, Parts, Placed, Some, ap, arith, cases_eq, cells_of, get, get_beside, get_inserted, has_object, inl, inr, insert, is_some, machine_of, name_in, names_of, nat_cmp, object_by_id, object_named, placed_at, range_at, refl, region_of, same_Some, size_of, state_of, subst, sym, true, with_places, ℕ, ◌<◌, ◌^◌, ◌∙◌, ◌≡◌}
+use Rattle.hd_store.proofs.StoreWords.{Addr, AreAddresses, FinMap, HasPlace, Id, IsFreePlace, IsSome, IsStored, Machine, MatchOption, MayReturn, Meet, None, Option, Parts, Placed, Some, ap, arith, cells_of, get, has_object, inl, inr, insert, is_some, machine_of, name_in, names_of, nat_cmp, object_by_id, object_named, placed_at, range_at, refl, region_of, same_Some, size_of, state_of, subst, sym, true, with_places, ℕ, ◌<◌, ◌^◌, ◌∙◌, ◌≡◌, insert_cases}
 use Rattle.hd_heap.specs.Sound.{IsSound}
 use Rattle.hd_model.proofs.SceneCollection.{mapped_value}
 use Rattle.hd_store.proofs.{IdentityReadings.no_some, IdentityReadings.names-get, NamedAddresses.object-named, NamedAddresses.known_object, StateCounts.read-size}
@@ -93,15 +93,10 @@ module _ (f : Parts) (stored : IsStored f) (sound : IsSound f.heap) where
               (are (name_in (names_of f.heap) at).0 own e)
 
       addresses_with : AreAddresses (names_of f.heap) (insert p (name_in (names_of f.heap) at).0 at.0)
-      addresses_with x a is =
-          elim (cases_eq x (name_in (names_of f.heap) at).0) [
-            | inl same ↦
-                let it : at.0 ≡ a = same_Some at.0 a
-                (sym (get_inserted p (name_in (names_of f.heap) at).0 at.0)
-                ∙ ap (get (insert p (name_in (names_of f.heap) at).0 at.0)) (sym same) ∙ is) in
-                ap (get (names_of f.heap)) (sym it) ∙ name_at ∙ (λ i. Some (record { 0 = sym same i }))
-            | inr apart ↦ are x a (sym (get_beside p (name_in (names_of f.heap) at).0 at.0 x apart) ∙ is)
-          ]
+      addresses_with x a =
+          insert_cases p (name_in (names_of f.heap) at).0
+          (λ z o. o ≡ Some a → get (names_of f.heap) a ≡ Some (record { 0 = z })) at.0 x
+          (λ is. ap (get (names_of f.heap)) (sym (same_Some at.0 a is)) ∙ name_at) (λ _. are x a)
 
 pub has-place : (f : Parts) (m : Machine) → machine_of f ≡ m → IsStored f → IsSound f.heap → (at : Addr)
     → IsSome (get m.names at.0) → HasPlace m at

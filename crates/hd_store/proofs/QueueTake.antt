@@ -1,4 +1,5 @@
 -- The first object is taken out of a store's queue.
+use Rattle.hd_store.specs.Store.{seen_by}
 use Rattle.hd_store.proofs.StoreWords.{Addr, Contains, IsNamed, IsStored, Machine, MatchOption, None, Option, Parts, Queue, Some, [], ap, arith, first_in, id_at, later_in, len, machine_of, map, name_in, names_of, refl, same_Some, subst, sym, with_queue, ◌∙◌, ◌∷◌, ◌≡◌, ◌≤◌}
 use Rattle.hd_store.proofs.{IdentityReadings.name-is, RootAccess.stored-named, NamedAddresses.objects_named}
 
@@ -55,12 +56,13 @@ module _ (f : Parts) (m : Machine) (view : machine_of f ≡ m) (stored : IsStore
   stored-popped (Some at) is = stored-queue f m view q at is stored
 
   pub machine-popped : (r : Option Addr) → IsPop f q r
-      → MatchOption r ((m.state.queue ≡ []) × (machine_of (with_new_queue f q) ≡ m))
+      → MatchOption r ((m.state.queue ≡ []) × (seen_by (machine_of (with_new_queue f q)) ≡ seen_by m))
       (λ at. (m.state.queue ≡ name_in m.names at ∷ (machine_of (with_new_queue f q)).state.queue)
-      × (machine_of (with_new_queue f q) ≡ record m
+      × (seen_by (machine_of (with_new_queue f q)) ≡ record (seen_by m)
       { state = with_queue m.state (machine_of (with_new_queue f q)).state.queue }))
-  machine-popped None is = (queue-none f m view q is.0, ap (λ w. machine_of (with_new_queue f w)) is.1 ∙ view)
-  machine-popped (Some at) is = (queue-first f m view q at is, machine-queue f m view q)
+  machine-popped None is =
+      (queue-none f m view q is.0, ap seen_by (ap (λ w. machine_of (with_new_queue f w)) is.1 ∙ view))
+  machine-popped (Some at) is = (queue-first f m view q at is, ap seen_by (machine-queue f m view q))
 
   pub named-popped : (r : Option Addr) → IsPop f q r → IsNamed (names_of f.heap) r
   named-popped None is = tt

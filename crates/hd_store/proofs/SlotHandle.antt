@@ -1,5 +1,5 @@
 -- The handle in a slot of a store, as commands find it.
-use Rattle.hd_store.proofs.StoreWords.{Addr, Handle, Id, IfSome, IsNamed, IsStored, IsTable, Kind, Machine, MayBeStored, None, Option, Parts, Row, Slot, Some, age_of, ap, block_of, extra_of, fits, generation_at, get, handle_at, handle_named, handle_of, id_at, is_object, kind_in_use, machine_of, named_in, object_at, object_named, option_map, refl, rename_handle, same_Some, secondary_of, subst, sym, true, use_of, ◌∙◌, ◌≡◌, ◌≤◌}
+use Rattle.hd_store.proofs.StoreWords.{Addr, Handle, Id, IfSome, IsNamed, IsStored, IsTable, Kind, Machine, MayBeStored, None, Option, Parts, Row, Slot, Some, age_of, ap, block_of, generation_at, get, handle_at, handle_of, id_at, is_object, kind_in_use, machine_of, named_in, object_at, object_named, option_map, refl, rename_handle, same_Some, secondary_of, subst, sym, true, use_of, ◌∙◌, ◌≡◌, ◌≤◌, name_in, seen_by}
 use Rattle.hd_seg.specs.Row.{row_of}
 use Rattle.hd_seg.proofs.RowRewrite.{extra_again}
 use Rattle.hd_store.proofs.{IdentityReadings.no_some, IdentityReadings.names-are, NamedAddresses.objects_named, NamedAddresses.generation-is, StoreRows.row-read}
@@ -45,64 +45,59 @@ module _ (f : Parts) (m : Machine) (view : machine_of f ≡ m) (stored : IsStore
   pub kind-there : None ≡ kind_in_use (use_of m.state (block_of slot)) → ⊥
   kind-there none = no_some at.handle.kind (sym kind_use ∙ sym none)
 
-  module _ (kind : Kind) (known : Some kind ≡ kind_in_use (use_of m.state (block_of slot))) where
-    kind_is : kind ≡ at.handle.kind
-    kind_is = same_Some kind at.handle.kind (known ∙ kind_use)
+  stored_is : handle_at m.state slot ≡ Some (rename_handle (name_in m.names) at.handle)
+  stored_is =
+      row-read f m view slot free ∙ ap (option_map (rename_handle (id_at f.heap))) at.is_stored
+      ∙ ap (λ g. Some (rename_handle g at.handle)) (sym (names-are f.heap))
+      ∙ ap (λ (n : Machine). Some (rename_handle (name_in n.names) at.handle)) view
 
-    whole : handle_of kind row ≡ at.handle
-    whole = (λ i. handle_of (kind_is i) (at.row_is i)) ∙ same_handle at.handle
+  named : (o : Option Addr) → ((x : Addr) → o ≡ Some x → is_object (object_at f.heap) x ≡ true)
+      → IsNamed m.names o
+  named o each = subst (λ (n : Machine). IsNamed n.names o) view (objects_named f.heap o each)
 
-    pub handle-is : handle_at m.state slot ≡ Some (handle_named m kind row)
-    handle-is =
-        row-read f m view slot free ∙ ap (option_map (rename_handle (id_at f.heap))) at.is_stored
-        ∙ ap (λ h. Some (rename_handle (id_at f.heap) h)) (sym whole)
-        ∙ ap (λ g. Some (rename_handle g (handle_of kind row))) (sym (names-are f.heap))
-        ∙ ap (λ (n : Machine). Some (handle_named n kind row)) view
+  aged : (o : Option Addr) → IsNamed m.names o
+      → ((x : Addr) → o ≡ Some x → age_of f.ages slot.0 ≤ generation_at (object_at f.heap) x)
+      → IfSome o (λ a. age_of m.ages slot.0 ≤ (object_named m a).generation)
+  aged None there each = tt
+  aged (Some a) there each =
+      subst (λ ages. age_of ages slot.0 ≤ (object_named m a).generation) (ap (λ (n : Machine). n.ages) view)
+      (subst (λ g. age_of f.ages slot.0 ≤ g) (generation-is f m view stored a there) (each a refl))
 
-    named : (o : Option Addr) → ((x : Addr) → o ≡ Some x → is_object (object_at f.heap) x ≡ true)
-        → IsNamed m.names o
-    named o each = subst (λ (n : Machine). IsNamed n.names o) view (objects_named f.heap o each)
+  stored_may : MayBeStored (seen_by m) slot at.handle
+  stored_may =
+      let h = at.handle in
+      let target : IsNamed m.names h.target =
+      named h.target (λ x e. stored.whole.targets slot.0 h x at.is_stored e) in
+      let second : IsNamed m.names (secondary_of h.extra) =
+      named (secondary_of h.extra) (λ x e. stored.whole.secondaries slot.0 h x at.is_stored e) in
+      record {
+        fits = (table.rows slot.0 h at.is_stored).fits;
+        target = target;
+        secondary = second;
+        paired = stored.whole.paired slot.0 h at.is_stored;
+        target_age = aged h.target target (λ x e. stored.ages.targets slot.0 h x at.is_stored e);
+        secondary_age =
+            aged (secondary_of h.extra) second (λ x e. stored.ages.secondaries slot.0 h x at.is_stored e);
+      }
 
-    aged : (o : Option Addr) → IsNamed m.names o
-        → ((x : Addr) → o ≡ Some x → age_of f.ages slot.0 ≤ generation_at (object_at f.heap) x)
-        → IfSome o (λ a. age_of m.ages slot.0 ≤ (object_named m a).generation)
-    aged None there each = tt
-    aged (Some a) there each =
-        subst (λ ages. age_of ages slot.0 ≤ (object_named m a).generation) (ap (λ (n : Machine). n.ages) view)
-        (subst (λ g. age_of f.ages slot.0 ≤ g) (generation-is f m view stored a there) (each a refl))
+  -- the handle that is made of the row and of that kind
+  module _ (kind : Kind) (known : Some kind ≡ kind_in_use (use_of m.state (block_of slot))) (h : Handle Addr)
+      (read : h ≡ handle_of kind row) where
+    whole : at.handle ≡ h
+    whole = sym (read ∙ (λ i. handle_of (same_Some kind at.handle.kind (known ∙ kind_use) i) (at.row_is i))
+        ∙ same_handle at.handle)
 
-    target_is : row.target ≡ at.handle.target
-    target_is = ap (λ (h : Handle Addr). h.target) whole
+    pub handle-is : handle_at m.state slot ≡ Some (rename_handle (name_in m.names) h)
+    handle-is = stored_is ∙ ap (λ x. Some (rename_handle (name_in m.names) x)) whole
 
-    extra_is : extra_of row.extra ≡ at.handle.extra
-    extra_is = ap (λ (h : Handle Addr). h.extra) whole
-
-    second_is : secondary_of (extra_of row.extra) ≡ secondary_of at.handle.extra
-    second_is = ap secondary_of extra_is
-
-    pub handle-may : MayBeStored m slot kind row
-    handle-may =
-        let h = at.handle in
-        let target : IsNamed m.names row.target =
-        named row.target (λ x e. stored.whole.targets slot.0 h x at.is_stored (sym target_is ∙ e)) in
-        let second : IsNamed m.names (secondary_of (extra_of row.extra)) =
-        named (secondary_of (extra_of row.extra))
-        (λ x e. stored.whole.secondaries slot.0 h x at.is_stored (sym second_is ∙ e)) in
-        record {
-          fits = (λ i. fits (kind_is i) (extra_is i)) ∙ (table.rows slot.0 h at.is_stored).fits;
-          target = target;
-          secondary = second;
-          paired = λ none. second_is ∙ stored.whole.paired slot.0 h at.is_stored (sym target_is ∙ none);
-          target_age =
-              aged row.target target (λ x e. stored.ages.targets slot.0 h x at.is_stored (sym target_is ∙ e));
-          secondary_age = aged (secondary_of (extra_of row.extra)) second
-              (λ x e. stored.ages.secondaries slot.0 h x at.is_stored (sym second_is ∙ e));
-        }
+    pub handle-may : MayBeStored (seen_by m) slot h
+    handle-may = subst (MayBeStored (seen_by m) slot) whole stored_may
 
   -- what it has for a target, whatever its kind
   pub target-is : option_map (λ (h : Handle Id). h.target) (handle_at m.state slot)
       ≡ Some (named_in m.names row.target)
-  target-is = ap (option_map (λ (h : Handle Id). h.target)) (handle-is at.handle.kind (sym kind_use))
+  target-is = ap (option_map (λ (h : Handle Id). h.target)) stored_is
+      ∙ ap (λ (r : Row). Some (named_in m.names r.target)) (sym at.row_is)
 
   pub target-named : IsNamed m.names row.target
-  target-named = (handle-may at.handle.kind (sym kind_use)).target
+  target-named = subst (λ (r : Row). IsNamed m.names r.target) (sym at.row_is) stored_may.target

@@ -1,10 +1,9 @@
 -- A command of a store keeps it well formed, and what a store asks of a command is what its contents ask.
-use Rattle.hd_store.proofs.StoreWords.{Entry, FinMap, HasLimits, IsOffer, IsValid, IsWellFormed, KeepsPlaces, Machine, MayRun, None, Numbers, Option, Slot, Some, State, T, empty, get, nat_cmp, nothing_at, refl, start_of, subst, sym, with_places, ℕ, ◌<◌, ◌≡◌}
+use Rattle.hd_store.proofs.StoreWords.{Cmd, Entry, FinMap, HasHandles, HasLimits, IsOffer, IsValid, IsWellFormed, KeepsPlaces, Machine, MayRun, None, Numbers, Option, Slot, Some, State, T, empty, get, nat_cmp, nothing_at, refl, start_of, subst, sym, with_places, ℕ, ◌<◌, ◌≡◌}
 use Rattle.std.specs.Prelude.{IsSome}
 use Rattle.hd_model.proofs.{RunCounts.fresh, WellFormedSteps.step_keeps, WellFormedSteps.start_is_well_formed, WellFormedWrites.handle_register_keeps}
 use Rattle.hd_model.specs.State.{with_handle_register}
 use Rattle.hd_store.specs.Calls.{IsSound, StaysWithin}
-use Rattle.hd_store.specs.declared.done.CallerCommand.{CallerCommand}
 
 -- pinned addresses are no part of what makes a state well formed, where there are none
 pub unplaced : (n : Numbers) (s : State) (p : FinMap nat_cmp ℕ) → IsWellFormed n (with_places s p)
@@ -81,23 +80,28 @@ sound-pointed m caller h slot sound known = record {
       (handle_register_keeps m.numbers (with_places m.state empty) sound.well_formed caller h slot known);
 }
 
-pub may-run : (m : Machine) (asked : CallerCommand) (offer : Option Slot) → IsSound m
-    → asked.caller < m.numbers.callers → IsValid asked.cmd → IsOffer m.state asked.caller asked.cmd offer
-    → StaysWithin m.state asked.caller asked.cmd → MayRun m asked offer
-may-run m asked offer sound caller valid may within =
+pub has-handles : (m : Machine) → IsSound m → HasHandles m.numbers m.state
+has-handles m sound =
+    let handles = sound.well_formed.handles in record {
+      kinds = handles.kinds;
+      extras = handles.extras;
+      dependents = handles.dependents;
+      blocks = handles.blocks;
+    }
+
+pub may-run : (m : Machine) (number : ℕ) (c : Cmd) (offer : Option Slot) → IsSound m
+    → number < m.numbers.callers → IsValid c → IsOffer m.state number c offer → StaysWithin m.state number c
+    → MayRun m number c offer
+may-run m number c offer sound caller valid may within =
     let w = sound.well_formed in record {
-      handles = record {
-        kinds = w.handles.kinds;
-        extras = w.handles.extras;
-        dependents = w.handles.dependents;
-        blocks = w.handles.blocks;
-      };
+      handles = has-handles m sound;
+      objects = w.names.registers number;
       weak = record { kinds = w.weak.kinds; apart = w.weak.apart; once = w.weak.once };
       caller = caller;
       valid = valid;
       offer = may;
       serial = within.serial;
       fresh = λ d fields fin is.
-          fresh m.numbers (with_places m.state empty) asked.caller w (within.serial d fields fin is);
+          fresh m.numbers (with_places m.state empty) number w (within.serial d fields fin is);
       count = within.count;
     }

@@ -1,5 +1,5 @@
 -- The state of a store is that of its heap and its table, and what keeps its pinned address is kept at it.
-use Rattle.hd_store.proofs.StoreWords.{AreAddresses, Cmd, Entry, FinMap, Id, IsFreePlace, IsOfHeap, IsOfTable, IsOverHeap, IsPinned, IsStored, IsStoredAt, KeepsPlaces, Machine, MatchOption, None, Numbers, Parts, Some, State, ap, cases_eq, cond, empty, false, get, get_beside, get_inserted, inl, inr, insert, is_collect, is_pinned, machine_of, names_of, nat_cmp, nothing_at, objects_by_id, pinned_decides, pinned_target, refl, rows_by_id, same_Some, subst, sym, true, true≢false, weak_by_id, with_places, ℕ, ◌∙◌, ◌≡◌, ◌⊎◌}
+use Rattle.hd_store.proofs.StoreWords.{AreAddresses, Cmd, Entry, FinMap, Id, IsFreePlace, IsOfHeap, IsOfTable, IsOverHeap, IsPinned, IsStored, IsStoredAt, KeepsPlaces, Machine, MatchOption, None, Numbers, Parts, Some, State, ap, cond, empty, false, get, get_inserted, inl, inr, insert, is_collect, is_pinned, machine_of, names_of, nat_cmp, nothing_at, objects_by_id, pinned_decides, pinned_target, refl, rows_by_id, same_Some, subst, sym, true, true≢false, weak_by_id, with_places, ℕ, ◌∙◌, ◌≡◌, ◌⊎◌, insert_cases}
 use Rattle.hd_model.proofs.Effects.{Effect, replies_place, collects, effect}
 use Rattle.hd_store.proofs.{IdentityReadings.names-get, EntryReadings.row-reads, AddressSteps.returns-address}
 use Rattle.hd_model.specs.declared.data.Reply.TheVariants as reply
@@ -46,26 +46,17 @@ module _ (n : Numbers) (s : State) (e : Entry) (x a : ℕ) where
   place_stays c t (collects did) is (inr pinned) =
       did.collects.places x ∙ ap (λ b. cond b (get s.places x) None) pinned ∙ is
   place_stays c t (replies_place slot handle id place found target may reply) is why =
-      elim (cases_eq x id.0) [
-        | inl same ↦ ap (get (insert s.places id.0 place)) same ∙ get_inserted s.places id.0 place ∙ ap Some
-            (subst (λ o. MatchOption o (IsFreePlace s id place) (λ own. place ≡ own))
-            (ap (get s.places) (sym same) ∙ is) may)
-        | inr apart ↦ get_beside s.places id.0 place x apart ∙ is
-      ]
+      insert_cases s.places id.0 (λ y o. get s.places y ≡ Some a → o ≡ Some a) place x
+      (λ was. ap Some (subst (λ o. MatchOption o (IsFreePlace s id place) (λ own. place ≡ own)) was may))
+      (λ _ was. was) is
   place_stays c t _ is why = is
 
 -- one pinned address, which is that of its object
 one_address : (names : FinMap nat_cmp Id) (x : Id) (a : ℕ) → get names a ≡ Some x
     → AreAddresses names (insert empty x.0 a)
-one_address names x a named y b is =
-    elim (cases_eq y x.0) [
-      | inl same ↦
-          ap (get names)
-          (sym (same_Some a b
-          (sym (get_inserted empty x.0 a) ∙ ap (get (insert empty x.0 a)) (sym same) ∙ is)))
-          ∙ named ∙ (λ i. Some (record { 0 = sym same i }))
-      | inr apart ↦ absurd (nothing_at y b (sym (get_beside empty x.0 a y apart) ∙ is))
-    ]
+one_address names x a named y b =
+    insert_cases empty x.0 (λ z o. o ≡ Some b → get names b ≡ Some (record { 0 = z })) a y
+    (λ is. ap (get names) (sym (same_Some a b is)) ∙ named) (λ _ is. absurd (nothing_at y b is))
 
 module _ (m k : Machine) (e : Entry) (keeps : KeepsPlaces m e k) (before : IsOverHeap m)
     (after : IsOverHeap k) (x : Id) (a : ℕ) where

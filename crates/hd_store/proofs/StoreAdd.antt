@@ -1,9 +1,9 @@
 -- One more object in a heap: the readings of all else stay.
-use Rattle.hd_store.proofs.StoreWords.{Addr, Contains, FinMap, Handle, HasIdentities, Heap, Id, IsField, IsSome, List, None, Option, Placed, Some, T, ap, cases_eq, entry_named, fields_in, get, get_beside, get_inserted, id_at, id_in, inl, inr, insert, is_object, is_some, map, names_of, nat_cmp, object_at, object_in, objects_by_id, option_map, read_object, refl, region_generation, region_of, rename_handle, rename_object, rows_by_id, secondary_of, subst, sym, true, weak_by_id, ℕ, ◌∙◌, ◌≡◌}
+use Rattle.hd_store.proofs.StoreWords.{Addr, Contains, FinMap, Handle, HasIdentities, Heap, Id, IsField, IsSome, List, None, Option, Placed, Some, T, ap, entry_named, fields_in, get, get_beside, get_inserted, id_at, id_in, insert, is_object, is_some, map, names_of, nat_cmp, object_at, object_in, objects_by_id, option_map, read_object, refl, region_generation, region_of, rename_handle, rename_object, rows_by_id, secondary_of, subst, sym, true, weak_by_id, ℕ, ◌∙◌, ◌≡◌, insert_cases}
 use Rattle.hd_store.proofs.{EntryMaps.same_numbers, NamedAddresses.has-placed, EntryReadings.weak-get}
 use Rattle.hd_store.proofs.NameAgreement.{object_agrees, handle_agrees}
 use Rattle.hd_model.proofs.SceneReadings.{list_agrees, names_agree, option_agrees}
-use Rattle.hd_store.proofs.IdentityReadings.{no_some, names-get, rows-get, put-here, put-beside, Puts, identities-put, objects-put}
+use Rattle.hd_store.proofs.IdentityReadings.{no_some, names-get, rows-get, put-beside, Puts, identities-put, objects-put}
 
 -- the heap k is h with one more object, whose identity none has
 pub record Adds (h k : Heap) (a : ℕ) (new : Placed) : Type 0 where
@@ -17,9 +17,6 @@ pub placed : (h : Heap) (x : Addr) → is_object (object_at h) x ≡ true → is
 placed h x e = sym (has-placed h x) ∙ e
 
 module _ (h k : Heap) (a : ℕ) (new : Placed) (r : Adds h k a new) where
-  at_it : get k.objects a ≡ Some new
-  at_it = put-here h k a new r.objects
-
   elsewhere : (b : ℕ) → (b ≡ a → ⊥) → get k.objects b ≡ get h.objects b
   elsewhere = put-beside h k a new r.objects
 
@@ -39,15 +36,11 @@ module _ (h k : Heap) (a : ℕ) (new : Placed) (r : Adds h k a new) where
 
   pub names-add : names_of k ≡ insert (names_of h) a new.id
   names-add =
-      same_numbers (names_of k) (insert (names_of h) a new.id) (λ b.
-      elim (cases_eq b a) [
-        | inl same ↦ names-get k b ∙ ap (λ c. option_map (λ (p : Placed). p.id) (get k.objects c)) same
-            ∙ ap (option_map (λ (p : Placed). p.id)) at_it
-            ∙ sym (get_inserted (names_of h) a new.id) ∙ ap (get (insert (names_of h) a new.id)) (sym same)
-        | inr apart ↦ names-get k b ∙ ap (option_map (λ (p : Placed). p.id)) (elsewhere b apart)
-            ∙ sym (names-get h b)
-            ∙ sym (get_beside (names_of h) a new.id b apart)
-      ])
+      same_numbers _ _ (λ b. names-get k b ∙ ap (λ m. option_map (λ (p : Placed). p.id) (get m b)) r.objects
+      ∙ insert_cases h.objects a
+      (λ j o. option_map (λ (p : Placed). p.id) o ≡ get (insert (names_of h) a new.id) j) new b
+      (sym (get_inserted (names_of h) a new.id))
+      (λ apart. sym (names-get h b) ∙ sym (get_beside (names_of h) a new.id b apart)))
 
   pub identities-add : HasIdentities h → HasIdentities k
   identities-add = identities-put h k a new puts

@@ -1,5 +1,5 @@
 -- A new object of a store: what the machine sees, and that the store keeps what it keeps.
-use Rattle.hd_store.proofs.StoreWords.{Addr, Bool, Contains, HasNoEmptyRegion, Heap, Id, IsField, IsMade, IsObjectRefused, IsStored, KeepsNames, List, Machine, None, not_there, Object, Option, Parts, Placed, Queue, Region, Some, T, age_of, ap, arith, callers_of, cases_eq, cells_of, cond, fields_in, fresh_object, generation_at, generation_in, get, get_beside, get_inserted, get_or, id_at, identity_of, inl, inr, insert, is_carded, is_in_use, is_object, is_some, last_serial, len, len-insert, length, length-replicate, length-set, machine_of, map, max, names_of, nat_cmp_total, new_object, object_at, object_in, objects_by_id, option_map, read_object, refl, region_at, region_generation, region_of, replicate, rest_of, rows_of, same_address, set, share, state_of, subst, suc, sum-insert, sum_by, sym, total_size, true, unheld, unwrap_or, used_of, values, with_object, with_serial, without_spare, zero, ℕ, ◌+◌, ◌<◌, ◌∙◌, ◌∷◌, ◌≡◌, ◌≤◌, ◌⊎◌}
+use Rattle.hd_store.proofs.StoreWords.{Addr, Bool, Contains, HasNoEmptyRegion, Heap, Id, IsField, IsMade, IsObjectRefused, IsStored, KeepsNames, List, Machine, None, not_there, Object, Option, Parts, Placed, Queue, Region, Some, T, age_of, ap, arith, callers_of, cases_eq, cells_of, cond, fields_in, fresh_object, generation_at, generation_in, get, get_beside, get_inserted, get_or, id_at, identity_of, inl, inr, insert, insert_cases, is_carded, is_in_use, is_object, is_some, last_serial, len, len-insert, length, length-replicate, length-set, machine_of, map, max, names_of, nat_cmp_total, new_object, object_at, object_in, objects_by_id, option_map, read_object, refl, region_at, region_generation, region_of, replicate, rest_of, rows_of, same_address, set, share, state_of, subst, suc, sum-insert, sum_by, sym, total_size, true, unheld, unwrap_or, used_of, values, with_object, with_serial, without_spare, zero, ℕ, ◌+◌, ◌<◌, ◌∙◌, ◌∷◌, ◌≡◌, ◌≤◌, ◌⊎◌, write_cases}
 use Rattle.hd_heap.specs.{Calls.IsRefused as IsRefusedBy, declared.fault.NewFault.NewFault, declared.fault.NewFault.TheVariants.Full, declared.fault.NewFault.TheVariants.Memory}
 use Rattle.std.proofs.Math.Nat.{le-max_left, le-max_right}
 use Rattle.hd_store.proofs.{StateCounts.used-is, NamedAddresses.has-placed, QueueTake.stored-queued, EntryReadings.unheld-some, EntryReadings.tied-agrees}
@@ -39,14 +39,9 @@ module _ (f : Parts) (k : Heap) (at : Addr) (id : Id) (count : ℕ) (fin : Bool)
   kept_generation : (b : Addr) → region_generation k (region_of b) ≡ region_generation f.heap (region_of b)
   kept_generation b =
       ap (λ (g : Heap). region_generation g (region_of b)) made.made
-      ∙ elim (cases_eq (region_of b) (region_of at)) [
-        | inl same ↦ ap (λ (o : Option Region). region_of_option o)
-            (ap (get (insert f.heap.regions (region_of at) put_region)) same
-            ∙ get_inserted f.heap.regions (region_of at) put_region)
-            ∙ sym made.young ∙ ap (region_generation f.heap) (sym same)
-        | inr apart ↦ ap (λ (o : Option Region). region_of_option o)
-            (get_beside f.heap.regions (region_of at) put_region (region_of b) apart)
-      ]
+      ∙ write_cases f.heap.regions (region_of at)
+      (λ o. region_of_option o ≡ region_generation f.heap (region_of b)) put_region (region_of b)
+      (λ same. sym made.young ∙ ap (region_generation f.heap) (sym same)) refl
     where
       put_region : Region
       put_region = record {
@@ -266,15 +261,13 @@ module _ (f : Parts) (m : Machine) (view : machine_of f ≡ m) (stored : IsStore
   -- the address of the new object had no identity
   pub names-next : KeepsNames m.names
       (insert m.names at.0 (identity_of caller (last_serial m.state caller + 1)))
-  names-next a x is =
-      elim (cases_eq a at.0) [
-        | inl same ↦ absurd
-            (no_some x (sym is ∙ ap (get m.names) same ∙ ap (λ (n : Machine). get n.names at.0) (sym view)
-            ∙ names-get f.heap at.0 ∙ ap (option_map (λ (p : Placed). p.id))
-            (adds f k at id count fin stored made free).vacant))
-        | inr apart ↦ get_beside m.names at.0 (identity_of caller (last_serial m.state caller + 1)) a apart
-            ∙ is
-      ]
+  names-next a x =
+      insert_cases m.names at.0 (λ j o. get m.names j ≡ Some x → o ≡ Some x)
+      (identity_of caller (last_serial m.state caller + 1)) a
+      (λ is. absurd (no_some x (sym is ∙ ap (λ (n : Machine). get n.names at.0) (sym view)
+      ∙ names-get f.heap at.0
+      ∙ ap (option_map (λ (p : Placed). p.id)) (adds f k at id count fin stored made free).vacant)))
+      (λ _ is. is)
 
   pub machine-next : machine_of (record f { heap = k; serials = set f.serials caller serial; queue = q })
       ≡ record m {

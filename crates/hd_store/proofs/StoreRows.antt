@@ -1,7 +1,8 @@
 -- Rows of a store that change: what the machine sees, and that the store keeps what it keeps.
-use Rattle.hd_store.proofs.StoreWords.{Addr, Back, BlockUse, Bool, Err, Extra, FinMap, Grown, Handle, HasUses, Heap, Id, IfOk, IfSome, IsGrowth, IsNamed, IsSome, IsStored, IsTied, Kind, List, Machine, MayBeStored, None, Ok, OnErr, One, Option, Parts, Result, Row, Slot, Some, T, Table, Two, WeakTable, Zero, age_of, ap, arith, attaches, block_of, blocks_needed, cases_eq, clump_of, cond, count, entry_named, eq_by_cmp, extra_data, extra_of, false, fits, generation_at, get, get-remove, get_beside, get_inserted, get_left, grown_by, handle_at, handle_named, handle_of, handles_of, id_at, inl, inr, insert, is_kind, is_none, is_object, is_paired, is_single, is_some, kind_at, kind_in, kind_in_use, length, length-set, live_at, lowered, lowered_below, machine_of, nat_cmp, nat_cmp_total, not, nothing, object_at, object_named, one_dependent, one_extra, option_map, refl, remove, rename_handle, role, role_of, rows_by_id, same_Some, secondary, secondary_of, share, state_of, strength, subst, sum-insert, sum-remove, sum_by, sym, true, true≢false, unheld, unwrap_or, use_of, values, with_growth, with_handle, with_row, without_block, without_handle, without_row, ℕ, ◌*◌, ◌+◌, ◌/◌, ◌∙◌, ◌≡◌, ◌≤◌}
+use Rattle.hd_store.proofs.StoreWords.{Addr, Back, BlockUse, Err, Extra, FinMap, Grown, Handle, HasUses, Heap, Id, IfOk, IfSome, IsGrowth, IsNamed, IsSome, IsStored, IsTied, Kind, List, Machine, MayBeStored, None, Ok, OnErr, One, Option, Parts, Result, Slot, Some, T, Table, Two, WeakTable, Zero, age_of, ap, arith, attaches, block_of, blocks_needed, clump_of, cond, count, entry_named, extra_data, false, fits, generation_at, get, get_beside, get_inserted, get_left, grown_by, handle_at, handles_of, id_at, insert, is_kind, is_none, is_object, is_paired, is_single, is_some, kind_at, kind_in, kind_in_use, length, length-set, live_at, lowered, lowered_below, machine_of, nat_cmp, not, nothing, object_at, object_named, one_dependent, one_extra, option_map, refl, remove, rename_handle, role, role_of, rows_by_id, same_Some, secondary, secondary_of, share, state_of, strength, subst, sum-insert, sum-remove, sum_by, sym, true, true≢false, unheld, unwrap_or, use_of, values, with_growth, with_handle, with_row, without_block, without_handle, without_row, ℕ, ◌*◌, ◌+◌, ◌/◌, ◌∙◌, ◌≡◌, ◌≤◌, name_in, seen_by, insert_cases, remove_cases, put_twice, get_removed}
 use Rattle.hd_seg.specs.declared.row.Full.{Full}
-use Rattle.hd_model.proofs.KindExtras.{fits_dependent}
+use Rattle.hd_model.proofs.{KindExtras.fits_dependent, MapEntries.none_from as no_use}
+use Rattle.hd_seg.proofs.FunctionMaps.{at_most_one}
 use Rattle.hd_store.proofs.EntryMaps.{same_numbers}
 use Rattle.hd_store.proofs.IdentityReadings.{no_some, is_some-map, rows-get, names-are}
 use Rattle.hd_store.proofs.NamedAddresses.{known_object, some_or, generation-is}
@@ -125,15 +126,9 @@ stored-lowered f slot g stored =
 -- with a row that may be stored in a slot, all may be stored where they are
 pub storable-put : (f : Parts) (slot : ℕ) (row : Handle Addr) → IsStored f → IsStorable f slot row
     → (s : ℕ) (r : Handle Addr) → get (insert f.table.rows slot row) s ≡ Some r → IsStorable f s r
-storable-put f slot row stored may s r is =
-    elim (cases_eq s slot) [
-      | inl same ↦
-          let it : row ≡ r = same_Some row r
-          (sym (get_inserted f.table.rows slot row) ∙ ap (get (insert f.table.rows slot row)) (sym same)
-          ∙ is) in
-          subst (IsStorable f s) it (subst (λ k. IsStorable f k row) (sym same) may)
-      | inr apart ↦ storable f stored s r (sym (get_beside f.table.rows slot row s apart) ∙ is)
-    ]
+storable-put f slot row stored may s r =
+    insert_cases f.table.rows slot (λ j o. o ≡ Some r → IsStorable f j r) row s
+    (λ is. subst (IsStorable f slot) (same_Some row r is) may) (λ apart is. storable f stored s r is)
 
 stored-put : (f : Parts) (slot : ℕ) (row : Handle Addr) → IsStored f → IsStorable f slot row
     → get f.weak.held slot ≡ None → IsStored (with_table f (with_row f.table slot row))
@@ -142,16 +137,12 @@ stored-put f slot row stored may free =
     (λ s key is. get_beside f.table.rows slot row s
     (λ same. no_some key (sym is ∙ ap (get f.weak.held) same ∙ free)))
 
-without_other : (b : Bool) (o : Option (Handle Addr)) (r : Handle Addr) → cond b None o ≡ Some r → o ≡ Some r
-without_other true o r is = absurd (no_some r (sym is))
-without_other false o r is = is
-
 pub stored-end : (f : Parts) (slot : ℕ) → IsStored f → get f.weak.held slot ≡ None
     → IsStored (with_table f (without_row f.table slot))
 stored-end f slot stored free =
-    stored-table f (without_row f.table slot) stored refl stored.uses (λ s r is.
-    storable f stored s r (without_other (eq_by_cmp nat_cmp s slot) (get f.table.rows s) r
-    (sym (get-remove nat_cmp_total f.table.rows slot s) ∙ is)))
+    stored-table f (without_row f.table slot) stored refl stored.uses
+    (λ s r. remove_cases f.table.rows slot (λ j o. o ≡ Some r → IsStorable f j r) s
+    (λ none. absurd (no_some r (sym none))) (λ apart is. storable f stored s r is))
     (λ s key is. get_left f.table.rows slot s
     (λ same. no_some key (sym is ∙ ap (get f.weak.held) same ∙ free)))
 
@@ -159,56 +150,42 @@ stored-end f slot stored free =
 pub rows-put : (h : Heap) (rows : FinMap nat_cmp (Handle Addr)) (slot : ℕ) (row : Handle Addr)
     → rows_by_id h (insert rows slot row) ≡ insert (rows_by_id h rows) slot (rename_handle (id_at h) row)
 rows-put h rows slot row =
-    same_numbers (rows_by_id h (insert rows slot row))
-    (insert (rows_by_id h rows) slot (rename_handle (id_at h) row)) (λ s.
-    rows-get h (insert rows slot row) s
-    ∙ elim (cases_eq s slot) [
-      | inl same ↦ ap (λ k. option_map (rename_handle (id_at h)) (get (insert rows slot row) k)) same
-          ∙ ap (option_map (rename_handle (id_at h))) (get_inserted rows slot row)
-          ∙ sym (get_inserted (rows_by_id h rows) slot (rename_handle (id_at h) row))
-          ∙ ap (get (insert (rows_by_id h rows) slot (rename_handle (id_at h) row))) (sym same)
-      | inr apart ↦ ap (option_map (rename_handle (id_at h))) (get_beside rows slot row s apart)
-          ∙ sym (rows-get h rows s)
-          ∙ sym (get_beside (rows_by_id h rows) slot (rename_handle (id_at h) row) s apart)
-    ])
-
-none_mapped : (g : Handle Addr → Handle Id) (b : Bool) (o : Option (Handle Addr))
-    → option_map g (cond b None o) ≡ cond b None (option_map g o)
-none_mapped g true o = refl
-none_mapped g false o = refl
+    let after = insert (rows_by_id h rows) slot (rename_handle (id_at h) row) in
+    same_numbers _ _ (λ s. rows-get h (insert rows slot row) s
+    ∙ insert_cases rows slot (λ j o. option_map (rename_handle (id_at h)) o ≡ get after j) row s
+    (sym (get_inserted (rows_by_id h rows) slot _))
+    (λ apart. sym (rows-get h rows s) ∙ sym (get_beside (rows_by_id h rows) slot _ s apart)))
 
 pub rows-end : (h : Heap) (rows : FinMap nat_cmp (Handle Addr)) (slot : ℕ)
     → rows_by_id h (remove rows slot) ≡ remove (rows_by_id h rows) slot
 rows-end h rows slot =
-    same_numbers (rows_by_id h (remove rows slot)) (remove (rows_by_id h rows) slot) (λ s.
-    rows-get h (remove rows slot) s ∙ ap (option_map (rename_handle (id_at h)))
-    (get-remove nat_cmp_total rows slot s)
-    ∙ none_mapped (rename_handle (id_at h)) (eq_by_cmp nat_cmp s slot) (get rows s)
-    ∙ ap (cond (eq_by_cmp nat_cmp s slot) None) (sym (rows-get h rows s))
-    ∙ sym (get-remove nat_cmp_total (rows_by_id h rows) slot s))
+    same_numbers _ _ (λ s. rows-get h (remove rows slot) s
+    ∙ remove_cases rows slot
+    (λ j o. option_map (rename_handle (id_at h)) o ≡ get (remove (rows_by_id h rows) slot) j) s
+    (sym (get_removed (rows_by_id h rows) slot))
+    (λ apart. sym (rows-get h rows s) ∙ sym (get_left (rows_by_id h rows) slot s apart)))
 
 module _ (f : Parts) (m : Machine) (view : machine_of f ≡ m) where
-  machine-put : (slot : Slot) (kind : Kind) (row : Row) → get f.weak.held slot.0 ≡ None
-      → machine_of (with_table f (with_row f.table slot.0 (handle_of kind row)))
+  machine-put : (slot : Slot) (row : Handle Addr) → get f.weak.held slot.0 ≡ None
+      → machine_of (with_table f (with_row f.table slot.0 row))
       ≡ record m {
-        state = with_handle m.state slot (handle_named m kind row);
-        table = with_row f.table slot.0 (handle_of kind row);
+        state = with_handle m.state slot (rename_handle (name_in m.names) row);
+        table = with_row f.table slot.0 row;
       }
-  machine-put slot kind row free =
+  machine-put slot row free =
       (λ i. record (machine_of f) {
         state = record (state_of f) {
-          handles = (ap (rows_by_id f.heap)
-              (unheld-put f.table.rows f.weak.held slot.0 (handle_of kind row) free)
-              ∙ rows-put f.heap (unheld f.table.rows f.weak.held) slot.0 (handle_of kind row)
+          handles = (ap (rows_by_id f.heap) (unheld-put f.table.rows f.weak.held slot.0 row free)
+              ∙ rows-put f.heap (unheld f.table.rows f.weak.held) slot.0 row
               ∙ ap (λ g. insert (rows_by_id f.heap (unheld f.table.rows f.weak.held)) slot.0
-              (rename_handle g (handle_of kind row))) (sym (names-are f.heap))) i;
-          weak = weak-put f.heap f.table.rows f.weak.held slot.0 (handle_of kind row) free i;
+              (rename_handle g row)) (sym (names-are f.heap))) i;
+          weak = weak-put f.heap f.table.rows f.weak.held slot.0 row free i;
         };
-        table = with_row f.table slot.0 (handle_of kind row);
+        table = with_row f.table slot.0 row;
       })
       ∙ ap (λ (n : Machine). record n {
-        state = with_handle n.state slot (handle_named n kind row);
-        table = with_row f.table slot.0 (handle_of kind row);
+        state = with_handle n.state slot (rename_handle (name_in n.names) row);
+        table = with_row f.table slot.0 row;
       }) view
 
   pub machine-end : (slot : Slot) → get f.weak.held slot.0 ≡ None → machine_of
@@ -258,29 +235,30 @@ module _ (f : Parts) (m : Machine) (view : machine_of f ≡ m) (stored : IsStore
   object o x named is = known_object f.heap x
       (subst (λ (n : Machine). IsSome (get n.names x.0)) (sym view) (is_there o x named is))
 
-  may-store : (slot : Slot) (kind : Kind) (row : Row) → MayBeStored m slot kind row
-      → IsStorable f slot.0 (handle_of kind row)
-  may-store slot kind row may = record {
+  may-store : (slot : Slot) (row : Handle Addr) → MayBeStored (seen_by m) slot row
+      → IsStorable f slot.0 row
+  may-store slot row may = record {
     target = λ x is. object row.target x may.target is;
-    second = λ x is. object (secondary_of (extra_of row.extra)) x may.secondary is;
+    second = λ x is. object (secondary_of row.extra) x may.secondary is;
     paired = may.paired;
-    attaching = λ x is. attaching kind (extra_of row.extra) x may.fits is;
+    attaching = λ x is. attaching row.kind row.extra x may.fits is;
     target_age = λ x is. aged slot.0 row.target x may.target may.target_age is;
-    second_age = λ x is. aged slot.0 (secondary_of (extra_of row.extra)) x may.secondary may.secondary_age is;
+    second_age = λ x is. aged slot.0 (secondary_of row.extra) x may.secondary may.secondary_age is;
   }
 
 -- a table with that row
 pub row-put : (f : Parts) (m : Machine) → machine_of f ≡ m → IsStored f
-    → (slot : Slot) (kind : Kind) (row : Row)
-    → get f.weak.held slot.0 ≡ None → MayBeStored m slot kind row → (t : Table)
-    → t ≡ with_row f.table slot.0 (handle_of kind row)
+    → (slot : Slot) (row : Handle Addr)
+    → get f.weak.held slot.0 ≡ None → MayBeStored (seen_by m) slot row → (t : Table)
+    → t ≡ with_row f.table slot.0 row
     → IsStored (with_table f t) × (machine_of (with_table f t)
-    ≡ record m { state = with_handle m.state slot (handle_named m kind row); table = t })
-row-put f m view stored slot kind row free may t is =
+    ≡ record m { state = with_handle m.state slot (rename_handle (name_in m.names) row); table = t })
+row-put f m view stored slot row free may t is =
     subst (λ u. IsStored (with_table f u) × (machine_of (with_table f u)
-    ≡ record m { state = with_handle m.state slot (handle_named m kind row); table = u })) (sym is) (
-      stored-put f slot.0 (handle_of kind row) stored (may-store f m view stored slot kind row may) free,
-      machine-put f m view slot kind row free,
+    ≡ record m { state = with_handle m.state slot (rename_handle (name_in m.names) row); table = u }))
+    (sym is) (
+      stored-put f slot.0 row stored (may-store f m view stored slot row may) free,
+      machine-put f m view slot row free,
     )
 
 -- a live slot has a row
@@ -365,21 +343,14 @@ stored-same f t stored rows blocks uses = stored-table f t stored blocks uses
 within_insert : {A : Type 0} (m : FinMap nat_cmp A) (k most : ℕ) (v : A) → (1 ≤ k) × (k ≤ most)
     → ((b : ℕ) → IsSome (get m b) → (1 ≤ b) × (b ≤ most)) → (b : ℕ) → IsSome (get (insert m k v) b)
     → (1 ≤ b) × (b ≤ most)
-within_insert m k most v new old b is =
-    elim (cases_eq b k) [
-      | inl same ↦ subst (λ j. (1 ≤ j) × (j ≤ most)) (sym same) new
-      | inr apart ↦ old b (sym (ap is_some (get_beside m k v b apart)) ∙ is)
-    ]
+within_insert m k most v new old b =
+    insert_cases m k (λ j o. IsSome o → (1 ≤ j) × (j ≤ most)) v b (λ is. new) (λ apart. old b)
 
 -- a block without a use gets one
 use_added : (w : BlockUse → ℕ) (m : FinMap nat_cmp BlockUse) (b : ℕ) (u : BlockUse) → get m b ≡ None
     → sum_by w (values (insert m b u)) ≡ sum_by w (values m) + w u
 use_added w m b u none =
     omega (arith, sum-insert w m b u, ap (share w) none)
-
-at_most_one : (b : Bool) → cond b 1 0 ≤ 1
-at_most_one true = omega arith
-at_most_one false = omega arith
 
 none_dependent : (k : Kind) → blocks_needed k ≡ 1 → one_dependent (handles_of k) ≡ 0
 none_dependent kind.Short one = refl
@@ -454,12 +425,9 @@ machine-grown f m view t k (Err e) grows after = tt
 -- a block that has lost its kind
 back_within : (m : FinMap nat_cmp BlockUse) (k most : ℕ) → ((b : ℕ) → IsSome (get m b) → (1 ≤ b) × (b ≤ most))
     → (b : ℕ) → IsSome (get (remove m k) b) → (1 ≤ b) × (b ≤ most)
-back_within m k most old b is =
-    old b (left (eq_by_cmp nat_cmp b k) (get m b) (sym (ap is_some (get-remove nat_cmp_total m k b)) ∙ is))
-  where
-    left : (c : Bool) (o : Option BlockUse) → IsSome (cond c None o) → IsSome o
-    left true o e = absurd (subst T (sym e) tt)
-    left false o e = e
+back_within m k most old b =
+    remove_cases m k (λ j o. IsSome o → (1 ≤ j) × (j ≤ most)) b (λ is. absurd (subst T (sym is) tt))
+    (λ apart. old b)
 
 no_extra : (o : Option BlockUse) → is_single o ≡ true → share one_extra o ≡ 0
 no_extra None single = refl
@@ -478,11 +446,7 @@ stored-back f t k block stored single is =
           omega (arith, stored.uses.extras, known, also, sum-remove one_extra f.table.uses block));
     }))
 
--- what a use is of: a block that is none of the table's has none
-no_use : (o : Option BlockUse) → (IsSome o → ⊥) → o ≡ None
-no_use None out = refl
-no_use (Some u) out = absurd (out refl)
-
+-- a block that is none of the table's has no use
 pub kind-outside : (f : Parts) (m : Machine) → machine_of f ≡ m → IsStored f → (block : ℕ)
     → ((1 ≤ block) × (block ≤ f.table.blocks) → ⊥) → None ≡ kind_in_use (use_of m.state block)
 kind-outside f m view stored block out =
@@ -501,16 +465,7 @@ block-single f m view k block single is =
 -- a row is put twice into one slot
 pub put_again : (t : Table) (slot : ℕ) (a b : Handle Addr)
     → with_row (with_row t slot a) slot b ≡ with_row t slot b
-put_again t slot a b =
-    ap (λ rows. record t { rows = rows })
-    (same_numbers (insert (insert t.rows slot a) slot b) (insert t.rows slot b) (λ s.
-    elim (cases_eq s slot) [
-      | inl same ↦ ap (get (insert (insert t.rows slot a) slot b)) same
-          ∙ get_inserted (insert t.rows slot a) slot b ∙ sym (get_inserted t.rows slot b)
-          ∙ ap (get (insert t.rows slot b)) (sym same)
-      | inr apart ↦ get_beside (insert t.rows slot a) slot b s apart ∙ get_beside t.rows slot a s apart
-          ∙ sym (get_beside t.rows slot b s apart)
-    ]))
+put_again t slot a b = ap (λ rows. record t { rows = rows }) (put_twice t.rows slot a b)
 
 pub live-is : (t : Table) (slot : ℕ) → IsSome (get t.rows slot) → get t.rows slot ≡ Some (live_at t slot)
 live-is t slot live = some_or (get t.rows slot)

@@ -17,7 +17,7 @@ pub use Rattle.std.specs.Ordering.{eq_by_cmp, is_lt, nat_cmp}
 pub use Rattle.std.specs.Prelude.{AllPairs, Contains, IfSome, IsNone, IsSome, MatchOption, MatchResult, OnErr, filter, if◌then◌else◌, is_none, is_some, max, option_and_then, option_map, slice_index, sum_by, unwrap_or, ◌%◌, ◌↔◌}
 pub use Rattle.hd_cwt.specs.WeakTable.{HasKey, IsIdle, IsLeastIdle, IsWeakTable, LooksAt, WeakTable, bucket_of, entries_in, is_in_bucket, kept_key}
 pub use Rattle.hd_gc.specs.Collected.{Collected}
-pub use Rattle.hd_heap.proofs.HeapValues.{not_there, same_address}
+pub use Rattle.hd_heap.proofs.HeapValues.{not_there, put_twice, same_address}
 pub use Rattle.hd_heap.specs.Calls.{IsMade, empty_heap, is_younger, new_object, with_field}
 pub use Rattle.hd_model.proofs.AgedRuns.{nothing_at}
 pub use Rattle.hd_model.proofs.Ages.{lowered_below, lowered_here}
@@ -26,7 +26,7 @@ pub use Rattle.hd_model.proofs.KindTests.{made_secondary, same_kind}
 pub use Rattle.hd_model.proofs.Members.{first_in, later_in, mapped_in, member_cases, not_in_none, pairs_passing, passing_from, passing_in}
 pub use Rattle.hd_model.proofs.PinTest.{pinned_decides}
 pub use Rattle.hd_model.proofs.PropertyCounts.{counts_named, fewer}
-pub use Rattle.hd_model.proofs.ReadAfterWrite.{get_beside, get_inserted, get_left}
+pub use Rattle.hd_model.proofs.ReadAfterWrite.{get_beside, get_inserted, get_left, get_removed, insert_cases, remove_cases, write_cases}
 pub use Rattle.hd_model.proofs.RenamedPins.{pins_renamed, role_renamed}
 pub use Rattle.hd_model.proofs.Sums.{first_alone, share, sum-insert, sum-remove}
 pub use Rattle.hd_model.proofs.WeakSlots.{idle_found, key_found, key_none, where_least, where_none}
@@ -66,22 +66,23 @@ pub use Rattle.hd_model.specs.declared.data.RootId.{RootId}
 pub use Rattle.hd_model.specs.declared.data.Slot.{Slot}
 pub use Rattle.hd_plan.specs.Plan.{HasNoEmptyRegion}
 pub use Rattle.hd_scan.specs.declared.gathering.Root.{Root}
-pub use Rattle.hd_seg.specs.Row.{extra_from, extra_of, handle_of}
+pub use Rattle.hd_seg.specs.Row.{extra_from, handle_of}
 pub use Rattle.hd_seg.specs.declared.row.Row.{Row}
-pub use Rattle.hd_store.specs.Commands.{HasRun, IsPlainStep, MayRun, done_of, entry_of, live_in, pinned_in}
+pub use Rattle.hd_commands.specs.Done.{done_of, entry_by}
+pub use Rattle.hd_commands.specs.Handles.{MayBeStored, extra_of, pinned_in}
+pub use Rattle.hd_store.specs.Commands.{HasRun, IsPlainStep, MayRun}
 pub use Rattle.hd_store.specs.Entries.{MayHaveEntry, entry_at}
 pub use Rattle.hd_store.specs.Growth.{GrowsBy, kind_in_use}
-pub use Rattle.hd_store.specs.Handles.{MayBeStored, handle_named}
 pub use Rattle.hd_store.specs.Listing.{root_named}
-pub use Rattle.hd_store.specs.Making.{IsMadeRow, IsPlace}
+pub use Rattle.hd_store.specs.Making.{IsMadeHandle, IsPlace}
 pub use Rattle.hd_store.specs.Objects.{IsObjectRefused, object_named}
 pub use Rattle.hd_store.specs.Offers.{Asks, GrowsFor, GrowsUnoffered, HasLimits, IsOffer, MayOffer, asks_of, block_back, handle_slot, no_room, object_room}
 pub use Rattle.hd_store.specs.Places.{AreAddresses, HasCollected, HasNames, HasPlace, KeepsNames, KeepsPlaces, Moves, kept_places}
 pub use Rattle.hd_store.specs.Reading.{IsNamed, entry_named, name_in, named_in, read_object, unheld}
 pub use Rattle.hd_store.specs.StateHeap.{IsCompactStore, IsOfHeap, IsOfTable, IsStoredAt, LeavesHeap}
-pub use Rattle.hd_store.specs.Store.{IsOverHeap, Machine, machine_of, without_spare}
+pub use Rattle.hd_store.specs.Store.{IsOverHeap, Machine, machine_of, seen_by, without_spare}
 pub use Rattle.hd_store.specs.StoreParts.{parts}
 pub use Rattle.hd_store.specs.Stored.{HasUses, IsStored, IsTied, Parts, callers_of, numbers_of, one_dependent, one_extra, scene_of_parts, state_of}
 pub use Rattle.hd_store.specs.Visited.{CollectedSteps, SearchSteps, TakesSteps, blocks_of, due_in, entries_beside, has_kind, key_register, looked_up, steps_by}
-pub use Rattle.hd_store.specs.declared.done.Done.{Done}
+pub use Rattle.hd_commands.specs.declared.done.Done.{Done}
 pub use Rattle.hd_store.specs.declared.contents.Contents.TheInside.{Inside}

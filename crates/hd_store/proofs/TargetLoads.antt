@@ -1,24 +1,15 @@
 -- A load of the target of a live handle is what an `hget` does by a handle register that has its slot.
-use Rattle.hd_store.proofs.StoreWords.{[], HasRun, Id, cond, empty, with_places, IsOverHeap, IsPlainStep, List, Machine, MayRun, None, Option, Some, Slot, ap, arith, get_or, get_or-set_same, handle_at, inl, length, option_map, refl, set, subst, sym, ℕ, ◌<◌, ◌∙◌, ◌≡◌}
+use Rattle.hd_store.proofs.StoreWords.{HasRun, Id, cond, empty, with_places, IsOverHeap, IsPlainStep, List, Machine, MayRun, None, Option, Some, Slot, ap, arith, handle_at, inl, option_map, refl, subst, sym, ℕ, ◌<◌, ◌∙◌, ◌≡◌}
 use Rattle.hd_model.specs.declared.command.Cmd.TheVariants as cmd
 use Rattle.hd_model.specs.declared.limits.TheConstants.{REGISTERS}
 use Rattle.hd_model.specs.declared.data.Refusal.TheVariants as refusal
 use Rattle.hd_model.specs.Command.{Outcome, get_target, loaded, refuses, reply_with}
 use Rattle.hd_model.specs.{Aging.is_refused, Step.IsOutcome, WellFormed.Names}
 use Rattle.std.specs.Option.{option_map_or}
-use Rattle.hd_model.proofs.WellFormedWrites.{register_keeps}
+use Rattle.hd_model.proofs.{ReadAfterWrite.cell_here, WellFormedWrites.register_keeps}
 use Rattle.hd_model.specs.State.{Handle, handle_register_of, with_register}
-use Rattle.hd_store.specs.declared.done.CallerCommand.{CallerCommand}
 use Rattle.hd_store.specs.Calls.{HasCalled, IsSound, load_entry, pointed}
 use Rattle.hd_store.proofs.{AddressSteps.plain-kept, SoundCalls.may-run, SoundCalls.sound-pointed, SoundCalls.unplaced, StateHeap.keeps-address, StateHeap.keeps-pinned, StateHeap.returns-stored}
-
--- a register of a row that is long enough has what was put there
-has_put : (rows : List (List (Option Slot))) (c : ℕ) (v : Option Slot) → c < length rows
-    → 0 < length (get_or rows c [])
-    → get_or (get_or (set rows c (set (get_or rows c []) 0 v)) c []) 0 None ≡ v
-has_put rows c v low long =
-    ap (λ row. get_or row 0 None) (get_or-set_same rows c (set (get_or rows c []) 0 v) [] low)
-    ∙ get_or-set_same (get_or rows c []) 0 v None long
 
 -- a slot in a handle register makes no difference to the heap and the table
 over-pointed : (m : Machine) (caller : ℕ) (slot : Option Slot) → IsOverHeap m
@@ -57,13 +48,10 @@ module _ (m : Machine) (caller d : ℕ) (slot : Slot) (target : Option Id) (soun
   abbrev after : Machine
   after = pointed (record m { state = with_register m.state caller d target }) caller (Some slot)
 
-  abbrev asked : CallerCommand
-  asked = record { caller = caller; cmd = cmd.HGet d 0 }
-
   named : handle_register_of asking.state caller 0 ≡ Some slot
   named =
       let shape = sound.well_formed.shape in
-      has_put m.state.handle_registers caller (Some slot) (omega (arith, known, shape.handle_registers))
+      cell_here m.state.handle_registers caller 0 (Some slot) None (omega (arith, known, shape.handle_registers))
       (omega (arith, shape.each_handle_registers caller known))
 
   -- the handle with that target
@@ -90,17 +78,17 @@ module _ (m : Machine) (caller d : ℕ) (slot : Slot) (target : Option Id) (soun
       act : Slot → Handle Id → Outcome
       act at h = reply_with (loaded h.target) (with_register asking.state caller d h.target)
 
-  may : MayRun asking asked None
+  may : MayRun asking caller (cmd.HGet d 0) None
   may =
-      may-run asking asked None (sound-pointed m caller 0 (Some slot) sound known) known (low, omega arith) tt
-      (record { serial = λ x fields fin same. absurd (cc same); count = λ h same. absurd (cc same) })
+      may-run asking caller (cmd.HGet d 0) None (sound-pointed m caller 0 (Some slot) sound known) known
+      (low, omega arith) tt (record { serial = λ x fields fin same. absurd (cc same); count = λ h same. absurd (cc same) })
 
   -- a load leaves the ages
   unaged : (t : Option Id) (ages : List ℕ) → ages ≡ cond (is_refused (loaded t)) ages ages
   unaged None ages = refl
   unaged (Some x) ages = refl
 
-  ran : HasRun asking asked None (load_entry caller d target)
+  ran : HasRun asking caller (cmd.HGet d 0) None (load_entry caller d target)
       (IsPlainStep asking (cmd.HGet d 0) after (load_entry caller d target))
   ran = record {
     caller = refl;
@@ -120,7 +108,7 @@ module _ (m : Machine) (caller d : ℕ) (slot : Slot) (target : Option Id) (soun
   pub called : HasCalled asking caller (cmd.HGet d 0) None after (load_entry caller d target)
   called =
       let e = load_entry caller d target in
-      let kept = plain-kept asking after asked None may e ran in
+      let kept = plain-kept asking after caller (cmd.HGet d 0) None may e ran in
       let before = over-pointed m caller (Some slot) over in
       let now = over-pointed (record m { state = with_register m.state caller d target }) caller (Some slot)
       (over-loaded m caller d target over) in

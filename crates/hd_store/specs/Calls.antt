@@ -4,7 +4,8 @@ use Rattle.std.specs.{Option.ForSome, FinMap.empty}
 use Rattle.hd_model.specs.{declared.data.Entry.Entry, declared.data.Id.Id, declared.data.Slot.Slot, declared.data.Grown.TheVariants.Zero, declared.command.Cmd.Cmd, Command.loaded, Places.with_places, Valid.IsValid, WellFormed.IsWellFormed}
 use Rattle.hd_model.specs.declared.command.Cmd.TheVariants as cmd
 use Rattle.hd_model.specs.State.{State, last_serial, with_handle_register}
-use Rattle.hd_store.specs.{Counts.MayCountUp, Places.KeepsPlaces, StateHeap.KeepsStored, Store.Machine}
+use Rattle.hd_commands.specs.Counts.{MayCountUp}
+use Rattle.hd_store.specs.{Places.KeepsPlaces, StateHeap.KeepsStored, Store.Machine}
 use Rattle.hd_store.specs.Offers.{HasLimits, IsOffer, GrowsUnoffered, Takes}
 
 -- what is so of every store: its numbers are within the limits, and its state is well formed

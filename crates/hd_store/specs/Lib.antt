@@ -6,7 +6,6 @@ pub mod Growth
 pub mod Reading
 pub mod Store
 pub mod Places
-pub mod Counts
 pub mod Calls
 pub mod Info
 -- What the contents of a store say of their calls.
@@ -14,7 +13,6 @@ pub mod Rows
 pub mod Stored
 pub mod StoreParts
 pub mod Objects
-pub mod Handles
 pub mod Entries
 pub mod Commands
 pub mod Making

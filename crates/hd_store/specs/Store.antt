@@ -3,7 +3,8 @@ use Rattle.std.specs.Prelude.{[], ◌≡◌, ℕ, List, refl}
 use Rattle.std.specs.Coded.{Coded, code_by, coded×, coded_ℕ, coded_list}
 use Rattle.std.specs.{FinMap.FinMap, Ordering.nat_cmp}
 use Rattle.std.specs.FinMap as map
-use Rattle.hd_model.specs.{declared.data.Id.Id, State.Numbers, State.State, Heap.Heap, Table.Table}
+use Rattle.hd_model.specs.{declared.data.Id.Id, declared.data.Addr.Addr, State.Numbers, State.State, Heap.Heap, Table.Table}
+use Rattle.hd_commands.specs.Seen.{Seen}
 use Rattle.hd_model.specs.Code.{numbers_code, state_code, id_code, heap_code, table_code}
 use Rattle.hd_store.specs.Stored.{Parts, numbers_of, state_of}
 use Rattle.hd_store.specs.{Reading.names_of, StateHeap.IsOfHeap, StateHeap.IsOfTable}
@@ -47,6 +48,16 @@ machine_code =
       table = p.1.1.1.1.1;
     })
     (λ _. refl)
+
+-- what commands see of a store: objects are referenced by address, and no address gets another identity
+abbrev pub seen_by : Machine → Seen Addr (FinMap nat_cmp Id)
+seen_by m = record {
+  numbers = m.numbers;
+  state = m.state;
+  ages = m.ages;
+  names = λ a. map.get m.names a.0;
+  rest = m.names;
+}
 
 -- the state of a store is that of its heap and of its table, and its names are the identities there
 pub record IsOverHeap (m : Machine) : Type 0 where

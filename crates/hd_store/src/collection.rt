@@ -3,10 +3,11 @@ ghost use Rattle.std.specs.Prelude.{◌≡◌, ℕ, ◌<◌, ◌≤◌, MatchRes
 ghost use Rattle.std.specs.FinMap.{get};
 ghost use Rattle.hd_cwt.specs.WeakTable.{kept_key};
 ghost use Rattle.hd_model.specs.declared.command.Cmd.TheVariants as cmds;
-ghost use Rattle.hd_store.specs.{declared.done.CallerCommand.CallerCommand, Commands.entry_of, Places.HasCollected, Places.KeepsPlaces, Visited.CollectedSteps, Visited.TakesSteps};
+ghost use Rattle.hd_commands.specs.Done.{entry_by};
+ghost use Rattle.hd_store.specs.{Places.HasCollected, Places.KeepsPlaces, Visited.CollectedSteps, Visited.TakesSteps};
 
 use crate::contents::Contents;
-use crate::done::Done;
+use hd_commands::Done;
 use hd_cwt::Cwt;
 use hd_gc::collect;
 use hd_model::limits::OLDEST;
@@ -68,10 +69,9 @@ pub(crate) fn collect_up_to<L: Ledger>(
 ) -> Result<Done, Memory>
     requires caller { caller < store.old.numbers.callers }
     requires generation { n ≤ OLDEST }
-    ensures { let asked : CallerCommand = record { caller = caller; cmd = cmds.Collect n } in
-        MatchResult result
-        (λ done. KeepsPlaces store.old (entry_of asked done) store.new
-        × TakesSteps store.old.state store.old.ages (entry_of asked done) steps.old steps.new)
+    ensures { let c = cmds.Collect n in MatchResult result
+        (λ done. KeepsPlaces store.old (entry_by caller c done) store.new
+        × TakesSteps store.old.state store.old.ages (entry_by caller c done) steps.old steps.new)
         (λ _. (store.new ≡ store.old) × (steps.new ≡ steps.old)) }
 {
     let report = store.collect(n, steps)?;

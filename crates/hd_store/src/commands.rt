@@ -1,12 +1,13 @@
 // One command of a caller, as a step of the machine.
 ghost use Rattle.std.specs.Prelude.{◌≡◌, false, None, MatchResult};
 ghost use Rattle.hd_model.specs.{Class.class_of, Touched.touched_by};
-ghost use Rattle.hd_store.specs.Commands.{MayRun, HasRun, IsPlainStep, done_of, entry_of};
+ghost use Rattle.hd_commands.specs.Done.{done_of, entry_by};
+ghost use Rattle.hd_store.specs.Commands.{MayRun, HasRun, IsPlainStep};
 ghost use Rattle.hd_store.specs.{Places.KeepsPlaces, Visited.key_register, Visited.TakesSteps, Offers.RanOut};
 
 use crate::contents::Contents;
-use crate::done::{CallerCommand, Done};
-use crate::{collection, making, on_entries, on_handles, on_objects, places, rooting};
+use crate::{collection, making, on_entries, places, rooting};
+use hd_commands::{Done, entry_of, on_handles, on_objects};
 use hd_model::{Cmd, Entry, Memory, Refusal, Slot, Steps};
 use std::sync::ledger::Ledger;
 
@@ -15,22 +16,22 @@ use std::sync::ledger::Ledger;
 // taken. Without one a new handle makes the table grow, or finds it full.
 fn carry_out(
     store: &mut Contents,
-    asked: CallerCommand,
+    caller: u32,
+    cmd: Cmd,
     offer: Option<Slot>,
 ) -> Result<Result<Done, Refusal>, Memory>
-    requires may { MayRun store.old asked offer }
-    requires plain { (touched_by asked.cmd).places ≡ false }
-    requires no_key { key_register (class_of asked.cmd) ≡ None }
+    requires may { MayRun store.old caller cmd offer }
+    requires plain { (touched_by cmd).places ≡ false }
+    requires no_key { key_register (class_of cmd) ≡ None }
     ensures done { let m = store.old in let k = store.new in
-        MatchResult result (λ done. let e = entry_of asked (done_of done) in
-        HasRun m asked offer e (IsPlainStep m asked.cmd k e))
-        (λ _. RanOut m.numbers m.state asked.cmd m k) }
+        MatchResult result (λ done. let e = entry_by caller cmd (done_of done) in
+        HasRun m caller cmd offer e (IsPlainStep m cmd k e))
+        (λ _. RanOut m.numbers m.state cmd m k) }
     // What was required, for the proof of the call.
-    ensures no_key { key_register (class_of asked.cmd) ≡ None }
+    ensures no_key { key_register (class_of cmd) ≡ None }
 {
-    let caller = asked.caller;
-    match asked.cmd {
-        Cmd::New { d, fields, fin } => on_objects::new_object(store, caller, d, fields, fin),
+    match cmd {
+        Cmd::New { d, fields, fin } => making::new_object(store, caller, d, fields, fin),
         Cmd::Set { o, i, v } => Ok(on_objects::set_field(store, caller, o, i, v)),
         Cmd::Get { d, o, i } => Ok(on_objects::get_field(store, caller, d, o, i)),
         Cmd::Val { o, n } => Ok(on_objects::set_value(store, caller, o, n)),
@@ -69,33 +70,36 @@ fn carry_out(
 /// is a step of the machine to others that are.
 pub(crate) fn run<L: Ledger>(
     store: &mut Contents,
-    asked: CallerCommand,
+    caller: u32,
+    cmd: Cmd,
     offer: Option<Slot>,
     steps: &mut Steps<L>,
 ) -> Result<Entry, Memory>
-    requires { MayRun store.old asked offer }
+    requires { MayRun store.old caller cmd offer }
     ensures { let m = store.old in let k = store.new in
-        MatchResult result (λ e. HasRun m asked offer e (KeepsPlaces m e k)
+        MatchResult result (λ e. HasRun m caller cmd offer e (KeepsPlaces m e k)
         × TakesSteps m.state m.ages e steps.old steps.new)
-        (λ _. RanOut m.numbers m.state asked.cmd m k × (steps.new ≡ steps.old)) }
+        (λ _. RanOut m.numbers m.state cmd m k × (steps.new ≡ steps.old)) }
 {
-    if let Cmd::Collect { n } = asked.cmd {
-        let done = collection::collect_up_to(store, asked.caller, n, steps)?;
-        return Ok(asked.entry(Ok(done)));
+    if let Cmd::Collect { n } = cmd {
+        let done = collection::collect_up_to(store, caller, n, steps)?;
+        return Ok(entry_of(caller, cmd, Ok(done)));
     }
-    if let Cmd::AddrOf { s } = asked.cmd {
-        return Ok(asked.entry(places::reply_place(store, asked.caller, s)));
+    if let Cmd::AddrOf { s } = cmd {
+        return Ok(entry_of(caller, cmd, places::reply_place(store, caller, s)));
     }
-    if let Cmd::CAdd { k, v } = asked.cmd {
-        let done = on_entries::add_entry(store, asked.caller, k, v, offer, steps);
-        return Ok(asked.entry(done));
+    if let Cmd::CAdd { k, v } = cmd {
+        let done = on_entries::add_entry(store, caller, k, v, offer, steps);
+        return Ok(entry_of(caller, cmd, done));
     }
-    if let Cmd::CFind { d, k } = asked.cmd {
-        return Ok(asked.entry(on_entries::find_entry(store, asked.caller, d, k, steps)));
+    if let Cmd::CFind { d, k } = cmd {
+        let done = on_entries::find_entry(store, caller, d, k, steps);
+        return Ok(entry_of(caller, cmd, done));
     }
-    if let Cmd::CRemove { k } = asked.cmd {
-        return Ok(asked.entry(on_entries::remove_entry(store, asked.caller, k, steps)));
+    if let Cmd::CRemove { k } = cmd {
+        let done = on_entries::remove_entry(store, caller, k, steps);
+        return Ok(entry_of(caller, cmd, done));
     }
-    let done = carry_out(store, asked, offer)?;
-    Ok(asked.entry(done))
+    let done = carry_out(store, caller, cmd, offer)?;
+    Ok(entry_of(caller, cmd, done))
 }

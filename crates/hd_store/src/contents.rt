@@ -1,23 +1,23 @@
-ghost use Rattle.std.specs.Prelude.{◌≡◌, ℕ, ◌+◌, ◌*◌, ◌<◌, ◌≤◌, ◌^◌, length, replicate, true, None, IfOk};
+ghost use Rattle.std.specs.Prelude.{◌≡◌, ◌+◌, ◌*◌, ◌<◌, ◌≤◌, length, replicate, true, None, IfOk};
 ghost use Rattle.std.specs.FinMap.{len, empty};
-ghost use Rattle.hd_model.specs.State.{Numbers, start_of, register_of, handle_register_of, static_of, board_of, given_of, last_serial, total_size, with_register, with_handle_register, with_static, with_board};
+ghost use Rattle.hd_model.specs.State.{Numbers, start_of, given_of, last_serial, total_size};
 ghost use Rattle.hd_model.specs.Heap.{has_object, object_at};
 ghost use Rattle.hd_model.specs.{Scene.IsField, declared.data.Addr.Addr};
 ghost use Rattle.hd_plan.specs.Plan.{HasNoEmptyRegion};
-ghost use Rattle.hd_store.specs.{Reading.named_in, Reading.IsNamed, Store.IsOverHeap, Store.without_spare};
+ghost use Rattle.hd_store.specs.{Store.IsOverHeap, Store.without_spare};
 
 use hd_ages::AgeMap;
 use hd_cwt::Cwt;
 use hd_final::Final;
 use hd_heap::Heap;
 use hd_model::limits::{BLOCKS, CALLERS, CLUMPS, HEAP, OLDEST, REGISTERS};
-use hd_model::{Addr, Memory, Slot};
+use hd_model::{Addr, Memory, Slot, filled};
 use hd_seg::Seg;
 use std::alloc::Global;
 use std::marker::Model;
 
 // A caller's registers of either sort, and as many statics and entries of the board.
-const PLACES: usize = REGISTERS as usize;
+pub(crate) const PLACES: usize = REGISTERS as usize;
 
 /// The contents of a store: the state of the machine, with the ages of the clumps. Objects are
 /// referenced by address.
@@ -32,7 +32,7 @@ pub(crate) struct Contents {
     // What the object registers of each caller in turn reference, and then the statics.
     pub(crate) roots: Vec<Option<Addr>>,
     pub(crate) handle_registers: Vec<[Option<Slot>; PLACES]>,
-    board: [Option<Slot>; PLACES],
+    pub(crate) board: [Option<Slot>; PLACES],
     pub(crate) serials: Vec<u32>,
 }
 
@@ -47,17 +47,6 @@ impl Model for Contents {
     ghost view = { λ s. machine_of (parts s) };
 
     ghost invariant = { λ s. IsStored (parts s) };
-}
-
-// `count` copies of a value.
-fn filled<T: Copy + Drop>(alloc: Global, value: T, count: u32) -> Result<Vec<T>, Memory>
-    ensures { IfOk result (λ items. items.items ≡ replicate count value) }
-{
-    let mut items = Vec::new(alloc);
-    match items.resize(count as usize, value) {
-        Ok(()) => Ok(items),
-        Err(_) => Err(Memory),
-    }
 }
 
 impl Contents {
@@ -90,84 +79,6 @@ impl Contents {
             board: [None; PLACES],
             serials: filled(alloc, 0, callers)?,
         })
-    }
-
-    /// What an object register references.
-    pub(crate) fn register(&self, caller: u32, d: u8) -> Option<Addr>
-        requires caller { caller < self.now.numbers.callers }
-        requires register { d < REGISTERS }
-        ensures value { named_in self.now.names result ≡ register_of self.now.state caller d }
-        ensures named { IsNamed self.now.names result }
-    {
-        self.roots[PLACES * caller as usize + d as usize]
-    }
-
-    /// An object register gets `v`.
-    pub(crate) fn set_register(&mut self, caller: u32, d: u8, v: Option<Addr>)
-        requires caller { caller < self.old.numbers.callers }
-        requires register { d < REGISTERS }
-        requires named { IsNamed self.old.names v }
-        ensures { let after = with_register self.old.state caller d (named_in self.old.names v) in
-            self.new ≡ record self.old { state = after } }
-    {
-        self.roots[PLACES * caller as usize + d as usize] = v;
-    }
-
-    /// What a static references.
-    pub(crate) fn static_at(&self, k: u8) -> Option<Addr>
-        requires { k < REGISTERS }
-        ensures value { named_in self.now.names result ≡ static_of self.now.state k }
-        ensures named { IsNamed self.now.names result }
-    {
-        self.roots[PLACES * self.handle_registers.len() + k as usize]
-    }
-
-    /// A static gets `v`.
-    pub(crate) fn set_static(&mut self, k: u8, v: Option<Addr>)
-        requires known { k < REGISTERS }
-        requires named { IsNamed self.old.names v }
-        ensures { let after = with_static self.old.state k (named_in self.old.names v) in
-            self.new ≡ record self.old { state = after } }
-    {
-        let place = PLACES * self.handle_registers.len() + k as usize;
-        self.roots[place] = v;
-    }
-
-    /// The slot in a handle register.
-    pub(crate) fn handle_register(&self, caller: u32, d: u8) -> Option<Slot>
-        requires caller { caller < self.now.numbers.callers }
-        requires register { d < REGISTERS }
-        ensures { result ≡ handle_register_of self.now.state caller d }
-    {
-        let row = &self.handle_registers[caller as usize];
-        row[d as usize]
-    }
-
-    /// A handle register gets `v`.
-    pub(crate) fn set_handle_register(&mut self, caller: u32, d: u8, v: Option<Slot>)
-        requires caller { caller < self.old.numbers.callers }
-        requires register { d < REGISTERS }
-        ensures { let after = with_handle_register self.old.state caller d v in
-            self.new ≡ record self.old { state = after } }
-    {
-        let row = &mut self.handle_registers[caller as usize];
-        row[d as usize] = v;
-    }
-
-    /// The slot in an entry of the board.
-    pub(crate) fn board_at(&self, k: u8) -> Option<Slot>
-        requires { k < REGISTERS }
-        ensures { result ≡ board_of self.now.state k }
-    {
-        self.board[k as usize]
-    }
-
-    /// An entry of the board gets `v`.
-    pub(crate) fn set_board(&mut self, k: u8, v: Option<Slot>)
-        requires { k < REGISTERS }
-        ensures { self.new ≡ record self.old { state = with_board self.old.state k v } }
-    {
-        self.board[k as usize] = v;
     }
 
     /// The number of objects, reachable or not.

@@ -10,6 +10,7 @@ ghost use Rattle.hd_store.specs.{Info.entry_seen, Visited.SearchSteps};
 
 use crate::contents::Contents;
 use crate::info::EntryInfo;
+use hd_commands::Parts;
 use hd_model::{Addr, Slot, Steps};
 use hd_seg::{Extra, Row};
 use std::sync::ledger::Ledger;

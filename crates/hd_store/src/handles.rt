@@ -1,24 +1,17 @@
-// What a store does with rows, blocks and ages.
-ghost use Rattle.std.specs.Prelude.{◌≡◌, ℕ, ◌+◌, ◌*◌, ◌/◌, ◌<◌, ◌≤◌, false, Some, None, IsSome, IfOk, IfErr, OnOk, OnErr, OnSome, IfSome, option_map};
-ghost use Rattle.hd_seg.specs.Row.{extra_of};
-ghost use Rattle.hd_store.specs.{Info.extra_seen, Info.handle_seen, Reading.name_in, Reading.named_in, Reading.IsNamed};
+// What a store does with handles and blocks.
+ghost use Rattle.std.specs.Prelude.{◌≡◌, ◌+◌, ◌/◌, ◌<◌, ◌≤◌, false, Some, None, IfOk, IfErr, OnOk, OnErr, IfSome, option_map};
+ghost use Rattle.hd_commands.specs.Handles.{extra_of, handle_of, handle_named, MayBeStored};
+ghost use Rattle.hd_store.specs.{Reading.name_in, Reading.named_in, Reading.IsNamed, Store.seen_by};
 ghost use Rattle.hd_model.specs.declared.data.Id.{Id};
-ghost use Rattle.hd_model.specs.State.{Handle, rename_extra, secondary_of, handle_at, use_of, given_of, without_handle, without_use, with_handle, block_of, IsFree, IsAllFree};
-ghost use Rattle.hd_model.specs.{Kinds.is_paired, Step.blocks_needed, Step.with_growth, Ages.lowered};
-ghost use Rattle.hd_store.specs.{Handles.handle_named, Handles.MayBeStored, Growth.GrowsBy, Growth.kind_in_use};
+ghost use Rattle.hd_model.specs.State.{Handle as Held, rename_extra, secondary_of, handle_at, use_of, given_of, without_use, with_handle, block_of, IsFree, IsAllFree};
+ghost use Rattle.hd_model.specs.{Kinds.is_paired, Step.blocks_needed, Step.with_growth};
+ghost use Rattle.hd_store.specs.{Growth.GrowsBy, Growth.kind_in_use};
 
 use crate::contents::Contents;
-use crate::info::{ExtraInfo, HandleInfo};
-use hd_model::limits::{BLOCKS, CLUMP, CLUMPS, ROWS};
+use hd_commands::{Extra, Handle, Parts};
+use hd_model::limits::{BLOCKS, ROWS};
 use hd_model::{Addr, Grown, Id, Kind, Slot};
-use hd_seg::{BlockKind, Extra, Full, Row};
-
-/// A live handle: its kind and its row.
-#[derive(Clone, Copy)]
-pub(crate) struct Live {
-    pub(crate) kind: Kind,
-    pub(crate) row: Row,
-}
+use hd_seg::{BlockKind, Full, Row};
 
 impl Contents {
     /// The kind of the block of a slot, if it has handles. The slot may be any number.
@@ -35,27 +28,10 @@ impl Contents {
         }
     }
 
-    /// The handle in a slot, if the slot is live and not one that the weak table holds.
-    pub(crate) fn handle(&self, slot: Slot) -> Option<Live>
-        ensures value { let named =
-            option_map (λ live. handle_named self.now live.kind live.row) result in
-            handle_at self.now.state slot ≡ named }
-        ensures may { IfSome result (λ live. MayBeStored self.now slot live.kind live.row) }
-        ensures within { OnSome result
-            ((1 ≤ block_of slot) × (block_of slot ≤ self.now.numbers.blocks)) }
-    {
-        if self.weak.held(slot) {
-            return None;
-        }
-        let row = self.table.row(slot)?;
-        let kind = self.kind_of(slot)?;
-        Some(Live { kind, row })
-    }
-
     /// The target of the handle in a slot, if the slot is live and not one that the weak table holds.
     #[inline(always)]
     pub(crate) fn target_in(&self, slot: Slot) -> Option<Option<Addr>>
-        ensures value { option_map (λ (h : Handle Id). h.target) (handle_at self.now.state slot)
+        ensures value { option_map (λ (h : Held Id). h.target) (handle_at self.now.state slot)
             ≡ option_map (named_in self.now.names) result }
         ensures named { IfSome result (IsNamed self.now.names) }
     {
@@ -66,29 +42,29 @@ impl Contents {
         Some(row.target)
     }
 
-    /// The handle of a row, as callers see it.
-    pub(crate) fn info(&self, live: Live) -> HandleInfo
-        requires target { IsNamed self.now.names live.row.target }
-        requires secondary { IsNamed self.now.names (secondary_of (extra_of live.row.extra)) }
-        ensures { handle_seen result ≡ handle_named self.now live.kind live.row }
+    /// A handle with what it references by identity.
+    pub(crate) fn info(&self, handle: Handle<Addr>) -> Handle<Id>
+        requires target { IsNamed self.now.names handle.target }
+        requires secondary { IsNamed self.now.names (secondary_of (extra_of handle.extra)) }
+        ensures { handle_of result ≡ handle_named (seen_by self.now) handle }
     {
-        HandleInfo {
-            kind: live.kind,
-            target: self.named(live.row.target),
-            extra: self.extra_info(live.row.extra),
+        Handle {
+            kind: handle.kind,
+            target: self.named(handle.target),
+            extra: self.extra_info(handle.extra),
         }
     }
 
-    // What a row has beside its target, with its secondary by identity.
-    fn extra_info(&self, extra: Extra) -> ExtraInfo
+    // What it has beside its target, with its secondary by identity.
+    fn extra_info(&self, extra: Extra<Addr>) -> Extra<Id>
         requires { IsNamed self.now.names (secondary_of (extra_of extra)) }
-        ensures { extra_seen result ≡ rename_extra (name_in self.now.names) (extra_of extra) }
+        ensures { extra_of result ≡ rename_extra (name_in self.now.names) (extra_of extra) }
     {
         match extra {
-            Extra::Nothing => ExtraInfo::Nothing,
-            Extra::Strength(strength) => ExtraInfo::Strength(strength),
-            Extra::Secondary(secondary) => ExtraInfo::Secondary(self.named(secondary)),
-            Extra::Count(count) => ExtraInfo::Count(count),
+            Extra::Nothing => Extra::Nothing,
+            Extra::Strength(strength) => Extra::Strength(strength),
+            Extra::Secondary(secondary) => Extra::Secondary(self.named(secondary)),
+            Extra::Count(count) => Extra::Count(count),
         }
     }
 
@@ -103,44 +79,19 @@ impl Contents {
         }
     }
 
-    /// Lowers the age of a slot's clump to `g`, where it was above.
-    pub(crate) fn lower_age(&mut self, slot: Slot, g: u8)
-        requires low { 1 ≤ block_of slot }
-        requires high { block_of slot ≤ self.old.numbers.blocks }
-        ensures { self.new ≡ record self.old { ages = lowered self.old.ages slot.0 g } }
-    {
-        self.ages.lower(slot.0 / ROWS, slot.0 / CLUMP % CLUMPS, g);
-    }
-
-    /// Puts a row into a free slot.
-    pub(crate) fn put_row(&mut self, slot: Slot, kind: Kind, row: Row)
-        requires free { IsFree self.old.state kind slot }
-        requires may { MayBeStored self.old slot kind row }
-        ensures { let after = with_handle self.old.state slot (handle_named self.old kind row) in
+    /// Puts a handle into a free slot.
+    pub(crate) fn put_handle(&mut self, slot: Slot, handle: Handle<Addr>)
+        requires free { IsFree self.old.state handle.kind slot }
+        requires may { MayBeStored (seen_by self.old) slot (handle_of handle) }
+        ensures { let named = handle_named (seen_by self.old) handle in
+            let after = with_handle self.old.state slot named in
             self.new ≡ record self.old { state = after; table = self.new.table } }
     {
+        let row = Row {
+            target: handle.target,
+            extra: handle.extra,
+        };
         self.table.put_row(slot, row);
-    }
-
-    /// Puts another row into a live slot.
-    pub(crate) fn set_row(&mut self, slot: Slot, kind: Kind, row: Row)
-        requires live { option_map (λ handle. handle.kind) (handle_at self.old.state slot)
-            ≡ Some kind }
-        requires may { MayBeStored self.old slot kind row }
-        ensures { let after = with_handle self.old.state slot (handle_named self.old kind row) in
-            self.new ≡ record self.old { state = after; table = self.new.table } }
-    {
-        self.table.set_row(slot, row.target);
-        self.table.set_extra(slot, row.extra);
-    }
-
-    /// Takes the handle out of a live slot.
-    pub(crate) fn take_row(&mut self, slot: Slot)
-        requires { IsSome (handle_at self.old.state slot) }
-        ensures { let after = without_handle self.old.state slot in
-            self.new ≡ record self.old { state = after; table = self.new.table } }
-    {
-        self.table.take_row(slot);
     }
 
     /// Brings the least unused block into use for a kind, with the next one for its extra data

@@ -1,17 +1,53 @@
-// `hnew` and `trim`: handles are made, and blocks come into use and go out of it.
-ghost use Rattle.std.specs.Prelude.{◌≡◌, ℕ, ◌+◌, ◌*◌, ◌<◌, ◌≤◌, Some, None, false, IfOk, IfErr, IfSome, OnErr, OnSome};
+// `new`, `hnew` and `trim`: objects and handles are made, and blocks come into use and go out of it.
+ghost use Rattle.std.specs.Prelude.{◌≡◌, ℕ, ◌+◌, ◌*◌, ◌<◌, ◌≤◌, ◌^◌, Some, None, false, IfOk, IfErr, IfSome, OnErr, OnSome};
 ghost use Rattle.hd_model.specs.declared.command.Cmd.TheVariants as cmds;
-ghost use Rattle.hd_model.specs.{Kinds.kind_of, Kinds.is_paired, Step.blocks_needed, Valid.IsValidMake, WellFormed.HasHandles, WellFormed.HasWeakTable, Aging.lowered_by_new};
-ghost use Rattle.hd_model.specs.State.{given_of, block_of, first_slot, IsFree, IsAllFree};
-ghost use Rattle.hd_store.specs.{Reading.named_in, Reading.IsNamed, Making.IsPlace, Making.IsMadeRow, Offers.IsOffer, declared.done.CallerCommand.CallerCommand};
-ghost use Rattle.hd_store.specs.Commands.{entry_of, done_of, HasRun, IsPlainStep};
+ghost use Rattle.hd_model.specs.{Kinds.kind_of, Kinds.is_paired, Step.blocks_needed, Valid.IsValidMake, WellFormed.HasHandles, WellFormed.HasWeakTable, Aging.lowered_by_new, Aging.lowered_to};
+ghost use Rattle.std.specs.FinMap.{get};
+ghost use Rattle.hd_model.specs.Command.{new_object};
+ghost use Rattle.hd_model.specs.State.{given_of, block_of, first_slot, identity_of, last_serial, total_size, IsFree, IsAllFree};
+ghost use Rattle.hd_store.specs.{Reading.named_in, Reading.IsNamed, Places.KeepsNames, Store.seen_by, Making.IsPlace, Making.IsMadeHandle, Offers.IsOffer};
+ghost use Rattle.hd_commands.specs.Done.{done_of, entry_by, ComesTo};
+ghost use Rattle.hd_store.specs.Commands.{HasRun, IsPlainStep};
 
 use crate::contents::Contents;
-use crate::done::{CallerCommand, Done};
-use crate::on_handles::lower_to;
-use hd_model::limits::{BLOCKS, REGISTERS, ROWS};
-use hd_model::{Addr, Grown, Kind, Make, Refusal, Reply, Slot};
-use hd_seg::{Extra, Full, Row};
+use hd_commands::{Done, Extra, Handle, Parts};
+use hd_heap::NewFault;
+use hd_model::limits::{BLOCKS, FIELDS, REGISTERS, ROWS};
+use hd_model::{Addr, Grown, Kind, Make, Memory, Refusal, Reply, Slot};
+use hd_seg::Full;
+
+/// `new rD F`. A full heap is reported before memory is taken.
+pub(crate) fn new_object(
+    store: &mut Contents,
+    caller: u32,
+    d: u8,
+    fields: u8,
+    fin: bool,
+) -> Result<Result<Done, Refusal>, Memory>
+    requires caller { caller < store.old.numbers.callers }
+    requires register { d < REGISTERS }
+    requires fields { fields ≤ FIELDS }
+    requires serial { last_serial store.old.state caller + 1 < 2 ^ 32 }
+    requires fresh { let serial = last_serial store.old.state caller + 1 in
+        get store.old.state.objects (identity_of caller serial).0 ≡ None }
+    ensures done { let n = store.old.numbers in
+        let wanted = new_object n store.old.state caller d fields fin in
+        let before = record store.old { names = store.new.names } in
+        IfOk result (ComesTo wanted (seen_by before) (seen_by store.new)) }
+    ensures names { KeepsNames store.old.names store.new.names }
+    ensures fits { OnErr result
+        (total_size store.old.state + (fields + 3) ≤ store.old.numbers.heap) }
+    ensures unchanged { OnErr result (store.new ≡ store.old) }
+{
+    match store.add_object(caller, fields, fin) {
+        Ok(at) => {
+            store.set_register(caller, d, Some(at));
+            Ok(Ok(Done::of(Reply::Object(store.id(at)))))
+        }
+        Err(NewFault::Full { used, size }) => Ok(Err(Refusal::HeapFull { used, size })),
+        Err(NewFault::Memory) => Err(Memory),
+    }
+}
 
 // The first slot of a block.
 fn first_slot(block: u32) -> Slot
@@ -62,13 +98,12 @@ pub(crate) fn place(
     }
 }
 
-// What a new handle has beside its target. Without a target a dependent handle has no secondary
-// either.
-fn made_row(store: &Contents, caller: u32, make: Make, t: u8) -> Row
+// A new handle. Without a target a dependent one has no secondary either.
+fn made(store: &Contents, caller: u32, make: Make, t: u8) -> Handle<Addr>
     requires caller { caller < store.now.numbers.callers }
     requires register { t < REGISTERS }
     requires make { IsValidMake make }
-    ensures { IsMadeRow store.now caller make t result }
+    ensures { IsMadeHandle store.now caller make t result }
 {
     let target = store.register(caller, t);
     let extra = match make {
@@ -80,7 +115,27 @@ fn made_row(store: &Contents, caller: u32, make: Make, t: u8) -> Row
             Extra::Secondary(target.and(secondary))
         }
     };
-    Row { target, extra }
+    Handle {
+        kind: make.kind(),
+        target,
+        extra,
+    }
+}
+
+// Lowers the age of a slot's clump to the generation of what is stored there. Null lowers none.
+fn lower_to(store: &mut Contents, slot: Slot, target: Option<Addr>)
+    requires low { 1 ≤ block_of slot }
+    requires high { block_of slot ≤ store.old.numbers.blocks }
+    requires named { IsNamed store.old.names target }
+    ensures { let named = named_in store.old.names target in
+        let ages = lowered_to store.old.state store.old.ages (Some slot) named in
+        store.new ≡ record store.old { ages = ages } }
+{
+    let Some(at) = target else {
+        return;
+    };
+    let generation = store.generation(at);
+    store.lower_age(slot, generation);
 }
 
 // Lowers the age of a slot's clump for a handle that is made there. A dependent one, which may get
@@ -114,32 +169,26 @@ pub(crate) fn new_handle(
     requires registers { (d < REGISTERS) × (t < REGISTERS) }
     requires make { IsValidMake make }
     requires offer { IfSome offer (IsFree store.old.state (kind_of make)) }
-    ensures { let asked : CallerCommand = record { caller = caller; cmd = cmds.HNew d make t } in
-        let e = entry_of asked (done_of result) in
-        HasRun store.old asked offer e (IsPlainStep store.old asked.cmd store.new e) }
+    ensures { let c = cmds.HNew d make t in let e = entry_by caller c (done_of result) in
+        HasRun store.old caller c offer e (IsPlainStep store.old c store.new e) }
 {
-    let row = made_row(store, caller, make, t);
-    let (slot, grown) = match place(store, make.kind(), offer) {
+    let handle = made(store, caller, make, t);
+    let (slot, grown) = match place(store, handle.kind, offer) {
         Ok(place) => place,
         Err(full) => return Err(Refusal::TableFull { given: full.given }),
     };
-    lower_for(store, slot, make, row.target);
-    store.put_row(slot, make.kind(), row);
+    lower_for(store, slot, make, handle.target);
+    store.put_handle(slot, handle);
     store.set_handle_register(caller, d, Some(slot));
-    Ok(Done {
-        slot: Some(slot),
-        grown,
-        ..Done::of(Reply::Done)
-    })
+    Ok(Done::in_slot(slot, grown))
 }
 
 /// `trim KIND`: gives back the block of the offered slot or, without one, none.
 pub(crate) fn trim(store: &mut Contents, caller: u32, kind: Kind, offer: Option<Slot>) -> Done
     requires single { is_paired kind ≡ false }
     requires offer { IsOffer store.old.state caller (cmds.Trim kind) offer }
-    ensures { let asked : CallerCommand = record { caller = caller; cmd = cmds.Trim kind } in
-        let e = entry_of asked result in
-        HasRun store.old asked offer e (IsPlainStep store.old asked.cmd store.new e) }
+    ensures { let c = cmds.Trim kind in let e = entry_by caller c result in
+        HasRun store.old caller c offer e (IsPlainStep store.old c store.new e) }
 {
     let Some(slot) = offer else {
         return Done::of(Reply::Value(0));

@@ -1,11 +1,11 @@
 // What a store does with objects.
-ghost use Rattle.std.specs.Prelude.{◌≡◌, ◌≢◌, ℕ, ◌+◌, ◌<◌, ◌≤◌, ◌^◌, length, slice_index_or, slice_set, Some, None, IsSome, IfOk, IfErr, OnOk, MatchResult, MatchOption, max, ◌⊎◌, [], ◌∷◌};
+ghost use Rattle.std.specs.Prelude.{◌≡◌, ◌≢◌, ◌+◌, ◌<◌, ◌≤◌, ◌^◌, length, slice_index_or, None, IsSome, IfOk, IfErr, OnOk, MatchResult, max, ◌⊎◌};
 ghost use Rattle.std.specs.FinMap.{get, insert, len};
 ghost use Rattle.hd_heap.specs.Calls.{IsMade, new_object, IsRefused as IsRefusedBy};
-ghost use Rattle.hd_model.specs.State.{object_by_id, field_of, last_serial, identity_of, total_size, with_object, with_serial, with_queue};
-ghost use Rattle.hd_store.specs.Reading.{name_in, named_in, IsNamed};
+ghost use Rattle.hd_model.specs.State.{last_serial, identity_of, total_size, with_object, with_serial};
+ghost use Rattle.hd_store.specs.Reading.{name_in};
 ghost use Rattle.hd_model.specs.{Command.fresh_object, declared.data.Id.Id};
-ghost use Rattle.hd_store.specs.{Objects.object_named, Objects.IsObjectRefused, Places.KeepsNames};
+ghost use Rattle.hd_store.specs.{Objects.IsObjectRefused, Places.KeepsNames};
 
 use crate::contents::Contents;
 use hd_final::Final;
@@ -67,86 +67,6 @@ fn make(
 }
 
 impl Contents {
-    /// The identity of the object at an address.
-    #[tactic(auto, using(crate::proofs::NamedAddresses::object_reads))]
-    pub(crate) fn id(&self, at: Addr) -> Id
-        requires { IsSome (get self.now.names at.0) }
-        ensures { result ≡ name_in self.now.names at }
-    {
-        self.heap.id(at)
-    }
-
-    /// The number of its fields.
-    #[tactic(auto, using(crate::proofs::NamedAddresses::object_reads))]
-    pub(crate) fn fields(&self, at: Addr) -> u32
-        requires { IsSome (get self.now.names at.0) }
-        ensures { result ≡ length (object_named self.now at).fields }
-    {
-        self.heap.fields(at)
-    }
-
-    /// Field `i` of it.
-    pub(crate) fn field(&self, at: Addr, i: u8) -> Option<Addr>
-        requires known { IsSome (get self.now.names at.0) }
-        requires field { i < length (object_named self.now at).fields }
-        ensures value { named_in self.now.names result ≡ field_of (object_named self.now at) i }
-        ensures named { IsNamed self.now.names result }
-    {
-        self.heap.load(at, u32::from(i))
-    }
-
-    /// Field `i` of it becomes `v`.
-    pub(crate) fn set_field(&mut self, at: Addr, i: u8, v: Option<Addr>)
-        requires known { IsSome (get self.old.names at.0) }
-        requires field { i < length (object_named self.old at).fields }
-        requires named { IsNamed self.old.names v }
-        ensures { let object = object_named self.old at in
-            let fields = slice_set object.fields i (named_in self.old.names v) in
-            let after = record object { fields = fields } in
-            let state = with_object self.old.state (name_in self.old.names at) after in
-            self.new ≡ record self.old { state = state; heap = self.new.heap } }
-    {
-        self.heap.store(at, u32::from(i), v);
-    }
-
-    /// The value of it.
-    #[tactic(auto, using(crate::proofs::NamedAddresses::object_reads))]
-    pub(crate) fn value(&self, at: Addr) -> u64
-        requires { IsSome (get self.now.names at.0) }
-        ensures { result ≡ (object_named self.now at).value }
-    {
-        self.heap.value(at)
-    }
-
-    /// Its value becomes `v`.
-    pub(crate) fn set_value(&mut self, at: Addr, v: u64)
-        requires { IsSome (get self.old.names at.0) }
-        ensures { let after = record (object_named self.old at) { value = v } in
-            let state = with_object self.old.state (name_in self.old.names at) after in
-            self.new ≡ record self.old { state = state; heap = self.new.heap } }
-    {
-        self.heap.set_value(at, v);
-    }
-
-    /// Its generation.
-    #[tactic(auto, using(crate::proofs::NamedAddresses::object_reads))]
-    pub(crate) fn generation(&self, at: Addr) -> u8
-        requires { IsSome (get self.now.names at.0) }
-        ensures { result ≡ (object_named self.now at).generation }
-    {
-        self.heap.generation(at)
-    }
-
-    /// Registers it for finalization, or unregisters it.
-    pub(crate) fn set_registered(&mut self, at: Addr, on: bool)
-        requires { IsSome (get self.old.names at.0) }
-        ensures { let after = record (object_named self.old at) { registered = on } in
-            let state = with_object self.old.state (name_in self.old.names at) after in
-            self.new ≡ record self.old { state = state; heap = self.new.heap } }
-    {
-        self.heap.set_registered(at, on);
-    }
-
     /// Makes an object with the next serial of a caller. A full heap is reported before memory is
     /// asked for, and after a refusal nothing is changed.
     pub(crate) fn add_object(
@@ -193,17 +113,5 @@ impl Contents {
         ensures known { IsSome (get self.now.names result.0) }
     {
         self.queue.at(i)
-    }
-
-    /// Takes the first object out of the finalization queue.
-    pub(crate) fn next_queued(&mut self) -> Option<Addr>
-        ensures queue { MatchOption result
-            ((self.old.state.queue ≡ []) × (self.new ≡ self.old))
-            (λ at. (self.old.state.queue ≡ name_in self.old.names at ∷ self.new.state.queue) ×
-            (self.new
-            ≡ record self.old { state = with_queue self.old.state self.new.state.queue })) }
-        ensures named { IsNamed self.new.names result }
-    {
-        self.queue.pop()
     }
 }

@@ -2,15 +2,16 @@
 ghost use Rattle.std.specs.Prelude.{◌≡◌, ◌<◌};
 ghost use Rattle.hd_model.specs.declared.command.Cmd.TheVariants as cmds;
 ghost use Rattle.hd_model.specs.{WellFormed.HasHandles, WellFormed.HasWeakTable, Valid.IsValid};
-ghost use Rattle.hd_store.specs.Commands.{HasRun, IsPlainStep, entry_of, done_of};
-ghost use Rattle.hd_store.specs.{Visited.TakesSteps, Offers.IsOffer, Offers.needs_slot, declared.done.CallerCommand.CallerCommand};
+ghost use Rattle.hd_commands.specs.Done.{done_of, entry_by};
+ghost use Rattle.hd_store.specs.Commands.{HasRun, IsPlainStep};
+ghost use Rattle.hd_store.specs.{Visited.TakesSteps, Offers.IsOffer, Offers.needs_slot};
 
 use crate::contents::Contents;
-use crate::done::Done;
 use crate::making::place;
-use crate::on_objects::{load, object_in};
+use hd_commands::on_objects::{load, object_in};
+use hd_commands::{Done, Parts};
 use hd_model::limits::REGISTERS;
-use hd_model::{Cmd, Kind, Refusal, Reply, Slot, Steps};
+use hd_model::{Cmd, Grown, Kind, Refusal, Reply, Slot, Steps};
 use std::sync::ledger::Ledger;
 
 /// `cadd rK rV`: where no slot of the weak table is idle, it takes the offered slot or, without
@@ -28,11 +29,9 @@ pub(crate) fn add_entry<L: Ledger>(
     requires caller { caller < store.old.numbers.callers }
     requires registers { (k < REGISTERS) × (v < REGISTERS) }
     requires offer { IsOffer store.old.state caller (cmds.CAdd k v) offer }
-    ensures done { let asked : CallerCommand = record { caller = caller; cmd = cmds.CAdd k v } in
-        let e = entry_of asked (done_of result) in
-        HasRun store.old asked offer e (IsPlainStep store.old asked.cmd store.new e) }
-    ensures steps { let asked : CallerCommand = record { caller = caller; cmd = cmds.CAdd k v } in
-        let e = entry_of asked (done_of result) in
+    ensures done { let c = cmds.CAdd k v in let e = entry_by caller c (done_of result) in
+        HasRun store.old caller c offer e (IsPlainStep store.old c store.new e) }
+    ensures steps { let e = entry_by caller (cmds.CAdd k v) (done_of result) in
         TakesSteps store.old.state store.old.ages e steps.old steps.new }
 {
     let key = object_in(store, caller, k)?;
@@ -43,10 +42,7 @@ pub(crate) fn add_entry<L: Ledger>(
     if let Some(slot) = store.idle_slot() {
         store.lower_age(slot, 0);
         store.fill_entry(slot, key, value);
-        return Ok(Done {
-            slot: Some(slot),
-            ..Done::of(Reply::Done)
-        });
+        return Ok(Done::in_slot(slot, Grown::Zero));
     }
     let (slot, grown) = match place(store, Kind::Dependent, offer) {
         Ok(place) => place,
@@ -54,11 +50,7 @@ pub(crate) fn add_entry<L: Ledger>(
     };
     store.lower_age(slot, 0);
     store.hold_entry(slot, key, value);
-    Ok(Done {
-        slot: Some(slot),
-        grown,
-        ..Done::of(Reply::Done)
-    })
+    Ok(Done::in_slot(slot, grown))
 }
 
 /// `cfind rD rK`.
@@ -71,11 +63,9 @@ pub(crate) fn find_entry<L: Ledger>(
 ) -> Result<Done, Refusal>
     requires caller { caller < store.old.numbers.callers }
     requires registers { (d < REGISTERS) × (k < REGISTERS) }
-    ensures done { let asked : CallerCommand = record { caller = caller; cmd = cmds.CFind d k } in
-        let e = entry_of asked (done_of result) in
-        IsPlainStep store.old asked.cmd store.new e }
-    ensures steps { let asked : CallerCommand = record { caller = caller; cmd = cmds.CFind d k } in
-        let e = entry_of asked (done_of result) in
+    ensures done { let c = cmds.CFind d k in
+        IsPlainStep store.old c store.new (entry_by caller c (done_of result)) }
+    ensures steps { let e = entry_by caller (cmds.CFind d k) (done_of result) in
         TakesSteps store.old.state store.old.ages e steps.old steps.new }
 {
     let at = object_in(store, caller, k)?;
@@ -100,11 +90,9 @@ pub(crate) fn remove_entry<L: Ledger>(
 ) -> Result<Done, Refusal>
     requires caller { caller < store.old.numbers.callers }
     requires register { k < REGISTERS }
-    ensures done { let asked : CallerCommand = record { caller = caller; cmd = cmds.CRemove k } in
-        let e = entry_of asked (done_of result) in
-        IsPlainStep store.old asked.cmd store.new e }
-    ensures steps { let asked : CallerCommand = record { caller = caller; cmd = cmds.CRemove k } in
-        let e = entry_of asked (done_of result) in
+    ensures done { let c = cmds.CRemove k in
+        IsPlainStep store.old c store.new (entry_by caller c (done_of result)) }
+    ensures steps { let e = entry_by caller (cmds.CRemove k) (done_of result) in
         TakesSteps store.old.state store.old.ages e steps.old steps.new }
 {
     let at = object_in(store, caller, k)?;

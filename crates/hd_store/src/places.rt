@@ -1,16 +1,16 @@
 // `addr`: the address of a pinned object, which no collection changes.
-ghost use Rattle.std.specs.Prelude.{◌≡◌, ◌<◌, IsSome, IfOk};
-ghost use Rattle.std.specs.{FinMap.FinMap, FinMap.get, Ordering.nat_cmp};
+ghost use Rattle.std.specs.Prelude.{◌≡◌, ◌<◌, IsSome};
+ghost use Rattle.std.specs.{FinMap.get};
+ghost use Rattle.hd_model.specs.WellFormed.{HasHandles};
 ghost use Rattle.hd_model.specs.declared.command.Cmd.TheVariants as cmds;
-ghost use Rattle.hd_store.specs.{Places.HasPlace, Places.KeepsPlaces, declared.done.CallerCommand.CallerCommand};
-ghost use Rattle.hd_store.specs.Commands.{pinned_in, as_pinned, entry_of, done_of};
+ghost use Rattle.hd_store.specs.{Places.HasPlace, Places.KeepsPlaces};
+ghost use Rattle.hd_commands.specs.Done.{done_of, entry_by};
 
 use crate::contents::Contents;
-use crate::done::Done;
-use crate::on_handles::live_in;
+use hd_commands::Done;
+use hd_commands::on_handles::pinned_in;
 use hd_model::limits::REGISTERS;
 use hd_model::{Addr, Refusal, Reply};
-use hd_scan::pins;
 
 impl Contents {
     /// The address of an object, as `addr` returns it.
@@ -25,29 +25,13 @@ impl Contents {
     }
 }
 
-// What the handle in a handle register pins, or why it pins nothing.
-fn pinned_in(store: &Contents, caller: u32, h: u8) -> Result<Addr, Refusal>
-    requires caller { caller < store.now.numbers.callers }
-    requires register { h < REGISTERS }
-    ensures value { as_pinned store.now result ≡ pinned_in store.now.state caller h }
-    ensures known { IfOk result (λ at. IsSome (get store.now.names at.0)) }
-{
-    let (_, live) = live_in(store, caller, h)?;
-    if !pins(live.kind, live.row.extra) {
-        return Err(Refusal::WrongKind);
-    }
-    match live.row.target {
-        Some(at) => Ok(at),
-        None => Err(Refusal::Null),
-    }
-}
-
 /// `addr hS`.
 pub(crate) fn reply_place(store: &Contents, caller: u32, h: u8) -> Result<Done, Refusal>
+    requires handles { HasHandles store.now.numbers store.now.state }
     requires caller { caller < store.now.numbers.callers }
     requires register { h < REGISTERS }
-    ensures { let asked : CallerCommand = record { caller = caller; cmd = cmds.AddrOf h } in
-        KeepsPlaces store.now (entry_of asked (done_of result)) store.now }
+    ensures { let e = entry_by caller (cmds.AddrOf h) (done_of result) in
+        KeepsPlaces store.now e store.now }
 {
     match pinned_in(store, caller, h) {
         Ok(at) => Ok(Done::of(Reply::Place(store.place(at)))),

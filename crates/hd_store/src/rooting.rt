@@ -4,13 +4,13 @@ ghost use Rattle.std.specs.FinMap.{get};
 ghost use Rattle.hd_model.specs.declared.command.Cmd.TheVariants as cmds;
 ghost use Rattle.hd_model.specs.Anchors.{ReturnsRoot};
 ghost use Rattle.hd_store.specs.Reading.{name_in};
-ghost use Rattle.hd_store.specs.Commands.{IsPlainStep, entry_of, done_of};
-ghost use Rattle.hd_store.specs.declared.done.CallerCommand.{CallerCommand};
+ghost use Rattle.hd_commands.specs.Done.{done_of, entry_by};
+ghost use Rattle.hd_store.specs.Commands.{IsPlainStep};
 
 use crate::anchors::{anchors, statics};
 use crate::contents::Contents;
-use crate::done::Done;
-use crate::on_objects::object_in;
+use hd_commands::Done;
+use hd_commands::on_objects::object_in;
 use hd_model::limits::REGISTERS;
 use hd_model::{Addr, Memory, Refusal, Reply};
 use hd_root::search;
@@ -45,9 +45,8 @@ pub(crate) fn return_root(
 ) -> Result<Result<Done, Refusal>, Memory>
     requires caller { caller < store.now.numbers.callers }
     requires register { r < REGISTERS }
-    ensures { let asked : CallerCommand = record { caller = caller; cmd = cmds.GcRoot r } in
-        IfOk result (λ done.
-        IsPlainStep store.now asked.cmd store.now (entry_of asked (done_of done))) }
+    ensures { let c = cmds.GcRoot r in IfOk result (λ done.
+        IsPlainStep store.now c store.now (entry_by caller c (done_of done))) }
 {
     match object_in(store, caller, r) {
         Ok(at) => Ok(Ok(Done::of(store.root_of(at)?))),

@@ -1,21 +1,22 @@
 ghost use Rattle.std.specs.Prelude.{◌≡◌, ◌*◌, ◌<◌, ◌≤◌, length, replicate, slice_index_or, true, IsTrue, IfOk, IfNone, IfSome, None, OnErr, MatchResult, Some, option_map};
 ghost use Rattle.std.specs.FinMap.{get, len};
 ghost use Rattle.hd_model.specs.declared.command.Cmd.TheVariants as cmd;
-ghost use Rattle.hd_model.specs.State.{Handle, Numbers, start_of, use_of, block_of, given_of, handle_at, last_serial, register_of, handle_register_of, static_of, board_of, total_size, with_register, with_handle_register};
+ghost use Rattle.hd_commands.specs.Handles.{handle_of};
+ghost use Rattle.hd_model.specs.State.{Handle as Held, Numbers, start_of, use_of, block_of, given_of, handle_at, last_serial, register_of, handle_register_of, static_of, board_of, total_size, with_register, with_handle_register};
 ghost use Rattle.hd_model.specs.{Valid.IsValid, Valid.takes_memory, Heap.has_object, Heap.object_at, Scene.IsField};
 ghost use Rattle.hd_model.specs.declared.data.{Addr.Addr, Id.Id};
 ghost use Rattle.hd_plan.specs.Plan.{HasNoEmptyRegion};
 ghost use Rattle.hd_scan.specs.Gathering.{roots_of as table_roots_of};
 ghost use Rattle.hd_model.specs.RootText.{roots_of};
-ghost use Rattle.hd_store.specs.{Growth.kind_in_use, Info.entry_seen, Info.handle_seen, Visited.TakesSteps, Store.IsOverHeap, Store.without_spare};
+ghost use Rattle.hd_store.specs.{Growth.kind_in_use, Info.entry_seen, Visited.TakesSteps, Store.IsOverHeap, Store.without_spare};
 ghost use Rattle.hd_store.specs.Calls.{HasCalled, IsSound, MayCall, StaysWithin, load_entry, pointed};
 ghost use Rattle.hd_store.specs.Offers.{IsOffer, needs_slot, FitsHeap, RanOut};
 
 use crate::contents::Contents;
-use crate::done::CallerCommand;
-use crate::info::{EntryInfo, HandleInfo};
+use crate::info::EntryInfo;
 use crate::{commands, on_entries};
 use hd_ages::AgeMap;
+use hd_commands::{Handle, Parts};
 use hd_heap::Heap;
 use hd_model::limits::{BLOCKS, CALLERS, CLUMPS, HEAP, OLDEST, REGISTERS};
 use hd_model::{Cmd, Entry, Id, Kind, Memory, RootId, Slot, Steps};
@@ -93,12 +94,7 @@ impl Store {
     {
         // Read for the proof alone: the state is one over the heap.
         let _before = self.contents.objects();
-        let entry = commands::run(
-            &mut self.contents,
-            CallerCommand { caller, cmd },
-            offer,
-            steps,
-        )?;
+        let entry = commands::run(&mut self.contents, caller, cmd, offer, steps)?;
         let _after = self.contents.objects();
         Ok(entry)
     }
@@ -158,7 +154,7 @@ impl Store {
         requires caller { caller < self.old.numbers.callers }
         requires register { d < REGISTERS }
         ensures found { result ≡
-            option_map (λ (h : Handle Id). h.target) (handle_at self.old.state slot) }
+            option_map (λ (h : Held Id). h.target) (handle_at self.old.state slot) }
         ensures stays { IfNone result (self.new ≡ self.old) }
         ensures loads { IfSome result (λ id. let after = with_register self.old.state caller d id in
             self.new ≡ record self.old { state = after }) }
@@ -203,11 +199,11 @@ impl Store {
     }
 
     /// The handle in a slot, if the slot is live. The slot may be any number.
-    pub fn handle(&self, slot: Slot) -> Option<HandleInfo>
-        ensures { handle_at self.now.state slot ≡ option_map handle_seen result }
+    pub fn handle(&self, slot: Slot) -> Option<Handle<Id>>
+        ensures { handle_at self.now.state slot ≡ option_map handle_of result }
     {
-        let live = self.contents.handle(slot)?;
-        Some(self.contents.info(live))
+        let handle = self.contents.handle(slot)?;
+        Some(self.contents.info(handle))
     }
 
     /// What the weak table has in a slot, if it holds the slot: an entry, or none where the slot is

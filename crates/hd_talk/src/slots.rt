@@ -1,14 +1,13 @@
 // What is in a slot, and who has it.
 ghost use Rattle.std.specs.Prelude.{◌≡◌, ◌++◌, ◌==◌, codes, decimal, find, IfOk};
-ghost use Rattle.hd_model.specs.CommandText.{strength_word};
 ghost use Rattle.hd_seen.specs.Seen.{view_seen};
 ghost use Rattle.hd_talk.specs.Slots.{content_text, entry_line, extra_words, handle_line, line_of, object_word};
 ghost use Rattle.hd_talk.specs.Slots.{slot_text, slot_words};
 
 use crate::holders::push_holders;
 use crate::text::{push, push_line};
-use hd_model::{Id, Memory, Reply, Slot, Strength};
-use hd_print::{Line, kind_name, reply_line};
+use hd_model::{Id, Memory, Reply, Slot};
+use hd_print::{Line, kind_name, reply_line, strength_name};
 use hd_seen::{SeenEntry, SeenExtra, SeenHandle, Snapshot};
 use std::alloc::{AllocError, Global};
 
@@ -117,18 +116,6 @@ fn push_extra(text: &mut Vec<u8>, extra: SeenExtra) -> Result<(), AllocError>
             push(text, " count ")?;
             push_number(text, count)
         }
-    }
-}
-
-// The word for a strength.
-fn strength_name(strength: Strength) -> &'static str
-    ensures { result.now ≡ strength_word strength }
-{
-    match strength {
-        Strength::Short => "short",
-        Strength::Long => "long",
-        Strength::Strong => "strong",
-        Strength::Pinned => "pinned",
     }
 }
 

@@ -1,6 +1,6 @@
 -- What is promised of a state that is shown.
 use Rattle.std.proofs.Common.{Err, List, Ok, Option, Result, [], ◌∙◌, arith, lit<, refl, subst, sym, ℕ, ◌≡◌}
-use Rattle.std.specs.Prelude.{IfErr}
+use Rattle.std.specs.Prelude.{IfErr, IfOk, MatchResult}
 use Rattle.std.specs.Result.{IsErr, IsErrAnd}
 use mathlib.Core.Logic.{inl, inr}
 use Rattle.hd_io.specs.Counts.{Rose}
@@ -11,15 +11,16 @@ use Rattle.hd_model.specs.declared.data.Id.{Id}
 use Rattle.hd_model.specs.State.{State}
 use Rattle.hd_model.specs.WellFormed.{IsWellFormed}
 use Rattle.hd_path.specs.Paths.{ArePathTexts, IsPictureOf, WritesPaths}
+use Rattle.hd_run.proofs.ReadFaults.{unread_rose}
 use Rattle.hd_run.specs.Bounds.{Bounds, numbers_for}
+use Rattle.hd_run.specs.Report.{IsReported, fault_status}
+use Rattle.hd_run.specs.declared.fault.Fault.{Fault}
+use Rattle.hd_run.specs.declared.fault.Fault.TheVariants.{BadLine, NoMemory, OverSize, Unread, Usage}
 use Rattle.hd_seen.specs.Seen.{Picture}
 use Rattle.hd_talk.specs.Machine.{picture_in}
 use Rattle.hd_world.specs.World.{WorldView}
-use Rattle.hd_view.specs.Found.{fault_status}
-use Rattle.hd_view.specs.Script.{RanTo, StopsBy}
+use Rattle.hd_view.specs.Script.{IsBadLine, RanTo, StopsBy}
 use Rattle.hd_view.specs.Shown.{ShowPromise}
-use Rattle.hd_view.specs.declared.found.Fault.{Fault}
-use Rattle.hd_view.specs.declared.found.Fault.TheVariants.{BadLine, NoMemory, OverSize, Unread}
 
 module _ (Shows : WorldView → List ℕ → Type 0) (b : Bounds) (line : Option ℕ) (old new : SourceView)
     (before after : SinkView) where
@@ -27,7 +28,7 @@ module _ (Shows : WorldView → List ℕ → Type 0) (b : Bounds) (line : Option
   Promised status = ShowPromise Shows b line old new before after status
 
   -- a text of the world was written whole
-  pub written : (text : List ℕ) → (w : WorldView) × RanTo b line old new w × Shows w text
+  written : (text : List ℕ) → (w : WorldView) × RanTo b line old new w × Shows w text
       → Took before after text → Promised 0
   written text world took = record {
     shown = λ is. (world.0, world.1, (text, world.2, took));
@@ -39,7 +40,7 @@ module _ (Shows : WorldView → List ℕ → Type 0) (b : Bounds) (line : Option
   }
 
   -- a write failed
-  pub broke_off : (text : List ℕ) → WriteBrokeOff before after text → Promised 5
+  broke_off : (text : List ℕ) → WriteBrokeOff before after text → Promised 5
   broke_off text broke = record {
     shown = λ is. absurd (omega (arith, is));
     script = λ is. absurd (omega (arith, is));
@@ -50,11 +51,12 @@ module _ (Shows : WorldView → List ℕ → Type 0) (b : Bounds) (line : Option
   }
 
   -- nothing was written, since there is no world
-  pub stopped : (fault : Fault) → StopsBy line old new fault → after ≡ before → Promised (fault_status fault)
+  stopped : (fault : Fault) → StopsBy line old new fault → after ≡ before → Promised (fault_status fault)
+  stopped Usage why same = absurd why
   stopped Unread why same = record {
     shown = λ is. absurd (omega (arith, is));
     script = λ is. absurd (omega (arith, is));
-    read = λ is. (subst (λ n. Rose n new.faults) why.gave.gave.unfailed why.failed.rose, same);
+    read = λ is. (unread_rose (IsBadLine line) old new why, same);
     write = λ is. absurd (omega (arith, is));
     memory = λ is. absurd (omega (arith, is));
     statuses = (2, lit< tt, refl);
@@ -83,6 +85,18 @@ module _ (Shows : WorldView → List ℕ → Type 0) (b : Bounds) (line : Option
     memory = λ is. same;
     statuses = (4, lit< tt, refl);
   }
+
+  -- what there is to write was written, if there is any
+  pub promised : {V : Type 0} (r : Result V Fault) (items : V → List ℕ) (status : ℕ)
+      → IfOk r (λ v. (w : WorldView) × RanTo b line old new w × Shows w (items v))
+      → IfErr r (StopsBy line old new)
+      → MatchResult r (λ v. IsReported before after 0 (items v) status)
+      (λ fault. (after ≡ before) × (status ≡ fault_status fault)) → Promised status
+  promised (Ok v) items status shown why (inl (is, took)) =
+      subst Promised (sym is) (written (items v) shown took)
+  promised (Ok v) items status shown why (inr (is, broke)) =
+      subst Promised (sym is) (broke_off (items v) broke)
+  promised (Err fault) items status shown why (same, is) = subst Promised (sym is) (stopped fault why same)
 
 module _ {b : Bounds} {line : Option ℕ} {old new : SourceView} {w : WorldView}
     (ran : RanTo b line old new w) where

@@ -1,31 +1,25 @@
 -- What is found in the input of `why`, its cause, and what is written of it.
-use Rattle.std.specs.Prelude.{◌≡◌, ℕ, ◌+◌, ◌≤◌, ◌⊎◌, List, [], ◌∷◌, ◌++◌, codes, decimal, drop, take, ◌↔◌}
-use Rattle.hd_io.specs.declared.source.ReadFault.{ReadFault}
-use Rattle.hd_io.specs.declared.source.ReadFault.TheVariants as read_fault
-use Rattle.hd_io.specs.Sink.{SinkView, Took, WriteBrokeOff}
-use Rattle.hd_io.specs.Source.{SourceView, GaveCount, ReadBrokeOff}
+use Rattle.std.specs.Prelude.{◌≡◌, ℕ, ◌+◌, List, [], ◌∷◌, ◌++◌, drop, take, ◌↔◌}
+use Rattle.hd_io.specs.Sink.{SinkView}
+use Rattle.hd_io.specs.Source.{SourceView}
 use Rattle.hd_model.specs.declared.command.Cmd.{Cmd}
-use Rattle.hd_model.specs.declared.limits.TheConstants.{MOST_BYTES}
 use Rattle.hd_model.specs.Judged.{AreRight, IsNoRun, IsRunText, cut_lines}
 use Rattle.hd_model.specs.State.{Numbers}
-use Rattle.hd_model.specs.Text.{newline}
 use Rattle.hd_script.specs.AuditInput.{IsNoAuditInput}
-use Rattle.hd_script.specs.declared.fault.ScriptFault.{ScriptFault}
-use Rattle.hd_script.specs.declared.fault.ScriptFault.TheVariants as script_fault
 use Rattle.hd_audit.specs.Before.{IsBefore}
 use Rattle.hd_audit.specs.Judging.{numbers_of}
 use Rattle.hd_audit.specs.Known.{Known}
-use Rattle.hd_run.specs.Audit.{IsJudged, ReadBytes, right_text, wrong_text}
+use Rattle.hd_run.specs.Audit.{IsJudged, right_text, wrong_text}
 use Rattle.hd_run.specs.Bounds.{Bounds}
-use Rattle.hd_run.specs.Report.{memory_text}
+use Rattle.hd_run.specs.Ending.{CauseOfFault, ReadBytes}
+use Rattle.hd_run.specs.Report.{IsReported, fault_status, fault_text}
+use Rattle.hd_run.specs.declared.fault.Fault.TheVariants.{BadLine, NoMemory, OverSize, Unread, Usage}
 use Rattle.hd_view.specs.Accepted.{AreDue, IsNamedLine}
 use Rattle.hd_view.specs.Cause.{Holds}
 use Rattle.hd_view.specs.WhyText.{why_text}
 use Rattle.hd_view.specs.declared.accepted.Due.{Due}
 use Rattle.hd_view.specs.declared.accepted.Judgement.{Judgement}
 use Rattle.hd_view.specs.declared.cause.Cause.{Cause}
-use Rattle.hd_view.specs.declared.found.Fault.{Fault}
-use Rattle.hd_view.specs.declared.found.Fault.TheVariants.{BadLine, NoMemory, OverSize, Unread}
 use Rattle.hd_view.specs.declared.found.Found.{Found}
 use Rattle.hd_view.specs.declared.found.Found.TheVariants.{NoRun, Refused, Run}
 
@@ -67,6 +61,7 @@ IsFoundOf n lists text (NoRun written) = IsWhy n lists text written
 
 -- in bytes; out of memory means nothing for them
 abbrev pub FindsIn : Bounds → List ℕ → Found → Type 0
+FindsIn b bytes (Refused Usage) = ⊥
 FindsIn b bytes (Refused Unread) = ⊥
 FindsIn b bytes (Refused OverSize) = ⊥
 FindsIn b bytes (Refused (BadLine k)) = IsNoAuditInput bytes k
@@ -76,35 +71,11 @@ FindsIn b bytes (NoRun written) = IsJudged b bytes (λ n lists text. IsWhy n lis
 
 -- in what a source gave
 abbrev pub FoundCause : Bounds → SourceView → SourceView → Found → Type 0
-FoundCause b old new (Refused Unread) = ReadBrokeOff old new MOST_BYTES
-FoundCause b old new (Refused OverSize) = GaveCount old new (λ n. n ≡ MOST_BYTES + 1)
-FoundCause b old new (Refused (BadLine k)) = ReadBytes old new (λ bytes. IsNoAuditInput bytes k)
-FoundCause b old new (Refused NoMemory) = GaveCount old new (λ n. n ≤ MOST_BYTES)
+FoundCause b old new (Refused fault) = CauseOfFault IsNoAuditInput old new fault
 FoundCause b old new Run = ReadBytes old new (λ bytes. FindsIn b bytes Run)
 FoundCause b old new (NoRun written) = ReadBytes old new (λ bytes. FindsIn b bytes (NoRun written))
 
 -- ---- what is written of it, as `hdt audit` writes it, and then why
-
-abbrev pub unread_fault : ReadFault → Fault
-unread_fault read_fault.Failed = Unread
-unread_fault read_fault.TooLong = OverSize
-unread_fault read_fault.Memory = NoMemory
-
-abbrev pub unparsed_fault : ScriptFault → Fault
-unparsed_fault (script_fault.Line k) = BadLine k
-unparsed_fault script_fault.Memory = NoMemory
-
-abbrev pub fault_status : Fault → ℕ
-fault_status Unread = 4
-fault_status OverSize = 3
-fault_status (BadLine k) = 3
-fault_status NoMemory = 6
-
-abbrev pub fault_text : Fault → List ℕ
-fault_text Unread = codes "fault read" ++ newline
-fault_text OverSize = codes "fault size" ++ newline
-fault_text (BadLine k) = codes "fault line " ++ decimal k ++ newline
-fault_text NoMemory = memory_text
 
 abbrev pub found_status : Found → ℕ
 found_status (Refused fault) = fault_status fault
@@ -116,8 +87,5 @@ found_text (Refused fault) = fault_text fault
 found_text Run = right_text
 found_text (NoRun written) = written
 
--- all of it was written and its status returned; or a write failed after a prefix, and the status is 5
 abbrev pub Reports : SinkView → SinkView → Found → ℕ → Type 0
-Reports old new found status =
-    ((status ≡ found_status found) × Took old new (found_text found))
-    ⊎ ((status ≡ 5) × WriteBrokeOff old new (found_text found))
+Reports old new found status = IsReported old new (found_status found) (found_text found) status

@@ -1,17 +1,15 @@
 -- A script that leads to a world, or its lines before one that do.
-use Rattle.std.specs.Prelude.{◌≡◌, ℕ, ◌+◌, ◌-◌, ◌≤◌, Err, List, take, Option, Some, None}
+use Rattle.std.specs.Prelude.{◌≡◌, ℕ, ◌-◌, Err, List, take, Option, Some, None}
 use Rattle.std.specs.List.{concat}
-use Rattle.hd_io.specs.Source.{SourceView, GaveCount, ReadBrokeOff}
+use Rattle.hd_io.specs.Source.{SourceView}
 use Rattle.hd_model.specs.declared.command.Cmd.{Cmd}
-use Rattle.hd_model.specs.declared.limits.TheConstants.{MOST_BYTES}
 use Rattle.hd_model.specs.Grammar.{IsScript, script_of}
 use Rattle.hd_model.specs.Judged.{cut_lines}
 use Rattle.hd_run.specs.Bounds.{Bounds, numbers_for}
-use Rattle.hd_run.specs.Ending.{ReadWhole}
+use Rattle.hd_run.specs.Ending.{CauseOfFault, ReadWhole}
 use Rattle.hd_run.specs.Turns.{RanWhole}
 use Rattle.hd_world.specs.World.{WorldView}
-use Rattle.hd_view.specs.declared.found.Fault.{Fault}
-use Rattle.hd_view.specs.declared.found.Fault.TheVariants.{BadLine, NoMemory, OverSize, Unread}
+use Rattle.hd_run.specs.declared.fault.Fault.{Fault}
 
 -- the lines of bytes before one, counted from 1, or all of them
 abbrev pub lines_before : Option ℕ → List ℕ → List ℕ
@@ -27,16 +25,10 @@ pub record RanTo (b : Bounds) (line : Option ℕ) (old new : SourceView) (w : Wo
   pub script : IsScript (lines_before line bytes) lists
   pub ran : RanWhole (numbers_for b lists) lists w
 
--- the source was read to its end, and this line of it, from 1, is the first that has no reading or is one
--- command too many
-pub record HasBadLine (line : Option ℕ) (old new : SourceView) (bad : ℕ) : Type 0 where
-  pub bytes : List ℕ
-  pub read : ReadWhole old new bytes
-  pub fault : script_of (lines_before line bytes) ≡ Err bad
+-- this line of bytes, from 1, is the first of the wanted ones that has no reading or is one command too many
+abbrev pub IsBadLine : Option ℕ → List ℕ → ℕ → Type 0
+IsBadLine line bytes bad = script_of (lines_before line bytes) ≡ Err bad
 
 -- why there is no world
 abbrev pub StopsBy : Option ℕ → SourceView → SourceView → Fault → Type 0
-StopsBy line old new Unread = ReadBrokeOff old new MOST_BYTES
-StopsBy line old new OverSize = GaveCount old new (λ n. n ≡ MOST_BYTES + 1)
-StopsBy line old new (BadLine bad) = HasBadLine line old new bad
-StopsBy line old new NoMemory = GaveCount old new (λ n. n ≤ MOST_BYTES)
+StopsBy line old new fault = CauseOfFault (IsBadLine line) old new fault

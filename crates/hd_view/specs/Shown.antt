@@ -10,12 +10,13 @@ use Rattle.hd_model.specs.declared.data.Id.{Id}
 use Rattle.hd_model.specs.declared.limits.TheConstants.{MOST_BYTES}
 use Rattle.hd_path.specs.Paths.{ArePathTexts}
 use Rattle.hd_run.specs.Bounds.{Bounds}
+use Rattle.hd_run.specs.Ending.{ReadBytes}
 use Rattle.hd_show.specs.Heaps.{regions_of}
 use Rattle.hd_show.specs.Laws.{GenerationsAddUp, ObjectsAreCountedOnce}
 use Rattle.hd_show.specs.Show.{show_text}
 use Rattle.hd_talk.specs.Machine.{picture_in}
 use Rattle.hd_world.specs.World.{WorldView}
-use Rattle.hd_view.specs.Script.{HasBadLine, RanTo}
+use Rattle.hd_view.specs.Script.{IsBadLine, RanTo}
 
 -- the tables of a world: the totals of generations are those of the regions, and each object is counted once
 pub record AreTables (w : WorldView) (text : List ℕ) : Type 0 where
@@ -37,7 +38,8 @@ pub record IsGraph (clusters : Clusters) (w : WorldView) (text : List ℕ) : Typ
 -- there are more bytes than are taken, or a line of the script is at fault
 abbrev pub RefusesScript : Option ℕ → SourceView → SourceView → Type 0
 RefusesScript line old new =
-    GaveCount old new (λ n. n ≡ MOST_BYTES + 1) ⊎ ((bad : ℕ) × HasBadLine line old new bad)
+    GaveCount old new (λ n. n ≡ MOST_BYTES + 1)
+    ⊎ ((bad : ℕ) × ReadBytes old new (λ bytes. IsBadLine line bytes bad))
 
 -- what a call promises that shows a text of the world to which a script leads, by what was seen of the source
 -- and of the sink, each before it and after it

@@ -1,9 +1,10 @@
 -- What `why` promises.
 use Rattle.std.specs.Prelude.{◌≡◌, ℕ, List, [], ◌∷◌, Contains}
 use Rattle.hd_io.specs.{Counts.Rose, Sink.SinkView, Sink.Took, Source.SourceView}
-use Rattle.hd_run.specs.Audit.{HasRun, IsJudged, ReadBytes, right_text}
+use Rattle.hd_run.specs.Audit.{HasRun, IsJudged, right_text}
 use Rattle.hd_run.specs.AuditClaims.{RefusesInput}
 use Rattle.hd_run.specs.Bounds.{Bounds}
+use Rattle.hd_run.specs.Ending.{ReadBytes}
 use Rattle.hd_run.specs.Report.{memory_text}
 use Rattle.hd_view.specs.Found.{FoundCause, IsWhy, Reports}
 use Rattle.hd_view.specs.declared.found.Found.{Found}

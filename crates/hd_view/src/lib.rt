@@ -13,7 +13,6 @@ mod script;
 mod sets;
 mod shown;
 mod stated;
-mod text;
 mod why;
 mod why_text;
 

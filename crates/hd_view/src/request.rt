@@ -7,38 +7,14 @@ use hd_graph::Clusters;
 use hd_model::Id;
 use hd_model::limits::{BLOCKS, HEAP, MOST_BYTES};
 use hd_path::read_id;
+use hd_run::{LEAST_HEAP, Limits};
 use std::alloc::{AllocError, Global};
-use std::marker::Model;
-
-// The cells of a heap, at least: those of an object without fields.
-pub(crate) const LEAST_HEAP: u32 = 3;
 
 // What `--by` may be.
 static CLUSTERS: [&str; 2] = ["generation", "region"];
 
 // What is wrong with a word that names no object.
 const NO_ID: &str = "an object is named by its caller and its serial, as 0.7";
-
-/// The most cells of a heap, and the blocks of a table.
-#[derive(Drop)]
-pub(crate) struct Limits {
-    pub(crate) heap: u32,
-    pub(crate) blocks: u32,
-}
-
-impl Model for Limits {
-    ghost use Rattle.std.specs.Prelude.{◌≤◌};
-    ghost use Rattle.hd_model.specs.declared.limits.TheConstants.{BLOCKS, HEAP};
-    ghost use Rattle.hd_run.specs.{Bounds.Bounds};
-    ghost use Rattle.hd_view.specs.declared.request.TheConstants.{LEAST_HEAP};
-
-    ghost Value = { Bounds };
-
-    ghost view = { λ l. record { heap = l.heap; blocks = l.blocks } };
-
-    ghost invariant = { λ l. ((LEAST_HEAP ≤ l.heap) × (l.heap ≤ HEAP))
-        × ((1 ≤ l.blocks) × (l.blocks ≤ BLOCKS)) };
-}
 
 /// What is to be done.
 #[derive(Drop)]
@@ -115,18 +91,9 @@ fn ids_of(alloc: Global, matches: &ArgMatches) -> Result<Vec<Id>, Error> {
 
 // The limits of a run. `clap` refuses more than these.
 fn limits_of(matches: &ArgMatches) -> Limits {
-    Limits {
-        heap: matches
-            .get_one::<u32>("heap")
-            .unwrap_or(HEAP)
-            .min(HEAP)
-            .max(LEAST_HEAP),
-        blocks: matches
-            .get_one::<u32>("blocks")
-            .unwrap_or(BLOCKS)
-            .min(BLOCKS)
-            .max(1),
-    }
+    let heap = matches.get_one::<u32>("heap").unwrap_or(HEAP);
+    let blocks = matches.get_one::<u32>("blocks").unwrap_or(BLOCKS);
+    Limits::new(heap.min(HEAP).max(LEAST_HEAP), blocks.min(BLOCKS).max(1))
 }
 
 // The command.

@@ -5,14 +5,12 @@ ghost use Rattle.hd_model.specs.declared.limits.TheConstants.{MOST_BYTES};
 ghost use Rattle.hd_model.specs.Judged.{cut_lines};
 ghost use Rattle.hd_view.specs.Script.{RanTo, StopsBy, lines_before};
 
-use crate::found::{Fault, unparsed, unread};
-use crate::request::Limits;
 use hd_audit::cut_line;
 use hd_faults::{Unread, find_fault, push_fault, push_unread};
 use hd_io::{Sink, Source, read_all, write_all};
 use hd_model::Memory;
 use hd_model::limits::MOST_BYTES;
-use hd_run::solo_world;
+use hd_run::{Fault, Limits, solo_world, unparsed, unread};
 use hd_script::parse;
 use hd_world::World;
 use std::alloc::Global;
@@ -57,7 +55,7 @@ fn unread_text(alloc: Global, fault: Fault) -> Vec<u8> {
     let unread = match fault {
         Fault::Unread => Unread::Failed,
         Fault::OverSize => Unread::TooLarge,
-        Fault::BadLine(_) | Fault::NoMemory => return text,
+        Fault::Usage | Fault::BadLine(_) | Fault::NoMemory => return text,
     };
     let _ = push_unread(&mut text, unread);
     text

@@ -1,20 +1,20 @@
 // The state to which a script leads, shown as a text.
-ghost use Rattle.std.specs.Prelude.{◌≡◌, None, IfErr, IfOk};
+ghost use Rattle.std.specs.Prelude.{◌≡◌, None, IfErr, IfOk, MatchResult};
 ghost use Rattle.hd_seen.specs.Seen.{view_seen};
 ghost use Rattle.hd_snapshot.specs.Laws.{IsParted};
-ghost use Rattle.hd_view.specs.declared.found.Fault.TheVariants.{NoMemory};
+ghost use Rattle.hd_run.specs.Report.{IsReported, fault_status};
+ghost use Rattle.hd_run.specs.declared.fault.Fault.TheVariants.{NoMemory};
 ghost use Rattle.hd_view.specs.Script.{RanTo, StopsBy};
 ghost use Rattle.hd_talk.specs.Machine.{picture_in};
 ghost use Rattle.hd_view.specs.Shown.{AreChains, AreTables, IsGraph, ShowPromise};
 ghost use Rattle.hd_world.specs.World.{WorldView};
 
-use crate::found::Fault;
-use crate::request::Limits;
 use crate::script::world_of;
 use hd_graph::{Clusters, push_graph};
 use hd_io::{Failed, Sink, Source, write_all};
 use hd_model::{Id, Memory};
 use hd_path::push_paths;
+use hd_run::{Fault, Limits};
 use hd_seen::Snapshot;
 use hd_show::show_text;
 use hd_talk::seen_in;
@@ -37,13 +37,8 @@ pub(crate) fn show<S: Source, K: Sink, E: Sink>(
     ensures { ShowPromise AreTables limits.now line (S.seen source.old) (S.seen source.new)
         (K.seen out.old) (K.seen out.new) result }
 {
-    match tables_of(alloc, limits, line, source, errors) {
-        Ok(text) => match write_all(out, &text) {
-            Ok(()) => 0,
-            Err(Failed) => UNWRITTEN,
-        },
-        Err(fault) => fault.status(),
-    }
+    let shown = tables_of(alloc, limits, line, source, errors);
+    write_shown(shown, out)
 }
 
 /// Writes for each object the least of the shortest chains to it, in the state to which the script
@@ -59,13 +54,8 @@ pub(crate) fn show_paths<S: Source, K: Sink, E: Sink>(
     ensures { ShowPromise (AreChains ids.now) limits.now None (S.seen source.old)
         (S.seen source.new) (K.seen out.old) (K.seen out.new) result }
 {
-    match chains_of(alloc, limits, ids, source, errors) {
-        Ok(text) => match write_all(out, &text) {
-            Ok(()) => 0,
-            Err(Failed) => UNWRITTEN,
-        },
-        Err(fault) => fault.status(),
-    }
+    let shown = chains_of(alloc, limits, ids, source, errors);
+    write_shown(shown, out)
 }
 
 /// Writes the graph of the state to which the script of a source leads.
@@ -80,7 +70,17 @@ pub(crate) fn show_graph<S: Source, K: Sink, E: Sink>(
     ensures { ShowPromise (IsGraph clusters) limits.now None (S.seen source.old)
         (S.seen source.new) (K.seen out.old) (K.seen out.new) result }
 {
-    match graph_of(alloc, limits, clusters, source, errors) {
+    let shown = graph_of(alloc, limits, clusters, source, errors);
+    write_shown(shown, out)
+}
+
+// Writes a text, if there is one, and returns the status.
+fn write_shown<K: Sink>(shown: Result<Vec<u8>, Fault>, out: &mut K) -> u8
+    ensures { MatchResult shown
+        (λ text. IsReported (K.seen out.old) (K.seen out.new) 0 text.items result)
+        (λ fault. (K.seen out.new ≡ K.seen out.old) × (result ≡ fault_status fault)) }
+{
+    match shown {
         Ok(text) => match write_all(out, &text) {
             Ok(()) => 0,
             Err(Failed) => UNWRITTEN,

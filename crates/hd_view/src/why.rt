@@ -10,14 +10,14 @@ ghost use Rattle.hd_view.specs.Why.{WhyPromise};
 
 use crate::accepted::{Judgement, all_due};
 use crate::cause::cause_of;
-use crate::found::{Fault, Found, unparsed, unread};
-use crate::request::Limits;
-use crate::text::Text;
+use crate::found::Found;
 use crate::why_text::push_why;
 use hd_audit::{Verdict, audit};
 use hd_io::{Failed, Sink, Source, read_all, write_all};
 use hd_model::Memory;
 use hd_model::limits::MOST_BYTES;
+use hd_print::Text;
+use hd_run::{Fault, Limits, unparsed, unread};
 use hd_script::{Scripts, parse_audit};
 use std::alloc::Global;
 

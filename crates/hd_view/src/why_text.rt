@@ -13,10 +13,9 @@ ghost use Rattle.hd_view.specs.WhyText.{why_text};
 use crate::accepted::{Accepted, Due};
 use crate::cause::{BlockCause, Cause, SlotCause};
 use crate::sets::{NumberSet, Range};
-use crate::text::Text;
 use hd_audit::Before;
 use hd_model::{Entry, Kind, Memory};
-use hd_print::{command_line, full_line, kind_name};
+use hd_print::{Text, command_line, full_line, kind_name};
 
 // The bytes of a printed line that are shown, at most.
 const LONGEST_PRINTED: usize = 160;

@@ -2,5 +2,6 @@
 pub mod World
 pub mod StateHeap
 pub mod Applied
+pub mod Stepped
 -- What a world keeps inside.
 pub mod Placed

@@ -3,8 +3,8 @@ ghost use Rattle.std.specs.FinMap.{len};
 ghost use Rattle.hd_model.specs.State.{Numbers, start_of, use_of, block_of};
 ghost use Rattle.hd_model.specs.{Places.with_places, Run.Run, Valid.IsValid, Valid.takes_memory, RootText.roots_of, Text.collections_of, Text.is_collect};
 ghost use Rattle.hd_store.specs.{Growth.kind_in_use, Visited.TakesSteps};
-ghost use Rattle.hd_store.specs.Offers.{HasLimits, IsOffer, needs_slot, FitsHeap, RanOut};
-ghost use Rattle.hd_world.specs.{Placed.Placed, Placed.Placed-prop, Applied.Applied, StateHeap.IsOfJournal, World.MayApply};
+ghost use Rattle.hd_store.specs.Offers.{HasLimits, IsOffer, needs_slot, FitsHeap};
+ghost use Rattle.hd_world.specs.{Placed.Placed, Placed.Placed-prop, Applied.Applied, StateHeap.IsOfJournal, Stepped.Stepped, Stepped.WantsMemory, World.MayApply};
 
 use hd_model::limits::{BLOCKS, CALLERS, HEAP};
 use hd_model::{Class, Cmd, Entry, Held, Journal, Kind, Memory, RootId, Slot, Steps};
@@ -134,9 +134,8 @@ impl World {
         offer: Option<Slot>,
     ) -> Result<Entry, Memory>
         requires { MayApply self.old caller cmd offer }
-        ensures { let n = self.old.numbers in let s = self.old.state in
-            MatchResult result (Applied self.old caller cmd offer self.new)
-            (λ _. RanOut n s cmd self.old self.new) }
+        ensures { MatchResult result (Stepped self.old self.new caller cmd offer)
+            (λ _. WantsMemory self.old self.new cmd) }
     {
         self.apply_on::<Brand>(caller, cmd, offer, Blank::new(1))
     }
@@ -151,13 +150,18 @@ impl World {
     ) -> Result<Entry, Memory>
         requires may { MayApply self.old caller cmd offer }
         requires blank { (L.name ≡ blank.name) × (L.parts ≡ blank.parts) × (0 < blank.parts) }
-        ensures { let n = self.old.numbers in let s = self.old.state in
-            MatchResult result (Applied self.old caller cmd offer self.new)
-            (λ _. RanOut n s cmd self.old self.new) }
+        ensures { MatchResult result (Stepped self.old self.new caller cmd offer)
+            (λ _. WantsMemory self.old self.new cmd) }
     {
+        // The journal states that it is a run to the world's state.
+        let _journal = self.journal();
         let mut steps = Steps::<L>::open(blank);
         match self.apply(caller, cmd, offer, &mut steps) {
-            Ok(entry) => Ok(entry),
+            Ok(entry) => {
+                // And it states that state and heap are those of the journal.
+                let _after = self.journal();
+                Ok(entry)
+            }
             Err(Memory) => Err(Memory),
         }
     }

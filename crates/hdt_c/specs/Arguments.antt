@@ -4,8 +4,8 @@ use Rattle.hd_model.specs.declared.data.{Grown.Grown, Id.Id, Make.Make, Slot.Slo
 use Rattle.hd_model.specs.declared.data.Make.TheVariants as make
 use Rattle.hd_model.specs.declared.data.Strength.TheVariants as strength
 use Rattle.hd_model.specs.declared.data.Grown.TheVariants.{Zero, One, Two, Back}
-use Rattle.hd_store.specs.declared.info.ExtraInfo.{ExtraInfo}
-use Rattle.hd_store.specs.declared.info.ExtraInfo.TheVariants as extra
+use Rattle.hd_commands.specs.declared.handle.Extra.{Extra}
+use Rattle.hd_commands.specs.declared.handle.Extra.TheVariants as extra
 use Rattle.hd_host.specs.declared.change.Change.{Change as Changed}
 use Rattle.hdt_c.specs.declared.parts.Change.{Change}
 
@@ -32,7 +32,7 @@ number_of None = 0
 number_of (Some id) = id.0
 
 -- a strength, or a count
-abbrev pub extra_number : ExtraInfo → ℕ
+abbrev pub extra_number : Extra Id → ℕ
 extra_number extra.Nothing = 0
 extra_number (extra.Strength s) = strength_number s
 extra_number (extra.Secondary o) = 0

@@ -133,7 +133,7 @@ pub(crate) fn number_of(id: Option<Id>) -> u64
 }
 
 /// An extra as C gets it: a strength, or a count.
-pub(crate) fn number_of_extra(extra: ExtraInfo) -> u32
+pub(crate) fn number_of_extra(extra: ExtraInfo<Id>) -> u32
     ensures { result ≡ extra_number extra }
 {
     match extra {

@@ -1,4 +1,4 @@
-use Rattle.hd_run.proofs.Basics.{BLOCKS, CALLERS, Cmd, HEAP, IsLoadScript, List, Numbers, RunCause, Summary, arith, false, generated_lists, load_numbers, numbers_for, refl, subst, true, ◌≤◌}
+use Rattle.hd_run.proofs.Basics.{BLOCKS, CALLERS, Cmd, HEAP, IsLoadScript, List, Numbers, RunCause, Summary, arith, generated_lists, in_threads, load_numbers, numbers_for, refl, subst, ◌≤◌}
 use Rattle.hd_run.proofs.{RunEndings.run_callers, RunEndings.fault_writable, ThreadClaims.together}
 use Rattle.hd_run.proofs.LoadClaims.{load_is, load_sum, line_of}
 use Rattle.hd_run.proofs.load.Given.{Over}
@@ -7,11 +7,11 @@ use Rattle.hd_run.proofs.load.Goals as goal
 
 -- the run has the cause of its ending, in the words of a load
 cause : (g : Over) (c : After-run_callers-ending g) →
-    RunCause true false load_numbers (generated_lists c.args.rounds) c.run_callers-ending.result
-cause g c = subst (λ (n : Numbers). RunCause true false n (generated_lists c.args.rounds)
+    RunCause in_threads load_numbers (generated_lists c.args.rounds) c.run_callers-ending.result
+cause g c = subst (λ (n : Numbers). RunCause in_threads n (generated_lists c.args.rounds)
     c.run_callers-ending.result)
     (load_is c.args.rounds)
-    (subst (λ (lists : List (List Cmd)). RunCause true false
+    (subst (λ (lists : List (List Cmd)). RunCause in_threads
     (numbers_for (record { heap = HEAP; blocks = BLOCKS }) lists) lists c.run_callers-ending.result)
     c.in-Ok.ensures (rw c.new.ensures at c.run_callers-ending.ensures))
 
@@ -28,7 +28,7 @@ report-requires-2 g c =
     let e = c.run_callers-ending.result in
     let few : load_numbers.callers ≤ CALLERS = omega arith in
     record {
-      callers = run_callers true false load_numbers (generated_lists c.args.rounds) e (cause g at) few;
+      callers = run_callers in_threads load_numbers (generated_lists c.args.rounds) e (cause g at) few;
       sum = load_sum c.args.rounds (generated_lists c.args.rounds) (script g at) e (cause g at);
     }
 

@@ -1,13 +1,12 @@
 use Rattle.hd_run.proofs.Basics.{Option, Promise, Request, Worked, false, listing_of, request_of, subst, traits_of, true}
-use Rattle.hd_run.proofs.{CallClaims.asked_promise, CallClaims.refused_promise, RunEndings.fault_writable}
+use Rattle.hd_run.proofs.{CallClaims.asked_promise, CallClaims.refused_promise}
 use Rattle.hd_run.proofs.WorkCauses.{alone_worked, listed_worked, worked_writable}
 use Rattle.hd_run.proofs.roots.Given.{Over}
 use Rattle.hd_run.proofs.roots.Goals.{After-list_roots-ending}
 use Rattle.hd_run.proofs.roots.Goals as goal
 
 worked : (g : Over) (c : After-list_roots-ending g)
-    → Worked g.S.Source.seen (traits_of c.in-Ok.request.mode).threads
-    (traits_of c.in-Ok.request.mode).lists_roots c.in-Ok.request
+    → Worked g.S.Source.seen (traits_of c.in-Ok.request.mode).manner c.in-Ok.request
     (c.args.source.now, c.work_alone.new.source) c.list_roots-ending.result
 worked g c =
     alone_worked g.S.Source.seen c.in-Ok.request (c.args.source.now, c.work_alone.new.source) true
@@ -17,7 +16,7 @@ worked g c =
 
 pub report-requires : goal.report-requires
 report-requires g c =
-    rw c.form-form.ensures (worked_writable g.S.Source.seen c.in-Ok.request
+    rw c.output-output.ensures (worked_writable g.S.Source.seen c.in-Ok.request
     (c.args.source.now, c.work_alone.new.source) c.list_roots-ending.result
     (worked g (goal.at.report-requires g c).After-list_roots-ending))
 
@@ -29,13 +28,10 @@ returns-in-Ok g c =
     (asked_promise g.S.Source.seen g.K.Sink.seen (c.args.source.now, c.work_alone.new.source)
     (c.args.sink.now, c.report.new.sink) c.report.result c.in-Ok.request c.list_roots-ending.result
     (worked g (goal.at.returns-in-Ok g c).After-list_roots-ending)
-    (rw c.form-form.ensures at c.report.ensures))
-
-pub report-requires-in-Err : goal.report-requires-in-Err
-report-requires-in-Err g c = fault_writable _ c.in-Err.fault
+    (rw c.output-output.ensures at c.report.ensures))
 
 pub returns-in-Err : goal.returns-in-Err
 returns-in-Err g c =
     refused_promise g.S.Source.seen g.K.Sink.seen (listing_of (request_of c.args.words.now)) c.args.source.now
-    (c.args.sink.now, c.report-in-Err.new.sink) c.in-Err.fault c.report-in-Err.result c.in-Err.ensures.fault
-    c.report-in-Err.ensures
+    (c.args.sink.now, c.refuse.new.sink) c.in-Err.fault c.refuse.result c.in-Err.ensures.fault
+    c.refuse.ensures

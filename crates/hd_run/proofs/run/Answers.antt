@@ -1,4 +1,5 @@
-use Rattle.hd_run.proofs.Basics.{CALLERS, arith, false, length, lines_form, numbers_for, true, ◌≤◌}
+use Rattle.hd_run.proofs.Basics.{CALLERS, Lines, arith, in_threads, length, numbers_for, ◌≤◌}
+use Rattle.hd_print.specs.EntryLines.{form_of}
 use Rattle.hd_run.proofs.{RunEndings.lines_writable, ThreadClaims.together}
 use Rattle.hd_run.proofs.run.Goals as goal
 
@@ -9,12 +10,13 @@ report-requires g c =
       c.callers-callers.ensures.most,
       c.callers-callers.ensures.value,
     ) in
-    rw c.lines.ensures (lines_writable true false c.args.full (numbers_for c.new.result c.args.scripts.now)
+    rw c.of.ensures (lines_writable in_threads (form_of c.args.full)
+    (numbers_for c.new.result c.args.scripts.now)
     c.args.scripts.now c.run_callers-ending.result c.run_callers-ending.ensures few)
 
 pub returns : goal.returns
 returns g c =
-    together g.K.Sink.seen (lines_form c.args.full)
+    together g.K.Sink.seen (Lines (form_of c.args.full))
     (numbers_for (record { heap = c.args.heap; blocks = c.args.blocks }) c.args.scripts.now)
     c.args.scripts.now c.args.sink.now c.report.new.sink c.run_callers-ending.result c.report.result
-    (rw c.new.ensures at c.run_callers-ending.ensures) (rw c.lines.ensures at c.report.ensures)
+    (rw c.new.ensures at c.run_callers-ending.ensures) (rw c.of.ensures at c.report.ensures)

@@ -1,12 +1,11 @@
 use Rattle.hd_run.proofs.Basics.{Option, Promise, Request, Worked, false, request_of, solo_of, subst, traits_of}
-use Rattle.hd_run.proofs.{CallClaims.asked_promise, CallClaims.refused_promise, WorkCauses.alone_worked, WorkCauses.worked_writable, RunEndings.fault_writable}
+use Rattle.hd_run.proofs.{CallClaims.asked_promise, CallClaims.refused_promise, WorkCauses.alone_worked, WorkCauses.worked_writable}
 use Rattle.hd_run.proofs.solo.Given.{Over}
 use Rattle.hd_run.proofs.solo.Goals.{After-work_alone-ending}
 use Rattle.hd_run.proofs.solo.Goals as goal
 
 worked : (g : Over) (c : After-work_alone-ending g)
-    → Worked g.S.Source.seen (traits_of c.in-Ok.request.mode).threads
-    (traits_of c.in-Ok.request.mode).lists_roots c.in-Ok.request
+    → Worked g.S.Source.seen (traits_of c.in-Ok.request.mode).manner c.in-Ok.request
     (c.args.source.now, c.work_alone-ending.new.source) c.work_alone-ending.result
 worked g c =
     alone_worked g.S.Source.seen c.in-Ok.request (c.args.source.now, c.work_alone-ending.new.source) false
@@ -14,7 +13,7 @@ worked g c =
 
 pub report-requires : goal.report-requires
 report-requires g c =
-    rw c.form-form.ensures (worked_writable g.S.Source.seen c.in-Ok.request
+    rw c.output-output.ensures (worked_writable g.S.Source.seen c.in-Ok.request
     (c.args.source.now, c.work_alone-ending.new.source) c.work_alone-ending.result
     (worked g (goal.at.report-requires g c).After-work_alone-ending))
 
@@ -26,13 +25,10 @@ returns-in-Ok g c =
     (asked_promise g.S.Source.seen g.K.Sink.seen (c.args.source.now, c.work_alone-ending.new.source)
     (c.args.sink.now, c.report.new.sink) c.report.result c.in-Ok.request c.work_alone-ending.result
     (worked g (goal.at.returns-in-Ok g c).After-work_alone-ending)
-    (rw c.form-form.ensures at c.report.ensures))
-
-pub report-requires-in-Err : goal.report-requires-in-Err
-report-requires-in-Err g c = fault_writable _ c.in-Err.fault
+    (rw c.output-output.ensures at c.report.ensures))
 
 pub returns-in-Err : goal.returns-in-Err
 returns-in-Err g c =
     refused_promise g.S.Source.seen g.K.Sink.seen (solo_of (request_of c.args.words.now)) c.args.source.now
-    (c.args.sink.now, c.report-in-Err.new.sink) c.in-Err.fault c.report-in-Err.result c.in-Err.ensures.fault
-    c.report-in-Err.ensures
+    (c.args.sink.now, c.refuse.new.sink) c.in-Err.fault c.refuse.result c.in-Err.ensures.fault
+    c.refuse.ensures

@@ -1,5 +1,7 @@
-use Rattle.std.proofs.Common.{arith, sym, ◌*◌, ◌+◌, ◌∙◌}
+use Rattle.std.proofs.Common.{ap, arith, sym, ◌*◌, ◌+◌, ◌∙◌}
 use Rattle.std.proofs.lemmas.Bool.{false≢true}
+use Rattle.std.specs.FinMap.{get}
+use Rattle.hd_audit.specs.Judge.{Judge}
 use Rattle.hd_audit.proofs.FreeSlots.{all_free_low, all_free_of}
 use Rattle.hd_audit.proofs.making.is_all_free.Goals as goal
 use Rattle.hd_model.specs.declared.limits.TheConstants.{ROWS}
@@ -14,6 +16,7 @@ returns-then-block-limit c = (
             c.args.block free,
         c.if-block-limit.true,
         c.blocks-limit.ensures.value,
+        ap (λ (j : Judge). j.numbers.blocks) c.machine.view_is,
       )),
 )
 
@@ -21,7 +24,8 @@ pub returns-then-not-is_of : goal.returns-then-not-is_of
 returns-then-not-is_of c = (
   λ t. absurd (false≢true t),
   λ free. absurd (false≢true (sym c.if-not-is_of.true ∙ c.is_of.ensures.1
-      (all_free_of c.args.machine.now.numbers c.args.machine.now.state c.requires c.args.kind c.args.block
+      (ap (λ (j : Judge). get j.state.blocks c.args.block) c.machine.view_is
+      ∙ all_free_of c.args.machine.now.numbers c.args.machine.now.state c.requires c.args.kind c.args.block
       free))),
 )
 

@@ -1,25 +1,42 @@
-use Rattle.std.proofs.Common.{ap, map, option_map, subst, sym, ◌∙◌, ◌≡◌}
-use Rattle.std.specs.FinMap.{get}
-use Rattle.hd_model.proofs.IndexedItems.{get-by_place}
-use Rattle.hd_audit.specs.AnchorRows.{IsAnchorId, held_by}
+use Rattle.std.proofs.Common.{IsSome, None, ap, map, subst, sym, ◌∙◌, ◌≡◌, ℕ}
+use Rattle.std.specs.FinMap.{get, keys}
+use Rattle.hd_audit.specs.AnchorRows.{IsAnchorId}
+use Rattle.hd_audit.specs.Attaching.{ListsAttached, pairs_in}
 use Rattle.hd_audit.specs.Judge.{Judge}
-use Rattle.hd_audit.specs.Marked.{Gains, with_targets}
+use Rattle.hd_audit.specs.Marked.{Gains}
+use Rattle.hd_audit.specs.Marking.{attaching_at}
 use Rattle.hd_audit.specs.Parts.{judge_of}
-use Rattle.hd_audit.specs.View.{handle_of}
-use Rattle.hd_audit.proofs.AnchorGains.{gains_anchors, if_done}
+use Rattle.hd_audit.proofs.AnchorGains.{gains_anchors}
+use Rattle.hd_audit.proofs.AttachedLists.{adds_then, from_none, lists_attached}
+use Rattle.hd_audit.proofs.ListBuilds.{keys_listed}
 use Rattle.hd_audit.proofs.marks.mark_anchors.Goals as goal
 
-pub returns : goal.returns
-returns c =
-    let rows = c.handles.result.now in
-    let before = c.args.marks.now in
-    let after = c.mark_rows.new.self in
-    if_done (after ≡ with_targets c.mark_queue.new.self (map held_by rows))
-    (Gains (IsAnchorId c.args.machine.now.state) before after) c.mark_rows.result c.mark_rows.ensures
-    (λ third.
-    subst (λ (j : Judge). Gains (IsAnchorId j.state) before after) c.machine.view_is
-    (gains_anchors (judge_of c.machine.inside).state rows
-    (λ k. ap (λ m. get m k) (sym c.handles.ensures.handles)
-    ∙ get-by_place (map (option_map handle_of) rows) k)
-    before c.mark_all.new.self c.mark_queue.new.self after c.in_ok-mark_all.ensures c.in_ok-mark_queue.ensures
-    third))
+pub returns-clause-gains : goal.returns-clause-gains
+returns-clause-gains c =
+    subst (λ (j : Judge). Gains (IsAnchorId j.state) c.args.marks.now c.note_handles.new.marks)
+    c.machine.view_is
+    (gains_anchors (judge_of c.machine.inside).state c.args.slots.now
+    (keys_listed (judge_of c.machine.inside).state.handles c.args.slots.now
+    (c.requires.slots ∙ ap (λ (j : Judge). keys j.state.handles) (sym c.machine.view_is)))
+    c.args.marks.now c.mark_all.new.self c.mark_queue.new.self c.note_handles.new.marks
+    c.in_ok-mark_all.ensures c.in_ok-mark_queue.ensures c.in_ok-note_handles.ensures.held)
+
+pub returns-clause-listed : goal.returns-clause-listed
+returns-clause-listed c =
+    let s = (judge_of c.machine.inside).state in
+    let slots = c.args.slots.now in
+    let entries = c.args.entries.now in
+    let attached = c.add_slots.new.self in
+    let handle_pairs = pairs_in (map (get s.handles) slots) in
+    let entry_pairs = pairs_in (map (attaching_at s.weak) entries) in
+    subst (λ (j : Judge). ListsAttached j.state attached) c.machine.view_is
+    (lists_attached s attached slots entries
+    (keys_listed s.handles slots
+    (c.requires.slots ∙ ap (λ (j : Judge). keys j.state.handles) (sym c.machine.view_is)))
+    (keys_listed s.weak entries
+    (c.requires.entries ∙ ap (λ (j : Judge). keys j.state.weak) (sym c.machine.view_is)))
+    (subst (λ (j : Judge). (k : ℕ) → IsSome (get j.state.weak k) → get j.state.handles k ≡ None)
+    (sym c.machine.view_is) c.requires.formed.weak.apart)
+    (from_none c.none-attached.result attached _ c.none-attached.ensures
+    (adds_then c.none-attached.result c.note_handles.new.attached attached handle_pairs entry_pairs
+    c.in_ok-note_handles.ensures.pairs c.in_ok-add_slots.ensures)))

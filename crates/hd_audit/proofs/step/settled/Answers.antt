@@ -2,8 +2,9 @@ use Rattle.std.proofs.Common.{refl, subst, sym}
 use Rattle.hd_model.specs.declared.command.Cmd.{Cmd}
 use Rattle.hd_model.specs.Step.{collects, way_of}
 use Rattle.hd_audit.specs.declared.choice.Choice.{Choice}
-use Rattle.hd_audit.specs.declared.made.Made.{Made}
-use Rattle.hd_audit.specs.Commands.{GoesBy, made_of}
+use Rattle.hd_commands.specs.declared.done.Done.{Done}
+use Rattle.hd_audit.specs.Commands.{GoesBy}
+use Rattle.hd_commands.specs.Done.{done_of}
 use Rattle.hd_audit.proofs.StepWays.{collect_goes, root_goes}
 use Rattle.hd_audit.proofs.step.settled.Goals as goal
 
@@ -20,7 +21,7 @@ returns-in_ok-report-in-Collect c =
     (λ (k : Cmd). (x : Cmd)
     → GoesBy c.args.caller x (way_of old.state c.args.caller k) choice old new c.of.result)
     (sym c.in-Collect.is)
-    (subst (λ (m : Made). (x : Cmd) → GoesBy c.args.caller x (collects c.in-Collect.n) choice old new m)
+    (subst (λ (m : Done). (x : Cmd) → GoesBy c.args.caller x (collects c.in-Collect.n) choice old new m)
     (sym c.of.ensures)
     (collect_goes c.args.caller choice old new c.in-Collect.n found.report found.ensures.collects
     found.ensures.numbers))
@@ -32,6 +33,6 @@ returns-in_ok-reply_root-in-GcRoot c =
     λ (choice : Choice).
     subst
     (λ (k : Cmd). (x : Cmd)
-    → GoesBy c.args.caller x (way_of old.state c.args.caller k) choice old old (made_of found.field-0))
+    → GoesBy c.args.caller x (way_of old.state c.args.caller k) choice old old (done_of found.field-0))
     (sym c.in-GcRoot.is)
     (root_goes c.args.caller choice old old c.in-GcRoot.s found.field-0 refl found.ensures)

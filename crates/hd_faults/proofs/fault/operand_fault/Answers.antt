@@ -1,7 +1,7 @@
 use Rattle.hd_script.proofs.Basics.{List, ap, arith, drop, refl, sym, ℕ, ◌∙◌}
 use Rattle.hd_faults.specs.Causes.{operand_cause}
 use Rattle.hd_faults.specs.Placed.{bytes_of, words_from}
-use Rattle.hd_faults.specs.declared.operand.Operand.TheVariants.{Object}
+use Rattle.hd_model.specs.declared.operand.Operand.TheVariants.{Object}
 use Rattle.hd_faults.proofs.CauseSteps.{goes_on, next_left, no_operand, stands_after}
 use Rattle.hd_faults.proofs.fault.operand_fault.Goals as goal
 

@@ -9,4 +9,4 @@ returns-in-Some c = c.link_to.ensures c.args.from c.in-Some.ensures
 
 pub returns-in-None : goal.returns-in-None
 returns-in-None c =
-    no_source c.args.ids.now c.args.from c.args.to c.args.links.now c.requires.chained c.in-None.ensures
+    no_source c.args.ids.now c.args.from c.args.to c.args.pairs.now.items c.in-None.ensures

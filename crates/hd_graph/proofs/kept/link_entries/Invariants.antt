@@ -5,4 +5,4 @@ use Rattle.hd_graph.proofs.kept.link_entries.Given as goal
 
 abbrev pub invariant-loop-entry : goal.invariant-loop-entry
 invariant-loop-entry l = LinksBy l.ids (λ x y. list_any (is_attached_in x y) (take l.entry-index l.entries))
-    l.fn.links l.links
+    l.fn.pairs.items l.pairs.items

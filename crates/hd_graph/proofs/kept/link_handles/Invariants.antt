@@ -5,4 +5,4 @@ use Rattle.hd_graph.proofs.kept.link_handles.Given as goal
 
 abbrev pub invariant-loop-handle : goal.invariant-loop-handle
 invariant-loop-handle l = LinksBy l.ids (λ x y. list_any (is_attached_by x y) (take l.handle-index l.handles))
-    l.fn.links l.links
+    l.fn.pairs.items l.pairs.items

@@ -1,16 +1,34 @@
-use Rattle.std.proofs.Common.{All, List, ap, map, refl, subst, sym, ℕ, ◌<◌, ◌∙◌}
-use Rattle.hd_path.specs.Graphs.{turned_edge}
-use Rattle.hd_path.proofs.GraphChains.{graph_is, turned_inside}
+use Rattle.std.proofs.Common.{List, None, subst, ◌∙◌}
+use Rattle.hd_path.proofs.GraphChains.{begun_nodes, in_turn, started_inside}
+use Rattle.hd_walk.specs.declared.trail.Found.{Found}
+use Rattle.hd_walk.specs.Rows.{IsNode, LeadsTo, in_order}
+use Rattle.hd_walk.specs.Trail.{with_all}
+use Rattle.hd_walk.specs.Walk.{HasEnded}
 use Rattle.hd_path.proofs.chains.graph_of.Goals as goal
 
-pub rows_of-requires-2 : goal.rows_of-requires-2
-rows_of-requires-2 c =
-    subst (λ (l : List (ℕ × ℕ)). All (λ (p : ℕ × ℕ). (p.0 < c.args.nodes) × (p.1 < c.args.nodes)) l)
-    (sym (c.in_ok-turned.ensures ∙ ap (map turned_edge) c.deref.ensures.value))
-    (turned_inside c.args.nodes c.args.edges.items c.requires.edges)
+pub walk-requires-clause-nodes : goal.walk-requires-clause-nodes
+walk-requires-clause-nodes c =
+    begun_nodes c.sort.new.nodes.items c.in_ok-rows.ensures.rows
+    (started_inside c.in_ok-rows.ensures.count c.sort.ensures.permutation c.requires.starts)
+    (in_turn c.sort.new.nodes.items c.sort.ensures.rising)
+    (c.in_ok-add_all.ensures ∙ (λ i. with_all (c.open-trail.ensures i) (c.deref.ensures.value i) None))
 
 pub returns : goal.returns
 returns c =
-    graph_is c.args.nodes c.args.edges.items c.in_ok-turned.turned.items c.args.starts.items _ refl
-    (c.in_ok-turned.ensures ∙ ap (map turned_edge) c.deref.ensures.value) c.in_ok-forward.ensures
-    c.in_ok-backward.ensures refl c.requires.starts
+    let r = c.in_ok-rows.rows in record {
+      sound = record {
+        rows = c.in_ok-rows.ensures.rows;
+        starts = started_inside c.in_ok-rows.ensures.count c.sort.ensures.permutation c.requires.starts;
+        ordered = in_turn c.sort.new.nodes.items c.sort.ensures.rising;
+        end = c.in_ok-_none._none;
+        ended = subst
+            (λ (xs : List Found). HasEnded (IsNode r.places.items r.targets.items r.nodes)
+            (LeadsTo r.places.items r.targets.items) in_order None xs 0 c.walk.new.trail c.in_ok-_none._none)
+            (c.in_ok-add_all.ensures
+            ∙ (λ i. with_all (c.open-trail.ensures i) (c.deref.ensures.value i) None)) c.in_ok-_none.ensures;
+      };
+      count = c.in_ok-rows.ensures.count;
+      only = c.in_ok-rows.ensures.only;
+      all = c.in_ok-rows.ensures.all;
+      begins = c.sort.ensures.permutation;
+    }

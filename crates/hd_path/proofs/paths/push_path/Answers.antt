@@ -1,4 +1,4 @@
-use Rattle.std.proofs.Common.{All, Contains, List, Option, ap, arith, subst, sym, ℕ, ◌++◌, ◌<◌, ◌∙◌, ◌≡◌}
+use Rattle.std.proofs.Common.{All, Contains, List, Option, ap, subst, sym, ℕ, ◌++◌, ◌<◌, ◌∙◌, ◌≡◌}
 use Rattle.std.specs.List.Sorted.{IsNonDecreasingBy, IsPermutation}
 use Rattle.std.specs.Prelude.{codes}
 use Rattle.std.proofs.lemmas.Result.{IfOk-weaker}
@@ -32,10 +32,8 @@ returns-in_default c =
     ++ path_line c.args.id (missing_word (made_in l c.args.id))) c.deref.ensures.value))
     c.push_missing.ensures
 
-pub chain_to-requires-clause-goal : goal.chain_to-requires-clause-goal
-chain_to-requires-clause-goal c =
-    let at = c.requires.index.found c.args.id.0 c.in-Some.node (sym c.in-Some.ensures) in
-    omega (arith, at.0, c.requires.graph.count)
+pub chain_to-requires : goal.chain_to-requires
+chain_to-requires c = c.requires.graph.sound
 
 -- the chain that was found
 least : (c : In-Some-2)

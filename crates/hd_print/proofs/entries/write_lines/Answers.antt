@@ -24,7 +24,7 @@ returns-in_err-write_all-clause-broke_off g c =
     let failed = err_from_is_err_and c.from_residual.result c.from_residual.ensures.1 in
     rw failed.1 (broke_in_line c.args.journal.now.entries loop.i c.entry-entry.result (omega arith)
     c.entry-entry.ensures c.requires loop.counts loop.invariant.counts number.result number.ensures.number
-    (line_by c.args.full) _ _ _ c.as_bytes.result.now loop.invariant.lines its_line
+    (line_by c.args.form) _ _ _ c.as_bytes.result.now loop.invariant.lines its_line
     c.in_err-write_all.ensures.broke_off)
 
 pub loop-i-preserved : goal.loop-i-preserved
@@ -34,7 +34,7 @@ loop-i-preserved g c =
     let its_line = c.as_bytes.ensures ∙ c.set_line.ensures in record {
       lines = took_line c.args.journal.now.entries loop.i c.entry-entry.result (omega arith)
           c.entry-entry.ensures c.requires loop.counts loop.invariant.counts number.result
-          number.ensures.number (line_by c.args.full) _ _ _ c.as_bytes.result.now loop.invariant.lines
+          number.ensures.number (line_by c.args.form) _ _ _ c.as_bytes.result.now loop.invariant.lines
           its_line
           c.in_ok-write_all.ensures.all;
       counts = counts_more c.args.journal.now.entries loop.i c.entry-entry.result (omega arith)

@@ -8,6 +8,6 @@ invariant-loop-i g l =
     let seen = g.K.Sink.seen in
     let done = take l.i l.journal.entries in
     record {
-      lines : Took (seen l.fn.sink) (seen l.sink) (lines_by l.full done);
+      lines : Took (seen l.fn.sink) (seen l.sink) (lines_by l.form done);
       counts : (c : ℕ) → c < CALLERS → get_or l.counts c 0 ≡ count_by (λ (e : Entry). e.caller == c) done;
     }

@@ -1,10 +1,9 @@
-use Rattle.std.proofs.Common.{◌≡◌, ◌<◌, ◌≤◌, ◌^◌, All, length, map, take, vec_capacity}
+use Rattle.std.proofs.Common.{◌≡◌, ◌≤◌, length, map, take, vec_capacity}
 use Rattle.hd_root.specs.Anchors.{anchor_of}
 use Rattle.hd_root.proofs.anchors.identified.Given as goal
 
 abbrev pub invariant-loop-at : goal.invariant-loop-at
 invariant-loop-at l = record {
   items : l.listed.items ≡ map (anchor_of l.heap) (take l.at-index l.anchors);
-  small : All (λ x. x.id < 2 ^ 64) l.listed.items;
   room : length l.anchors ≤ vec_capacity l.listed;
 }

@@ -26,6 +26,7 @@ returns-clause-value c =
       c.number_of-heap.ensures,
       c.number_of-blocks.ensures,
       c.number_of-rounds.ensures,
+      c.of-2.ensures,
       c.is_given-slots.ensures,
     )
     (asked_mode (found_of c.args.matches.now) c.in_ok-get_str.field-0.now (Some c.in_ok-mode.mode)
@@ -39,6 +40,7 @@ returns-clause-limits c =
       c.number_of-heap.ensures,
       c.number_of-blocks.ensures,
       c.number_of-rounds.ensures,
+      c.of-2.ensures,
       c.is_given-slots.ensures,
     )
     (asked_in_limits (found_of c.args.matches.now) c.in_ok-mode.mode c.requires)

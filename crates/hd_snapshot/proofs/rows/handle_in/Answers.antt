@@ -1,7 +1,7 @@
 use Rattle.std.proofs.Common.{Some, ap, option_map, sym, ◌∙◌}
 use Rattle.hd_model.specs.declared.data.Id.{Id}
 use Rattle.hd_model.specs.State.{Handle}
-use Rattle.hd_store.specs.Info.{extra_seen as extra_told}
+use Rattle.hd_commands.specs.Handles.{extra_of}
 use Rattle.hd_seen.specs.Seen.{extra_seen, handle_seen}
 use Rattle.hd_snapshot.proofs.StoreSlots.{handle_block}
 use Rattle.hd_snapshot.proofs.rows.handle_in.Goals as goal
@@ -26,7 +26,7 @@ returns c =
       slot = c.args.slot;
       kind = c.in_ok-info.info.kind;
       target = c.in_ok-info.info.target;
-      extra = extra_seen (extra_told c.in_ok-info.info.extra);
+      extra = extra_seen (extra_of c.in_ok-info.info.extra);
       age = c.age.ensures i;
     }))
     ∙ sym (ap (option_map (λ (h : Handle Id). handle_seen c.args.store.now.ages (c.args.slot.0, h)))

@@ -1,4 +1,4 @@
-use Rattle.hd_store.proofs.StoreWords.{Done, KeepsPlaces, None, Zero, entry_of, subst, sym, ◌∙◌}
+use Rattle.hd_store.proofs.StoreWords.{Done, KeepsPlaces, None, Zero, entry_by, subst, sym, ◌∙◌}
 use Rattle.hd_store.proofs.AddressSteps.{addr-replies, addr-refused}
 use Rattle.hd_model.specs.declared.command.Cmd.TheVariants as cmd
 use Rattle.hd_model.specs.declared.data.Reply.TheVariants as reply
@@ -12,8 +12,7 @@ returns-in-Err c =
 pub returns-in-Ok : goal.returns-in-Ok
 returns-in-Ok c =
     let m = c.args.store.now in
-    subst (λ (d : Done).
-    KeepsPlaces m (entry_of (record { caller = c.args.caller; cmd = cmd.AddrOf c.args.h }) d) m)
+    subst (λ (d : Done). KeepsPlaces m (entry_by c.args.caller (cmd.AddrOf c.args.h) d) m)
     (sym (c.of.ensures
     ∙ (λ i. record { reply = reply.Place (c.place.ensures.value i); slot = None; grown = Zero })))
     (addr-replies m c.args.caller c.args.h c.requires.caller c.requires.register c.in-Ok.at

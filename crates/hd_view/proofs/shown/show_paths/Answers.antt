@@ -1,21 +1,11 @@
-use Rattle.std.proofs.Common.{None, subst}
-use Rattle.hd_io.specs.Sink.{Took}
+use Rattle.std.proofs.Common.{None}
 use Rattle.hd_view.specs.Shown.{AreChains}
-use Rattle.hd_view.proofs.ShownClaims.{broke_off, written}
+use Rattle.hd_view.proofs.ShownClaims.{promised}
 use Rattle.hd_view.proofs.shown.show_paths.Goals as goal
 
-pub returns-in-Ok-write_all : goal.returns-in-Ok-write_all
-returns-in-Ok-write_all g c =
-    written (AreChains c.args.ids.now) c.args.limits.now None (g.S.Source.seen c.args.source.now)
-    (g.S.Source.seen c.chains_of.new.source) (g.K.Sink.seen c.args.out.now)
-    (g.K.Sink.seen c.write_all.new.sink)
-    c.in-Ok.text.items c.in-Ok.ensures.shown
-    (subst (Took (g.K.Sink.seen c.args.out.now) (g.K.Sink.seen c.write_all.new.sink)) c.deref.ensures.value
-    c.in-Ok-write_all.ensures.all)
-
-pub returns-in-Ok : goal.returns-in-Ok
-returns-in-Ok g c =
-    broke_off (AreChains c.args.ids.now) c.args.limits.now None (g.S.Source.seen c.args.source.now)
-    (g.S.Source.seen c.chains_of.new.source) (g.K.Sink.seen c.args.out.now)
-    (g.K.Sink.seen c.write_all.new.sink)
-    c.deref.result.now c.in-Err-write_all.ensures.broke_off
+pub returns : goal.returns
+returns g c =
+    promised (AreChains c.args.ids.now) c.args.limits.now None (g.S.Source.seen c.args.source.now)
+    (g.S.Source.seen c.chains_of-shown.new.source) (g.K.Sink.seen c.args.out.now)
+    (g.K.Sink.seen c.write_shown.new.out) c.chains_of-shown.result (λ v. v.items) c.write_shown.result
+    c.chains_of-shown.ensures.shown c.chains_of-shown.ensures.stopped c.write_shown.ensures

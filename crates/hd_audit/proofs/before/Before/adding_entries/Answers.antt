@@ -6,6 +6,8 @@ use Rattle.hd_model.specs.declared.data.Slot.{Slot}
 use Rattle.hd_model.specs.declared.command.Cmd.TheVariants.{CAdd}
 use Rattle.hd_model.specs.declared.data.Entry.{Entry}
 use Rattle.hd_model.specs.declared.data.Refusal.TheVariants as refusal
+use Rattle.hd_commands.specs.Done.{entry_by}
+use Rattle.hd_commands.specs.declared.done.Done.{Done}
 use Rattle.hd_audit.specs.Before.{HasExactly, HasOne, TakesSlot}
 use Rattle.hd_audit.specs.Known.{Known}
 use Rattle.hd_audit.proofs.EntryChoices.{adding_idle, adding_new, adding_refused, meets_idle, meets_new, meets_null, meets_present}
@@ -19,8 +21,8 @@ pub returns-in_default : goal.returns-in_default
 returns-in_default c =
     let j = c.self.inside.judged.machine in
     let cmd = CAdd c.args.k c.args.v in
-    subst (λ (k : Known). HasOne k.numbers k.state c.args.caller cmd c.refused.result) c.self.view_is
-    (subst (λ (e : Entry). HasOne j.numbers j.state c.args.caller cmd e) (sym c.refused.ensures)
+    subst (λ (k : Known). HasOne k.numbers k.state c.args.caller cmd c.entry_of.result) c.self.view_is
+    (subst (λ (e : Entry). HasOne j.numbers j.state c.args.caller cmd e) (sym c.entry_of.ensures)
     (adding_refused j.numbers j.state c.args.caller c.args.k c.args.v cmd
     (subst (λ (k : Known). c.args.caller < k.numbers.callers) (sym c.self.view_is) c.requires.caller)
     c.requires.valid refl refusal.Null
@@ -32,9 +34,9 @@ returns-then-is_some c =
     let cmd = CAdd c.args.k c.args.v in
     let there = some_value (slot_of_key j.state c.in-Some.key)
     (ap is_some (sym c.slot_of.ensures) ∙ sym c.is_some.ensures ∙ c.if-is_some.true) in
-    subst (λ (k : Known). HasOne k.numbers k.state c.args.caller cmd c.refused-then-is_some.result)
+    subst (λ (k : Known). HasOne k.numbers k.state c.args.caller cmd c.entry_of-then-is_some.result)
     c.self.view_is
-    (subst (λ (e : Entry). HasOne j.numbers j.state c.args.caller cmd e) (sym c.refused-then-is_some.ensures)
+    (subst (λ (e : Entry). HasOne j.numbers j.state c.args.caller cmd e) (sym c.entry_of-then-is_some.ensures)
     (adding_refused j.numbers j.state c.args.caller c.args.k c.args.v cmd
     (subst (λ (k : Known). c.args.caller < k.numbers.callers) (sym c.self.view_is) c.requires.caller)
     c.requires.valid refl refusal.Present
@@ -44,8 +46,9 @@ pub returns-in-Some-idle : goal.returns-in-Some-idle
 returns-in-Some-idle c =
     let j = c.self.inside.judged.machine in
     let cmd = CAdd c.args.k c.args.v in
-    subst (λ (k : Known). HasOne k.numbers k.state c.args.caller cmd c.done.result) c.self.view_is
-    (subst (λ (e : Entry). HasOne j.numbers j.state c.args.caller cmd e) (sym c.done.ensures)
+    subst (λ (k : Known). HasOne k.numbers k.state c.args.caller cmd c.entry_of-in-Some-idle.result) c.self.view_is
+    (subst (λ (e : Entry). HasOne j.numbers j.state c.args.caller cmd e) (sym (c.entry_of-in-Some-idle.ensures
+    ∙ ap (λ (m : Done). entry_by c.args.caller cmd m) c.in_slot-done.ensures))
     (adding_idle j.numbers j.state c.args.caller c.args.k c.args.v cmd
     (subst (λ (k : Known). c.args.caller < k.numbers.callers) (sym c.self.view_is) c.requires.caller)
     c.requires.valid refl c.in-Some-idle.slot c.in-Some.key

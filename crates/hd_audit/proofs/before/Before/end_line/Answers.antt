@@ -1,6 +1,14 @@
-use Rattle.std.proofs.Common.{arith}
+use Rattle.std.proofs.Common.{ap, arith}
+use Rattle.std.specs.FinMap.{len}
+use Rattle.hd_audit.specs.Judge.{Judge}
 use Rattle.hd_audit.proofs.JudgedLines.{objects_fit}
 use Rattle.hd_audit.proofs.before.Before.end_line.Goals as goal
 
 pub overflow_cast-objects : goal.overflow_cast-objects
-overflow_cast-objects c = omega (arith, objects_fit c.self.invariant.1, c.objects_len-objects.ensures)
+overflow_cast-objects c =
+    omega (
+      arith,
+      objects_fit c.self.invariant.1,
+      c.len-objects.ensures,
+      ap (λ (j : Judge). len j.state.objects) c.machine.view_is,
+    )

@@ -1,16 +1,40 @@
-use Rattle.std.proofs.Common.{subst, sym}
+use Rattle.std.proofs.Common.{ap, subst, sym}
+use Rattle.hd_audit.specs.Judge.{IsYoungest, Judge}
 use Rattle.hd_model.specs.Collect.{CollectsState}
-use Rattle.hd_audit.specs.Found.{findings_of}
-use Rattle.hd_audit.proofs.CollectedState.{collected}
+use Rattle.hd_audit.proofs.IdleState.{idle}
+use Rattle.hd_audit.proofs.WholeCollection.{few, whole, youngest_after}
 use Rattle.hd_audit.proofs.machine.Machine.collect.Goals as goal
+
+pub returns-then-youngest-n-clause-collects : goal.returns-then-youngest-n-clause-collects
+returns-then-youngest-n-clause-collects c =
+    idle c.args.n c.args.self.now.numbers c.args.self.now.state c.requires.formed c.youngest-youngest.result
+    c.youngest-youngest.ensures.from c.if-youngest-n.true c.forget.new.self.state c.in_ok-forget.ensures.each
+    (ap (λ (j : Judge). j.state) c.in_ok-forget.ensures.rest)
+
+pub raise_youngest-requires : goal.raise_youngest-requires
+raise_youngest-requires c =
+    subst (λ g. IsYoungest g c.change.new.self.state.objects) (sym c.raised.ensures)
+    (youngest_after c.args.n c.args.self.now.numbers c.args.self.now.state c.forget-2.new.self.state
+    c.change.new.self.state c.requires.formed c.in_ok-walk.walk c.in_ok-walk.ensures c.in_ok-decided.decided
+    c.in_ok-decided.ensures.reached c.in_ok-decided.ensures.kept c.in_ok-changes.changes
+    (ap (λ (j : Judge). j.state) c.in_ok-forget-2.ensures.rest) c.in_ok-changes.ensures.passes
+    c.youngest-youngest.result c.youngest-youngest.ensures)
+
+pub report-requires : goal.report-requires
+report-requires c =
+    few c.args.n c.args.self.now.numbers c.args.self.now.state c.forget-2.new.self.state
+    c.change.new.self.state c.requires.formed c.in_ok-walk.walk c.in_ok-walk.ensures c.in_ok-decided.decided
+    c.in_ok-decided.ensures.reached c.in_ok-decided.ensures.kept c.in_ok-changes.changes
+    (ap (λ (j : Judge). j.state) c.in_ok-forget-2.ensures.rest) c.in_ok-changes.ensures.passes
 
 pub returns-clause-collects : goal.returns-clause-collects
 returns-clause-collects c =
-    let found = c.in_ok-found.ensures.found in
-    subst (λ r. CollectsState c.args.n c.args.self.now.state c.apply.new.self.state r) (sym c.report.ensures)
-    (collected found.reach found.kept c.args.n c.args.self.now.numbers c.args.self.now.state c.requires.formed
-    (findings_of c.in_ok-found.found) found.finds found.reach_is found.kept_is c.apply.new.self.state
-    c.in_ok-apply.ensures.0)
-
-pub returns-clause-numbers : goal.returns-clause-numbers
-returns-clause-numbers c = c.in_ok-apply.ensures.1
+    subst (λ (j : Judge). CollectsState c.args.n c.args.self.now.state j.state c.report.result)
+    (sym c.raise_youngest.ensures)
+    (subst (λ r. CollectsState c.args.n c.args.self.now.state c.change.new.self.state r)
+    (sym c.report.ensures)
+    (whole c.args.n c.args.self.now.numbers c.args.self.now.state c.forget-2.new.self.state
+    c.change.new.self.state c.requires.formed c.in_ok-walk.walk c.in_ok-walk.ensures c.in_ok-decided.decided
+    c.in_ok-decided.ensures.reached c.in_ok-decided.ensures.kept c.in_ok-changes.changes
+    (ap (λ (j : Judge). j.state) c.in_ok-forget-2.ensures.rest) c.in_ok-changes.ensures.passes
+    c.in_ok-forget-2.ensures.each))

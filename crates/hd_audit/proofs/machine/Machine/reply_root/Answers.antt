@@ -1,5 +1,6 @@
 use Rattle.std.proofs.Common.{sym, ◌∙◌}
-use Rattle.hd_audit.proofs.RootReplies.{found_chain, found_none, root_null}
+use Rattle.std.proofs.lemmas.Option.{MatchOption-at_none, MatchOption-at_some}
+use Rattle.hd_audit.proofs.RootReplies.{root_chain, root_none, root_null}
 use Rattle.hd_audit.proofs.machine.Machine.reply_root.Goals as goal
 
 pub returns-in_default : goal.returns-in_default
@@ -8,11 +9,13 @@ returns-in_default c =
 
 pub returns-in-Some-found : goal.returns-in-Some-found
 returns-in-Some-found c =
-    found_chain c.args.self.now c.args.caller c.args.s c.in-Some.goal (sym c.register.ensures ∙ c.in-Some.is)
-    c.of.result c.in_ok-found.found c.in_ok-found.ensures.shortest c.in-Some-found.field-0 c.in-Some-found.is
-    c.of.ensures
+    let o = c.in-Some-found.field-0 in
+    root_chain c.args.self.now c.args.caller c.args.s c.in-Some.goal (sym c.register.ensures ∙ c.in-Some.is)
+    c.of.result o.from o.edges c.of.ensures
+    (MatchOption-at_some _ _ o c.in-Some-found.is c.in_ok-found.ensures.shortest)
 
 pub returns-in-None : goal.returns-in-None
 returns-in-None c =
-    found_none c.args.self.now c.args.caller c.args.s c.in-Some.goal (sym c.register.ensures ∙ c.in-Some.is)
-    c.of-in-None.result c.in_ok-found.found c.in_ok-found.ensures.shortest c.in-None.is c.of-in-None.ensures
+    root_none c.args.self.now c.args.caller c.args.s c.in-Some.goal (sym c.register.ensures ∙ c.in-Some.is)
+    c.of-in-None.result c.of-in-None.ensures
+    (MatchOption-at_none _ _ c.in-None.is c.in_ok-found.ensures.shortest)

@@ -3,7 +3,7 @@ use Rattle.std.specs.Prelude.{Result}
 use Rattle.hd_model.specs.declared.data.Entry.{Entry}
 use Rattle.hd_model.specs.declared.data.Refusal.{Refusal}
 use Rattle.hd_model.specs.Step.{way_of}
-use Rattle.hd_audit.specs.declared.made.Made.{Made}
+use Rattle.hd_commands.specs.declared.done.Done.{Done}
 use Rattle.hd_audit.specs.Commands.{IsTheStep, WayComesTo}
 use Rattle.hd_audit.proofs.StepWays.{way_steps, way_stops}
 use Rattle.hd_audit.proofs.machine.Machine.step.Goals as goal
@@ -16,7 +16,7 @@ returns-in-Some c =
     subst (λ (e : Entry). IsTheStep old c.args.cmd choice e new) (sym c.entry_of.ensures)
     (way_steps old new c.args.cmd choice c.requires c.in-Some.made
     (subst
-    (λ (o : Option (Result Made Refusal)).
+    (λ (o : Option (Result Done Refusal)).
     WayComesTo choice.caller (way_of old.state choice.caller c.args.cmd) choice old new o)
     c.in-Some.is c.in_ok-made.ensures))
 
@@ -27,6 +27,6 @@ returns-in-None c =
     let new = c.make.new.machine in
     way_stops old new c.args.cmd choice c.requires
     (subst
-    (λ (o : Option (Result Made Refusal)).
+    (λ (o : Option (Result Done Refusal)).
     WayComesTo choice.caller (way_of old.state choice.caller c.args.cmd) choice old new o)
     c.in-None.is c.in_ok-made.ensures)

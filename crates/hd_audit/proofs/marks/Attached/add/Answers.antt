@@ -1,6 +1,7 @@
-use Rattle.std.proofs.Common.{Global, List, Option, Vec, [], ap, option_map, subst, sym, unwrap_or, ℕ, ◌++◌, ◌∙◌, ◌∷◌, ◌≡◌}
+use Rattle.std.proofs.Common.{Global, List, Option, Vec, [], ap, option_map, subst, sym, unwrap_or, ℕ, ◌++◌, ◌∙◌, ◌∷◌}
 use Rattle.std.specs.FinMap as map
-use Rattle.hd_audit.proofs.AttachedLists.{adds_one, if_inserted}
+use Rattle.std.proofs.lemmas.Result.{MatchResult-weaker}
+use Rattle.hd_audit.proofs.AttachedLists.{adds_one}
 use Rattle.hd_audit.specs.Attaching.{Adds, pair_of}
 use Rattle.hd_audit.proofs.marks.Attached.add.Goals as goal
 
@@ -15,12 +16,9 @@ returns-in-Ok c =
     (c.or_empty-list.ensures
     ∙ ap (λ (o : Option (Vec ℕ Global)). unwrap_or (option_map (λ l. l.items) o) [])
     c.remove.ensures.1) in
-    if_inserted (c.insert.new.self ≡ map.insert c.remove.new.self from list)
-    (c.insert.new.self ≡ c.remove.new.self)
-    (Adds c.args.self.now (record { lists = c.insert.new.self }) (pair_of c.args.target c.args.secondary))
-    c.insert.result c.insert.ensures (λ e.
+    MatchResult-weaker c.insert.result c.insert.ensures (λ _ e.
     subst (λ ps. Adds c.args.self.now (record { lists = c.insert.new.self }) ps)
     (sym (λ i. pair_of (c.in-Some.is i) (c.in-Some-secondary.is i)))
     (subst (λ m. Adds c.args.self.now (record { lists = m }) ((from, to) ∷ []))
     (sym (e ∙ ap (λ m. map.insert m from list) c.remove.ensures.0))
-    (adds_one old list from to items)))
+    (adds_one old list from to items))) (λ _ _. tt)

@@ -1,23 +1,18 @@
-use Rattle.std.proofs.Common.{arith, refl}
-use Rattle.hd_audit.proofs.TableCalls.{few_given, same_blocks, given_to, use_put, block_low}
+use Rattle.std.proofs.Common.{ap, arith, subst, sym, ◌∙◌}
+use Rattle.std.specs.FinMap.{insert}
+use Rattle.hd_audit.specs.Inside.{IsTable}
+use Rattle.hd_audit.specs.Judge.{TableView}
+use Rattle.hd_audit.proofs.TableCalls.{seen_given, use_put}
 use Rattle.hd_audit.proofs.table.Table.give.Goals as goal
 
-pub overflow_add-self : goal.overflow_add-self
-overflow_add-self c =
-    omega (
-      arith,
-      few_given c.self.invariant c.self.view_is,
-      c.self.invariant.limit,
-      c.requires.within,
-      same_blocks c.self.invariant c.self.view_is,
-    )
-
-pub invariant_of-self : goal.invariant_of-self
-invariant_of-self c =
-    given_to c.self.invariant c.self.view_is c.args.block c.args.given c.requires.unused
-    (block_low c.self.invariant c.self.view_is c.args.block c.requires.within) _ refl
+pub invariant_of-self-2 : goal.invariant_of-self-2
+invariant_of-self-2 c =
+    subst (λ m. IsTable c.self.inside.blocks c.self.inside.handles m)
+    (sym (c.in_ok-insert.ensures ∙ ap (λ q. insert c.self.inside.uses q c.args.given) c.from.ensures))
+    (use_put c.self.invariant c.args.block c.args.given
+    (omega (arith, c.requires, ap (λ (t : TableView). t.blocks) c.self.view_is)))
 
 pub returns : goal.returns
 returns c =
-    use_put c.self.invariant c.self.view_is c.args.block c.args.given
-    (block_low c.self.invariant c.self.view_is c.args.block c.requires.within)
+    seen_given c.self.invariant c.self.view_is _ c.args.block c.args.given
+    (c.in_ok-insert.ensures ∙ ap (λ q. insert c.self.inside.uses q c.args.given) c.from.ensures)

@@ -1,8 +1,6 @@
 use Rattle.std.proofs.Common.{IsSome, ℕ, ◌<◌, ◌≤◌}
 use Rattle.std.specs.FinMap.{get}
-use Rattle.hd_audit.specs.Inside.{uses_in}
 use Rattle.hd_audit.proofs.table.Table.least_unused.Given as goal
 
 abbrev pub invariant-loop-block : goal.invariant-loop-block
-invariant-loop-block l =
-    (b : ℕ) → l.from ≤ b → b < l.block → IsSome (get (uses_in l.self-inside.uses.items) b)
+invariant-loop-block l = (b : ℕ) → l.from ≤ b → b < l.block → IsSome (get l.self.uses b)

@@ -3,10 +3,9 @@ use Rattle.hd_audit.proofs.table.Table.open.Goals as goal
 
 pub invariant_of-result : goal.invariant_of-result
 invariant_of-result c =
-    opened c.args.blocks c.in_ok-handles.handles.items c.in_ok-uses.uses.items c.requires
-    c.in_ok-handles.ensures c.in_ok-uses.ensures
+    opened c.args.blocks c.new-handles.result c.new-uses.result c.requires c.new-handles.ensures
+    c.new-uses.ensures
 
 pub returns : goal.returns
 returns c =
-    seen_open c.args.blocks c.in_ok-handles.handles.items c.in_ok-uses.uses.items c.in_ok-handles.ensures
-    c.in_ok-uses.ensures
+    seen_open c.args.blocks c.new-handles.result c.new-uses.result c.new-handles.ensures c.new-uses.ensures

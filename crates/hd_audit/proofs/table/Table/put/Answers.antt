@@ -1,17 +1,14 @@
-use Rattle.std.proofs.Common.{arith, refl}
-use Rattle.hd_audit.proofs.TableCalls.{few_live, put_in, row_put, slot_low}
+use Rattle.std.proofs.Common.{ap, arith, subst, sym}
+use Rattle.hd_audit.specs.Inside.{IsTable}
+use Rattle.hd_audit.specs.Judge.{TableView}
+use Rattle.hd_audit.proofs.TableCalls.{handle_put, seen_put}
 use Rattle.hd_audit.proofs.table.Table.put.Goals as goal
 
-pub overflow_add-self : goal.overflow_add-self
-overflow_add-self c =
-    omega (arith, few_live c.self.invariant c.self.view_is, c.self.invariant.slots, c.self.invariant.limit)
-
-pub invariant_of-self : goal.invariant_of-self
-invariant_of-self c =
-    put_in c.self.invariant c.self.view_is c.args.slot.0 c.args.handle c.requires.free
-    (slot_low c.self.invariant c.self.view_is c.args.slot.0 c.requires.within) _ refl
+pub invariant_of-self-2 : goal.invariant_of-self-2
+invariant_of-self-2 c =
+    subst (λ m. IsTable c.self.inside.blocks m c.self.inside.uses) (sym c.in_ok-insert.ensures)
+    (handle_put c.self.invariant c.args.slot c.args.handle
+    (omega (arith, c.requires, ap (λ (t : TableView). t.blocks) c.self.view_is)))
 
 pub returns : goal.returns
-returns c =
-    row_put c.self.invariant c.self.view_is c.args.slot.0 c.args.handle
-    (slot_low c.self.invariant c.self.view_is c.args.slot.0 c.requires.within)
+returns c = seen_put c.self.invariant c.self.view_is _ c.args.slot c.args.handle c.in_ok-insert.ensures

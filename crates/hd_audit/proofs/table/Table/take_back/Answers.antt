@@ -1,18 +1,16 @@
-use Rattle.std.proofs.Common.{arith}
-use Rattle.hd_audit.proofs.TableCalls.{use_low, taken_back, some_given, use_taken}
+use Rattle.std.proofs.Common.{ap, subst, sym, ◌∙◌}
+use Rattle.std.specs.FinMap.{remove}
+use Rattle.hd_audit.specs.Inside.{IsTable}
+use Rattle.hd_audit.proofs.TableCalls.{seen_back, use_taken}
 use Rattle.hd_audit.proofs.table.Table.take_back.Goals as goal
-
-pub index_mut-requires : goal.index_mut-requires
-index_mut-requires c =
-    omega (arith, c.self.inside.uses.ok.0, use_low c.self.invariant c.self.view_is c.args.block c.requires)
-
-pub overflow_sub-self : goal.overflow_sub-self
-overflow_sub-self c = some_given c.self.invariant c.self.view_is c.args.block c.requires
 
 pub invariant_of-self : goal.invariant_of-self
 invariant_of-self c =
-    taken_back c.self.invariant c.self.view_is c.args.block c.requires _
-    (omega (arith, some_given c.self.invariant c.self.view_is c.args.block c.requires))
+    subst (λ m. IsTable c.self.inside.blocks c.self.inside.handles m)
+    (sym (c.remove.ensures.0 ∙ ap (remove c.self.inside.uses) c.from.ensures))
+    (use_taken c.self.invariant c.args.block)
 
 pub returns : goal.returns
-returns c = use_taken c.self.invariant c.self.view_is c.args.block
+returns c =
+    seen_back c.self.invariant c.self.view_is _ c.args.block
+    (c.remove.ensures.0 ∙ ap (remove c.self.inside.uses) c.from.ensures)

@@ -3,8 +3,8 @@ use Rattle.hd_audit.proofs.weak.Weak.open.Goals as goal
 
 pub invariant_of-result : goal.invariant_of-result
 invariant_of-result c =
-    opened c.args.blocks c.in_ok-slots.slots.items c.new-by_key.result c.new-idle.result c.requires
-    c.in_ok-slots.ensures c.new-by_key.ensures c.new-idle.ensures
+    opened c.new-slots.result c.new-by_key.result c.new-idle.result c.new-slots.ensures c.new-by_key.ensures
+    c.new-idle.ensures
 
 pub returns : goal.returns
-returns c = seen_open c.args.blocks c.in_ok-slots.slots.items c.in_ok-slots.ensures
+returns c = seen_open c.new-slots.result c.new-slots.ensures

@@ -11,15 +11,15 @@ offers c =
     subst (λ x. Offers c.self.inside.pool c.offer-offered.new.pool x c.offer-offered.result)
     c.change_in-change.ensures c.offer-offered.ensures
 
-pub step-requires : goal.step-requires
-step-requires c = record {
+pub apply_uncounted-requires : goal.apply_uncounted-requires
+apply_uncounted-requires c = record {
   room = subst (λ (w : WorldView). 1 ≤ w.spare) (sym c.self.view_is) c.requires.room;
   caller =
       subst (λ (w : WorldView). c.args.caller < w.numbers.callers) (sym c.self.view_is) c.requires.caller;
   valid = c.requires.valid;
   offer = may_offer c.self.inside.world.numbers c.self.inside.world.state c.self.inside.pool
       c.offer-offered.new.pool c.self.invariant c.args.caller c.args.cmd c.offer-offered.result
-      (offers (goal.at.step-requires c).After-offer-offered);
+      (offers (goal.at.apply_uncounted-requires c).After-offer-offered);
 }
 
 pub note-requires : goal.note-requires
@@ -38,7 +38,7 @@ invariant_of-self-2 c =
 
 pub returns-clause-done : goal.returns-clause-done
 returns-clause-done c =
-    subst (λ (w : WorldView). HasCalled w c.step.new.world c.args.caller c.args.cmd c.in_ok-entry.entry.reply)
+    subst (λ (w : WorldView). HasCalled w c.apply_uncounted.new.self c.args.caller c.args.cmd c.in_ok-entry.entry.reply)
     c.self.view_is
     (has_called c.self.invariant c.offer-offered.new.pool
     (offers (goal.at.returns-clause-done c).After-offer-offered) c.in_ok-entry.ensures)

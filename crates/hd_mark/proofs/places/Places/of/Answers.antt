@@ -1,29 +1,27 @@
-use Rattle.hd_mark.proofs.Basics.{and_parts, arith, ◌<◌, ◌≡◌}
-use Rattle.std.proofs.Common.{replicate}
-use Rattle.std.proofs.lemmas.Grind.{common_steps}
-use Rattle.std.proofs.lemmas.List.{length-set}
+use Rattle.hd_mark.proofs.Basics.{and_parts, arith, ◌<◌}
+use Rattle.std.proofs.Common.{ap, length, ℕ}
+use Rattle.std.proofs.lemmas.List.{length-replicate, length-set}
 use Rattle.hd_mark.proofs.CondemnedWalks.{bare_covers, bare_placed, bare_table, placed_covers, placed_next}
-use Rattle.hd_mark.proofs.places.Places.of.Goals.{In-Ok, In-Some}
+use Rattle.hd_mark.proofs.places.Places.of.Goals.{In-Some}
 use Rattle.hd_mark.proofs.places.Places.of.Goals as goal
-
-made : (c : In-Ok) → c.resize.new.self.items ≡ replicate c.args.extent.end 0
-made c = grind (arith, common_steps, c.in-Ok.ensures.items)
 
 pub returns-then-extent-eq0 : goal.returns-then-extent-eq0
 returns-then-extent-eq0 c =
-    let made = made (goal.at.returns-then-extent-eq0 c).In-Ok in
+    let made = c.in_ok-places.ensures in
     record {
       table = bare_table _ c.args.extent.end made 0 (omega arith);
       covers = bare_covers _ c.args.extent.end made c.args.heap.now c.args.n c.args.extent.regions
           c.requires.extent.regions c.if-extent-eq0.true;
-      span = λ a has. let above = c.requires.extent.above a has in omega (arith, above, c.in-Ok.ensures.len);
+      span = λ a has.
+          let above = c.requires.extent.above a has in
+          omega (arith, above, ap length made, length-replicate {A = ℕ} c.args.extent.end 0);
     }
 
 pub loop-region-init : goal.loop-region-init
 loop-region-init c = record {
-  placed = bare_placed _ c.args.extent.end (made (goal.at.loop-region-init c).In-Ok) c.args.heap.now c.args.n
+  placed = bare_placed _ c.args.extent.end c.in_ok-places.ensures c.args.heap.now c.args.n
       c.regions-held.ensures.sound;
-  long = omega (arith, c.in-Ok.ensures.len);
+  long = omega (arith, ap length c.in_ok-places.ensures, length-replicate {A = ℕ} c.args.extent.end 0);
 }
 
 within : (c : In-Some) → c.in-Some.region < c.args.extent.end
@@ -56,7 +54,7 @@ loop-region-preserved c =
 pub returns : goal.returns
 returns c = record {
   table = c.loop-region.invariant.placed.table;
-  covers = placed_covers c.loop-region.invariant.placed c.in_default-next_condemned_region.ensures.walk;
+  covers = placed_covers c.loop-region.invariant.placed c.in_default.ensures.walk;
   span = λ a has.
       let above = c.requires.extent.above a has in omega (arith, above, c.loop-region.invariant.long);
 }

@@ -1,15 +1,15 @@
-use Rattle.hd_store.proofs.StoreWords.{Id, IsNamed, Machine, ap, extra_of, name_in, rename_extra, subst, sym, ◌∙◌}
+use Rattle.hd_store.proofs.StoreWords.{Addr, Id, IsNamed, Machine, ap, name_in, rename_extra, subst, sym, ◌∙◌}
 use Rattle.hd_model.specs.State.{Extra as ExtraIn, secondary, secondary_of}
-use Rattle.hd_seg.specs.declared.row.Extra.{Extra}
+use Rattle.hd_commands.specs.{declared.handle.Extra.Extra, Handles.extra_of}
 use Rattle.hd_store.proofs.contents.Contents.extra_info.Goals as goal
 
 -- what an extra is by identity
-abbrev named_extra : Machine → Extra → ExtraIn Id
+abbrev named_extra : Machine → Extra Addr → ExtraIn Id
 named_extra m e = rename_extra (name_in m.names) (extra_of e)
 
 pub named-requires : goal.named-requires
 named-requires c =
-    subst (λ (e : Extra). IsNamed c.args.self.now.names (secondary_of (extra_of e))) c.in-Secondary.is
+    subst (λ (e : Extra Addr). IsNamed c.args.self.now.names (secondary_of (extra_of e))) c.in-Secondary.is
     c.requires
 
 pub returns-in-Nothing : goal.returns-in-Nothing

@@ -5,8 +5,7 @@ use Rattle.hd_store.proofs.store.Store.apply.Goals as goal
 
 pub run-requires : goal.run-requires
 run-requires g c =
-    may-run c.self.inside.contents (record { caller = c.args.caller; cmd = c.args.cmd }) c.args.offer
-    c.self.invariant
+    may-run c.self.inside.contents c.args.caller c.args.cmd c.args.offer c.self.invariant
     (subst (λ (m : Machine). c.args.caller < m.numbers.callers) (sym c.self.view_is) c.requires.caller)
     c.requires.valid
     (subst (λ (m : Machine). IsOffer m.state c.args.caller c.args.cmd c.args.offer) (sym c.self.view_is)

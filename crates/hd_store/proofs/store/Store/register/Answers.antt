@@ -1,9 +1,11 @@
 use Rattle.hd_store.proofs.StoreWords.{Machine, Some, ap, register_of, subst, sym, ◌<◌, ◌∙◌}
 use Rattle.hd_store.proofs.store.Store.register.Goals as goal
 
-pub register-requires-clause-caller : goal.register-requires-clause-caller
-register-requires-clause-caller c =
-    subst (λ (m : Machine). c.args.caller < m.numbers.callers) (sym c.self.view_is) c.requires.caller
+pub register-requires : goal.register-requires
+register-requires c = (
+  subst (λ (m : Machine). c.args.caller < m.numbers.callers) (sym c.self.view_is) c.requires.caller,
+  c.requires.register,
+)
 
 pub returns-in_err-at : goal.returns-in_err-at
 returns-in_err-at c =

@@ -1,0 +1,11 @@
+use Rattle.std.proofs.Common.{drop, map, ◌≡◌}
+use Rattle.hd_audit.specs.Marked.{is_marked, with_targets}
+use Rattle.hd_audit.specs.Marking.{resurrected_at}
+use Rattle.hd_audit.proofs.machine.Machine.mark_resurrected.Given as goal
+
+abbrev pub invariant-loop-id : goal.invariant-loop-id
+invariant-loop-id l =
+    with_targets l.marks
+    (map (resurrected_at l.n (is_marked l.reached) l.self.state.objects) (drop l.id-index l.ids))
+    ≡ with_targets l.initial.marks
+    (map (resurrected_at l.n (is_marked l.reached) l.self.state.objects) l.ids)

@@ -1,0 +1,4 @@
+pub mod Seen
+pub mod Counts
+pub mod Done
+pub mod Handles

@@ -1,0 +1,263 @@
+// The commands on handles and the board.
+ghost use Rattle.std.specs.Prelude.{◌≡◌, ◌&&◌, ◌<◌, Ok, Some, true, false, cond, is_some, IfOk, IsSome, MatchResult, option_map};
+ghost use Rattle.hd_model.specs.declared.data.Kind.TheVariants as kind;
+ghost use Rattle.hd_model.specs.declared.data.Refusal.TheVariants as refusal;
+ghost use Rattle.hd_model.specs.State.{register_of, handle_at, handle_register_of, without_secondary};
+ghost use Rattle.hd_model.specs.Aging.{is_refused, lowered_at, lowered_to};
+ghost use Rattle.hd_model.specs.Table.{is_secondary};
+ghost use Rattle.hd_model.specs.WellFormed.{HasHandles};
+ghost use Rattle.hd_model.specs.Command.{get_target, set_target, set_secondary, get_secondary, set_strength, raise_count, lower_count, free_handle, with_count, put_board, pick_board};
+ghost use Rattle.hd_commands.specs.Counts.{MayCountUp};
+ghost use Rattle.hd_commands.specs.Seen.{named_in, IsNamed, MayUse, MayUseBoth};
+ghost use Rattle.hd_commands.specs.Done.{ComesTo, ComesToAged};
+ghost use Rattle.hd_commands.specs.Handles.{as_found, as_pinned, extra_of, handle_named, handle_of, live_in, pinned_in, IsWithin, MayBeStored};
+
+use crate::done::{CommandResult, Done};
+use crate::handle::{Extra, Handle};
+use crate::on_objects::load;
+use crate::parts::Parts;
+use hd_model::{Grown, Refusal, Reply, Slot, Strength};
+
+/// The slot in a handle register with its handle, which is refused where the register is empty and
+/// where the slot is not live.
+pub fn live_in<P: Parts>(parts: &P, caller: u32, h: u8) -> Result<(Slot, Handle<P::Name>), Refusal>
+    requires register { MayUse (P.seen parts.now) caller h }
+    requires handles { HasHandles (P.seen parts.now).numbers (P.seen parts.now).state }
+    ensures value { let p = P.seen parts.now in as_found p result ≡ live_in p.state caller h }
+    ensures may { IfOk result (λ found. MayBeStored (P.seen parts.now) found.0 (handle_of found.1)) }
+    ensures within { IfOk result (λ found. IsWithin (P.seen parts.now) found.0) }
+    ensures found { let s = (P.seen parts.now).state in
+        IfOk result (λ found. (handle_register_of s caller h ≡ Some found.0)
+        × (handle_at s found.0 ≡ Some (handle_named (P.seen parts.now) found.1))) }
+{
+    let Some(slot) = parts.handle_register(caller, h) else {
+        return Err(Refusal::EmptyRegister);
+    };
+    match parts.handle(slot) {
+        Some(handle) => Ok((slot, handle)),
+        None => Err(Refusal::NotLive),
+    }
+}
+
+/// `hget rD hS`.
+pub fn get_target<P: Parts>(parts: &mut P, caller: u32, d: u8, s: u8) -> CommandResult
+    requires registers { MayUseBoth (P.seen parts.old) caller d s }
+    requires handles { HasHandles (P.seen parts.old).numbers (P.seen parts.old).state }
+    ensures { let p = P.seen parts.old in
+        ComesTo (get_target p.state caller d s) p (P.seen parts.new) result }
+{
+    let (_, handle) = live_in(parts, caller, s)?;
+    Ok(load(parts, caller, d, handle.target))
+}
+
+/// `hdep rD hS`.
+pub fn get_secondary<P: Parts>(parts: &mut P, caller: u32, d: u8, s: u8) -> CommandResult
+    requires registers { MayUseBoth (P.seen parts.old) caller d s }
+    requires handles { HasHandles (P.seen parts.old).numbers (P.seen parts.old).state }
+    ensures { let p = P.seen parts.old in
+        ComesTo (get_secondary p.state caller d s) p (P.seen parts.new) result }
+{
+    let (_, handle) = live_in(parts, caller, s)?;
+    let Extra::Secondary(secondary) = handle.extra else {
+        return Err(Refusal::WrongKind);
+    };
+    Ok(load(parts, caller, d, secondary))
+}
+
+/// `hvar hS STRENGTH`.
+pub fn set_strength<P: Parts>(parts: &mut P, caller: u32, s: u8, to: Strength) -> CommandResult
+    requires register { MayUse (P.seen parts.old) caller s }
+    requires handles { HasHandles (P.seen parts.old).numbers (P.seen parts.old).state }
+    ensures { let p = P.seen parts.old in
+        ComesTo (set_strength p.state caller s to) p (P.seen parts.new) result }
+{
+    let (slot, handle) = live_in(parts, caller, s)?;
+    let Extra::Strength(_) = handle.extra else {
+        return Err(Refusal::WrongKind);
+    };
+    let extra = Extra::Strength(to);
+    parts.replace_handle(slot, Handle { extra, ..handle });
+    Ok(Done::of(Reply::Done))
+}
+
+/// `hfree hS`.
+pub fn free_handle<P: Parts>(parts: &mut P, caller: u32, s: u8) -> CommandResult
+    requires register { MayUse (P.seen parts.old) caller s }
+    requires handles { HasHandles (P.seen parts.old).numbers (P.seen parts.old).state }
+    ensures { let p = P.seen parts.old in
+        ComesTo (free_handle p.state caller s) p (P.seen parts.new) result }
+{
+    let (slot, _) = live_in(parts, caller, s)?;
+    parts.take_handle(slot);
+    parts.set_handle_register(caller, s, None);
+    Ok(Done::in_slot(slot, Grown::Zero))
+}
+
+/// `hput k hS`.
+pub fn put_board<P: Parts>(parts: &mut P, caller: u32, k: u8, s: u8) -> Done
+    requires { MayUseBoth (P.seen parts.old) caller k s }
+    ensures { let p = P.seen parts.old in
+        ComesTo (put_board p.state caller k s) p (P.seen parts.new) (Ok result) }
+{
+    let slot = parts.handle_register(caller, s);
+    parts.set_board(k, slot);
+    Done::of(Reply::Done)
+}
+
+/// `hpick hD k`.
+pub fn pick_board<P: Parts>(parts: &mut P, caller: u32, d: u8, k: u8) -> Done
+    requires { MayUseBoth (P.seen parts.old) caller d k }
+    ensures { let p = P.seen parts.old in
+        ComesTo (pick_board p.state caller d k) p (P.seen parts.new) (Ok result) }
+{
+    let slot = parts.board_at(k);
+    parts.set_handle_register(caller, d, slot);
+    Done::of(Reply::Done)
+}
+
+/// Lowers the age of a slot's clump to the generation of what is stored there. Null lowers
+/// none.
+pub fn lower_to<P: Parts>(parts: &mut P, slot: Slot, target: Option<P::Name>)
+    requires within { IsWithin (P.seen parts.old) slot }
+    requires named { IsNamed (P.seen parts.old) target }
+    ensures { let p = P.seen parts.old in
+        let ages = lowered_to p.state p.ages (Some slot) (named_in p target) in
+        P.seen parts.new ≡ record p { ages = ages } }
+{
+    let Some(at) = target else {
+        return;
+    };
+    let generation = parts.generation(at);
+    parts.lower_age(slot, generation);
+}
+
+// What a handle has beside its target once that is another one: a dependent handle may get null
+// alone, and then its secondary is null too.
+fn extra_beside<N: Copy + Drop>(extra: Extra<N>, target: Option<N>) -> Result<Extra<N>, Refusal>
+    ensures { let names = is_some target in
+        MatchResult result
+        (λ e. (extra_of e ≡ without_secondary (extra_of extra))
+        × ((is_secondary (extra_of extra) && names) ≡ false))
+        (λ refused. (refused ≡ refusal.WrongKind)
+        × ((is_secondary (extra_of extra) && names) ≡ true)) }
+{
+    match (extra, target) {
+        (Extra::Secondary(_), Some(_)) => Err(Refusal::WrongKind),
+        (Extra::Secondary(_), None) => Ok(Extra::Secondary(None)),
+        (Extra::Nothing | Extra::Strength(_) | Extra::Count(_), _) => Ok(extra),
+    }
+}
+
+/// `hset hS rT`.
+pub fn set_target<P: Parts>(parts: &mut P, caller: u32, s: u8, t: u8) -> CommandResult
+    requires registers { MayUseBoth (P.seen parts.old) caller s t }
+    requires handles { HasHandles (P.seen parts.old).numbers (P.seen parts.old).state }
+    ensures { let p = P.seen parts.old in
+        let wanted = set_target p.state caller s t in
+        let slot = handle_register_of p.state caller s in
+        let lowered = lowered_to p.state p.ages slot (register_of p.state caller t) in
+        let ages = cond (is_refused wanted.reply) p.ages lowered in
+        ComesToAged wanted ages p (P.seen parts.new) result }
+{
+    let (slot, handle) = live_in(parts, caller, s)?;
+    let target = parts.register(caller, t);
+    let extra = extra_beside(handle.extra, target)?;
+    lower_to(parts, slot, target);
+    let kind = handle.kind;
+    parts.replace_handle(
+        slot,
+        Handle {
+            kind,
+            target,
+            extra,
+        },
+    );
+    Ok(Done::of(Reply::Done))
+}
+
+/// `hsec hS rS`.
+pub fn set_secondary<P: Parts>(parts: &mut P, caller: u32, h: u8, s: u8) -> CommandResult
+    requires registers { MayUseBoth (P.seen parts.old) caller h s }
+    requires handles { HasHandles (P.seen parts.old).numbers (P.seen parts.old).state }
+    ensures { let p = P.seen parts.old in
+        let wanted = set_secondary p.state caller h s in
+        let lowered = lowered_at p.ages (handle_register_of p.state caller h) 0 in
+        let ages = cond (is_refused wanted.reply) p.ages lowered in
+        ComesToAged wanted ages p (P.seen parts.new) result }
+{
+    let (slot, handle) = live_in(parts, caller, h)?;
+    let Extra::Secondary(_) = handle.extra else {
+        return Err(Refusal::WrongKind);
+    };
+    if handle.target.is_none() {
+        return Err(Refusal::Null);
+    }
+    let extra = Extra::Secondary(parts.register(caller, s));
+    parts.lower_age(slot, 0);
+    parts.replace_handle(slot, Handle { extra, ..handle });
+    Ok(Done::of(Reply::Done))
+}
+
+// A ref-counted handle gets a count, which is returned.
+fn set_count<P: Parts>(parts: &mut P, slot: Slot, handle: Handle<P::Name>, count: u32) -> Done
+    requires live { let p = P.seen parts.old in
+        handle_at p.state slot ≡ Some (handle_named p handle) }
+    requires may { MayBeStored (P.seen parts.old) slot (handle_of handle) }
+    requires counted { handle.kind ≡ kind.Counted }
+    ensures { let p = P.seen parts.old in
+        let wanted = with_count p.state slot (handle_named p handle) count in
+        ComesTo wanted p (P.seen parts.new) (Ok result) }
+{
+    let extra = Extra::Count(count);
+    parts.replace_handle(slot, Handle { extra, ..handle });
+    Done::of(Reply::Value(u64::from(count)))
+}
+
+/// `hup hS`.
+pub fn raise_count<P: Parts>(parts: &mut P, caller: u32, s: u8) -> CommandResult
+    requires register { MayUse (P.seen parts.old) caller s }
+    requires handles { HasHandles (P.seen parts.old).numbers (P.seen parts.old).state }
+    requires small { MayCountUp (P.seen parts.old).state caller s }
+    ensures { let p = P.seen parts.old in
+        ComesTo (raise_count p.state caller s) p (P.seen parts.new) result }
+{
+    let (slot, handle) = live_in(parts, caller, s)?;
+    let Extra::Count(count) = handle.extra else {
+        return Err(Refusal::WrongKind);
+    };
+    Ok(set_count(parts, slot, handle, count + 1))
+}
+
+/// `hdown hS`.
+pub fn lower_count<P: Parts>(parts: &mut P, caller: u32, s: u8) -> CommandResult
+    requires register { MayUse (P.seen parts.old) caller s }
+    requires handles { HasHandles (P.seen parts.old).numbers (P.seen parts.old).state }
+    ensures { let p = P.seen parts.old in
+        ComesTo (lower_count p.state caller s) p (P.seen parts.new) result }
+{
+    let (slot, handle) = live_in(parts, caller, s)?;
+    let Extra::Count(count) = handle.extra else {
+        return Err(Refusal::WrongKind);
+    };
+    if count == 0 {
+        return Err(Refusal::CountZero);
+    }
+    Ok(set_count(parts, slot, handle, count - 1))
+}
+
+/// The object that the handle in hS pins, or why it pins none.
+pub fn pinned_in<P: Parts>(parts: &P, caller: u32, h: u8) -> Result<P::Name, Refusal>
+    requires register { MayUse (P.seen parts.now) caller h }
+    requires handles { HasHandles (P.seen parts.now).numbers (P.seen parts.now).state }
+    ensures value { let p = P.seen parts.now in as_pinned p result ≡ pinned_in p.state caller h }
+    ensures known { IfOk result (λ at. IsSome ((P.seen parts.now).names at)) }
+{
+    let (_, handle) = live_in(parts, caller, h)?;
+    if !handle.pins() {
+        return Err(Refusal::WrongKind);
+    }
+    match handle.target {
+        Some(at) => Ok(at),
+        None => Err(Refusal::Null),
+    }
+}

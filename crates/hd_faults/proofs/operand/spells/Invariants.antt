@@ -1,6 +1,0 @@
-use Rattle.hd_script.proofs.Basics.{bytes_eq, drop, ◌≡◌}
-use Rattle.hd_faults.proofs.operand.spells.Given as goal
-
--- the bytes from here on are the same exactly where the whole is
-abbrev pub invariant-letters : goal.invariant-letters
-invariant-letters l = bytes_eq (drop l.i l.word) (drop l.i l.letters) ≡ bytes_eq l.word l.letters

@@ -1,0 +1,22 @@
+use Rattle.hd_store.specs.Store.{seen_by}
+use Rattle.hd_store.proofs.StoreWords.{ap, parts, placed_at, refl}
+use Rattle.hd_store.proofs.{NamedAddresses.in_heap, StoreWrite.written-beside}
+use Rattle.hd_store.proofs.parts.ContentsParts.set_value.Goals as goal
+
+pub set_value-requires : goal.set_value-requires
+set_value-requires c = in_heap (parts c.self.inside) c.args.self.now c.self.view_is c.self.invariant
+    c.args.at c.requires.0
+
+pub invariant_of-self : goal.invariant_of-self
+invariant_of-self c =
+    (written-beside (parts c.self.inside) c.args.self.now c.self.view_is c.self.invariant c.args.at c.requires.0
+    (record (placed_at c.self.inside.heap c.args.at) { value = c.args.v }) refl refl
+    (λ o. record o { value = c.args.v }) refl
+    c.set_value.new.self c.set_value.ensures).0
+
+pub returns : goal.returns
+returns c =
+    ap seen_by ((written-beside (parts c.self.inside) c.args.self.now c.self.view_is c.self.invariant c.args.at c.requires.0
+    (record (placed_at c.self.inside.heap c.args.at) { value = c.args.v }) refl refl
+    (λ o. record o { value = c.args.v }) refl
+    c.set_value.new.self c.set_value.ensures).1)
