@@ -217,7 +217,7 @@ static size_t fill(hdt_handle *handles) {
     return count;
 }
 
-/* Takes all objects from the queue, and lets go what the locals lead to. */
+/* Takes all objects from the queue, and releases what the locals lead to. */
 static void let_go(void) {
     hdt_id id;
     while (hdt_final_next(&host, 0, 0, &id) == HDT_OK) {}

@@ -75,15 +75,15 @@ pub lowered_at : (w v block c slot g : ℕ) (ages : List ℕ) → ages_in w ≡ 
     → IsSlotOf block c slot → with_ages block (ages_in v) ages ≡ lowered ages slot g
 lowered_at w v block c slot g ages is v_is low high few of =
     let last : CLUMPS * block ≡ CLUMPS * block - CLUMPS + CLUMPS = omega (arith, low) in
-    let place : CLUMPS * block - CLUMPS + c ≡ clump_of slot = omega (arith, low, of.in_block, of.in_clump) in
-    let at : CLUMPS * block + c - CLUMPS ≡ clump_of slot = omega (arith, low, place) in
+    let index : CLUMPS * block - CLUMPS + c ≡ clump_of slot = omega (arith, low, of.in_block, of.in_clump) in
+    let at : CLUMPS * block + c - CLUMPS ≡ clump_of slot = omega (arith, low, index) in
     let age : age_in w c ≡ get_or ages (clump_of slot) 0 =
     age_at w block c ages is low few ∙ ap (λ k. get_or ages k 0) at in
     (λ i. take (CLUMPS * block - CLUMPS) ages ++ (v_is ∙ (λ j. set (is j) c (min (age j) g))) i
     ++ drop (last i) ages)
     ∙ set_four ages (CLUMPS * block - CLUMPS) c (min (get_or ages (clump_of slot) 0) g)
     (omega (arith, low, high)) few
-    ∙ ap (λ k. set ages k (min (get_or ages (clump_of slot) 0) g)) place
+    ∙ ap (λ k. set ages k (min (get_or ages (clump_of slot) 0) g)) index
 
 pub ages_small : (ws : List ℕ) → All (λ a. a ≤ 2) (ages_of ws)
 ages_small [] k d lt = absurd (omega arith)

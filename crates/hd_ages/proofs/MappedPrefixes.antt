@@ -79,8 +79,9 @@ grown_next n block ages l =
     let low : CLUMPS * (block + 1) - CLUMPS ≡ CLUMPS * block = omega arith in
     let high : CLUMPS * (block + 1) ≡ CLUMPS * block + CLUMPS = omega arith in
     let M : List ℕ = mapped_to (raised n) (CLUMPS * block) ages in
-    let places : grown_at n (block + 1) M
+    let indexes : grown_at n (block + 1) M
     ≡ take (CLUMPS * block) M ++ grown n (take CLUMPS (drop (CLUMPS * block) M))
     ++ drop (CLUMPS * block + CLUMPS) M =
     λ i. take (low i) M ++ grown n (take CLUMPS (drop (low i) M)) ++ drop (high i) M in
-    places ∙ one_more n (CLUMPS * block) ages (omega arith) ∙ ap (λ k. mapped_to (raised n) k ages) (sym high)
+    indexes ∙ one_more n (CLUMPS * block) ages (omega arith)
+    ∙ ap (λ k. mapped_to (raised n) k ages) (sym high)

@@ -1,5 +1,6 @@
 -- A walk that is under way, and the rows that it has visited.
-use Rattle.hd_ages.proofs.Basics.{Addr, AllPairs, BLOCKS, Contains, DueRows, Ends, Gives, Handle, IsDueRow, IsOn, IsSameTable, IsSome, IsTable, Kind, List, None, Option, ROWS, Rewrites, Slot, Some, Table, ap, arith, cases_eq, chain_of, clumps_to_come, due_clumps, due_slots, first_in, get, is_some, later_in, length, live_at, member_cases, member_same, not_in_none, option_map, pairs_first, pairs_rest, refl, row_at, slots_to_come, subst, sym, true, visits_of, ℕ, ⊎_elim, ◌+◌, ◌<◌, ◌∙◌, ◌∷◌, ◌≡◌, ◌≢◌, ◌≤◌, ◌*◌}
+use Rattle.hd_ages.proofs.Basics.{Addr, AllPairs, BLOCKS, Contains, DueRows, Ends, Gives, Handle, IsOn, IsSameTable, IsSome, IsTable, Kind, List, None, Option, ROWS, Rewrites, Slot, Some, Table, ap, arith, cases_eq, chain_of, clumps_to_come, due_clumps, due_slots, first_in, get, is_some, later_in, length, live_at, member_cases, member_same, not_in_none, option_map, pairs_first, pairs_rest, refl, row_at, slots_to_come, subst, sym, true, visits_of, ℕ, ⊎_elim, ◌+◌, ◌<◌, ◌∙◌, ◌∷◌, ◌≡◌, ◌≢◌, ◌≤◌, ◌*◌}
+use Rattle.hd_ages.proofs.WalkSlots.{IsDueRow}
 use Rattle.std.proofs.lemmas.Option.{same_Some}
 use Rattle.hd_model.specs.{Scene.Objects, Scene.is_object, Names.NamesObjects}
 use Rattle.hd_seg.proofs.RowRewrite.{live_row}

@@ -1,8 +1,19 @@
 -- The slots of a walk are the live slots of its kind in due clumps, each once.
-use Rattle.hd_ages.proofs.Basics.{AllPairs, BLOCKS, Bool, CLUMP, CLUMPS, Contains, Contains-append_cases, Contains-append_left, Contains-append_right, IsDueRow, IsSome, IsTable, Kind, List, ROWS, Some, Table, [], ap, arith, cases_eq, chain_of, clump_of, clumps_of, contains_key, counts_le, drop, due_clumps, due_slots, fewer, filter, first_in, get, handles_of, is_some, later_in, len, length, length-append, member_cases, nat_le, not_in_none, pairs_append, pairs_cons, pairs_first, pairs_none, pairs_passing, pairs_rest, passing_from, passing_in, range_with_len, refl, slice_get, slice_index, slots_of, subst, suc, sym, true, zero, ℕ, ⊎_elim, ◌*◌, ◌+◌, ◌-◌, ◌/◌, ◌<◌, ◌∙◌, ◌∷◌, ◌≡◌, ◌≢◌, ◌≤◌}
+use Rattle.hd_ages.proofs.Basics.{AllPairs, BLOCKS, Bool, CLUMP, CLUMPS, Contains, Contains-append_cases, Contains-append_left, Contains-append_right, IsSome, IsTable, Kind, List, ROWS, Some, Table, [], ap, arith, cases_eq, chain_of, clump_of, clumps_of, contains_key, counts_le, drop, due_clumps, due_slots, fewer, filter, first_in, get, handles_of, is_some, later_in, len, length, length-append, member_cases, nat_le, not_in_none, pairs_append, pairs_cons, pairs_first, pairs_none, pairs_passing, pairs_rest, passing_from, passing_in, range_with_len, refl, slice_get, slice_index, slots_of, subst, suc, sym, true, zero, ℕ, ⊎_elim, ◌*◌, ◌+◌, ◌-◌, ◌/◌, ◌<◌, ◌∙◌, ◌∷◌, ◌≡◌, ◌≢◌, ◌≤◌}
 use Rattle.std.proofs.lemmas.{List.drop_all, List.FromFn.length-range_with_len, Option.slice_get_within}
 use Rattle.hd_model.proofs.MapEntries.{some_value, counts_keys}
 use Rattle.hd_ages.specs.Walk.{slots_in}
+use Rattle.hd_model.specs.declared.data.Addr.{Addr}
+use Rattle.hd_model.specs.State.{Handle}
+use Rattle.hd_model.specs.Ages.{is_due}
+use Rattle.hd_model.specs.Table.{row_at}
+
+-- a live slot of a kind in a clump that is due
+pub record IsDueRow (t : Table) (ages : List ℕ) (n : ℕ) (kind : Kind) (slot : ℕ) : Type 0 where
+  pub handle : Handle Addr
+  pub is_stored : row_at t slot ≡ Some handle
+  pub of_kind : handle.kind ≡ kind
+  pub due : is_due ages n slot ≡ true
 
 -- a list has exactly the things of a property, each once
 pub record IsListOf {A : Type 0} (P : A → Type 0) (xs : List A) : Type 0 where
@@ -191,8 +202,8 @@ module _ (t : Table) (is : IsTable t) (ages : List ℕ) (n : ℕ) (k : Kind) whe
       of_range 1 BLOCKS b within.0 (let limit = is.limit in omega arith)) in
       omega (arith, few, length-range_with_len 1 BLOCKS)
 
-  pub few_places : (i b : ℕ) → slice_get (chain_of t k) i ≡ Some b → i < BLOCKS
-  few_places i b here = omega (arith, slice_get_within (chain_of t k) i b here, chain_few)
+  pub few_indexes : (i b : ℕ) → slice_get (chain_of t k) i ≡ Some b → i < BLOCKS
+  few_indexes i b here = omega (arith, slice_get_within (chain_of t k) i b here, chain_few)
 
   -- so none is past as many
   pub past_chain : drop BLOCKS (chain_of t k) ≡ []

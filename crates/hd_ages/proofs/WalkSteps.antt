@@ -90,20 +90,20 @@ module _ (t : Table) (ages : List ℕ) where
     }
 
   -- the due clumps of a block are counted beside those of the blocks after it
-  pub block_counted : (k : Kind) (place b mask n clumps count total : ℕ)
-      → slice_get (chain_of t k) place ≡ Some b → count ≡ length (set_bits mask)
+  pub block_counted : (k : Kind) (index b mask n clumps count total : ℕ)
+      → slice_get (chain_of t k) index ≡ Some b → count ≡ length (set_bits mask)
       → map (clump_at b) (set_bits mask) ≡ due_of ages n b
-      → clumps + length (due_clumps ages n (drop place (chain_of t k))) ≡ total
-      → clumps + count + length (due_clumps ages n (drop (place + 1) (chain_of t k))) ≡ total
-  block_counted k place b mask n clumps count total here number due sum =
-      let rest : List ℕ = due_clumps ages n (drop (place + 1) (chain_of t k)) in
+      → clumps + length (due_clumps ages n (drop index (chain_of t k))) ≡ total
+      → clumps + count + length (due_clumps ages n (drop (index + 1) (chain_of t k))) ≡ total
+  block_counted k index b mask n clumps count total here number due sum =
+      let rest : List ℕ = due_clumps ages n (drop (index + 1) (chain_of t k)) in
       omega (
         arith,
         sum,
         number,
         ap length due,
         length-map (set_bits mask) (clump_at b),
-        ap (λ bs. length (due_clumps ages n bs)) (drop_here (chain_of t k) place b here),
+        ap (λ bs. length (due_clumps ages n bs)) (drop_here (chain_of t k) index b here),
         length-append (due_of ages n b) rest,
       )
 

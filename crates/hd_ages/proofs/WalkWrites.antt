@@ -1,5 +1,6 @@
 -- A walk that writes rows: f is what becomes of the row in a slot, and slots with the property P are counted.
-use Rattle.hd_ages.proofs.Basics.{Addr, BLOCKS, Bool, Contains, Counts, DueRows, Ends, Gives, Handle, IsDueRow, IsOn, IsSome, IsTable, Kind, List, ROWS, Rewrites, Slot, Some, Table, ap, arith, chain_of, clumps_to_come, due_clumps, due_slots, false, get, length, option_map, refl, row_at, slots_to_come, subst, sym, true, visits_of, ℕ, ◌+◌, ◌<◌, ◌≡◌, ◌≤◌, ◌*◌}
+use Rattle.hd_ages.proofs.Basics.{Addr, BLOCKS, Bool, Contains, Counts, DueRows, Ends, Gives, Handle, IsOn, IsSome, IsTable, Kind, List, ROWS, Rewrites, Slot, Some, Table, ap, arith, chain_of, clumps_to_come, due_clumps, due_slots, false, get, length, option_map, refl, row_at, slots_to_come, subst, sym, true, visits_of, ℕ, ◌+◌, ◌<◌, ◌≡◌, ◌≤◌, ◌*◌}
+use Rattle.hd_ages.proofs.WalkSlots.{IsDueRow}
 use mir.Val.{bool_byte}
 use Rattle.hd_ages.proofs.WalkProgress.{IsUnderway, begins, all_to_come, few_to_come, row_due, row_live, row_past, fewer_left, goes_on, all_past, steps_at_end, rewritten, IsUpdated, updated_start, updated_more, updated_end}
 use Rattle.hd_ages.proofs.WalkFrame.{rewrites_live, slots_same}

@@ -1,4 +1,4 @@
 pub mod Clumps
 pub mod Word
 pub mod Walk
-pub mod Rows
+pub mod Inside

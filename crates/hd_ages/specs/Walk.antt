@@ -1,5 +1,5 @@
 -- Where a walk over the due rows of a kind is, and what it has still to visit.
-use Rattle.std.specs.Prelude.{◌≡◌, ℕ, ◌+◌, ◌*◌, ◌<◌, ◌≤◌, List, [], ◌∷◌, ◌++◌, length, map, filter, drop}
+use Rattle.std.specs.Prelude.{◌≡◌, ℕ, ◌+◌, ◌*◌, ◌≤◌, List, [], ◌∷◌, ◌++◌, map, filter, drop}
 use Rattle.std.specs.List.{range_with_len}
 use Rattle.std.specs.FinMap.{contains_key}
 use Rattle.hd_mask.specs.Mask.{set_bits}
@@ -37,18 +37,6 @@ slots_to_come t ages w = map (λ row. w.first + row) (set_bits w.rows) ++ slots_
 pub record IsOn (t : Table) (w : DueRows) : Type 0 where
   pub first : w.first ≤ ROWS * t.blocks
   pub few : t.blocks ≤ BLOCKS
-
--- a walk moved on without reaching a row: no slot was skipped, each clump that it passed is a step, and fewer
--- blocks are still to come
-pub record Advances (t : Table) (ages : List ℕ) (old new : DueRows) (before after : ℕ) : Type 0 where
-  pub slots : slots_to_come t ages new ≡ slots_to_come t ages old
-  pub steps : after + length (clumps_to_come t ages new) ≡ before + length (clumps_to_come t ages old)
-  pub less : length (blocks_to_come t new) < length (blocks_to_come t old)
-
--- nothing is left to visit
-pub record IsOver (t : Table) (ages : List ℕ) (w : DueRows) : Type 0 where
-  pub slots : slots_to_come t ages w ≡ []
-  pub clumps : clumps_to_come t ages w ≡ []
 
 -- no row was left to visit, and now neither a row nor a clump is
 pub record Ends (t : Table) (ages : List ℕ) (old new : DueRows) : Type 0 where

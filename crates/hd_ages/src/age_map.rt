@@ -4,7 +4,7 @@ ghost use Rattle.std.specs.Int.{bit_at};
 ghost use Rattle.hd_mask.specs.Mask.{set_bits};
 ghost use Rattle.hd_model.specs.Ages.{clumps_of, grown, lowered};
 ghost use Rattle.hd_ages.specs.Clumps.{IsSlotOf, ages_at, clump_at, grown_at, with_ages};
-ghost use Rattle.hd_ages.specs.Word.{IsWord, ages_in};
+ghost use Rattle.hd_ages.specs.Inside.{IsWord, ages_in};
 
 use crate::word;
 use crate::word::ALL_OLDEST;
@@ -24,7 +24,7 @@ pub struct AgeMap {
 impl Model for AgeMap {
     ghost use Rattle.std.specs.Prelude.{ℕ, List, All, length, ◌≤◌};
     ghost use Rattle.hd_model.specs.declared.limits.TheConstants.{BLOCKS, OLDEST};
-    ghost use Rattle.hd_ages.specs.Word.{IsWord, ages_of};
+    ghost use Rattle.hd_ages.specs.{Inside.IsWord, Word.ages_of};
 
     ghost Value = { List ℕ };
 

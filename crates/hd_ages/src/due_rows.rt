@@ -6,7 +6,7 @@ ghost use Rattle.hd_model.specs.Table.{IsTable, chain_of};
 ghost use Rattle.hd_model.specs.Visits.{visits_of};
 ghost use Rattle.hd_model.specs.declared.data.Kind.{Kind as KindValue};
 ghost use Rattle.hd_ages.specs.Clumps.{CoversTable};
-ghost use Rattle.hd_ages.specs.Walk.{IsOn, Advances, IsOver, Ends, Gives};
+ghost use Rattle.hd_ages.specs.{Walk.IsOn, Walk.Ends, Walk.Gives, Inside.Advances, Inside.IsOver};
 ghost use Rattle.hd_ages.specs.Walk.{clumps_to_come, slots_to_come, due_slots};
 
 use crate::age_map::AgeMap;
@@ -141,10 +141,10 @@ pub fn count_due(seg: &Seg, ages: &AgeMap, kind: Kind, n: u8) -> u32
     ensures few { result ≤ CLUMPS * BLOCKS }
 {
     let mut clumps = 0;
-    let mut place = first_due(seg, ages, n);
-    while let Some(block) = seg.block_at(kind, place) {
+    let mut index = first_due(seg, ages, n);
+    while let Some(block) = seg.block_at(kind, index) {
         clumps += count(u64::from(ages.due(block, n)));
-        place += 1;
+        index += 1;
     }
     clumps
 }
@@ -154,9 +154,9 @@ pub fn pass_due<L: Ledger>(seg: &Seg, ages: &AgeMap, kind: Kind, n: u8, steps: &
     requires blocks { CoversTable ages.now seg.now }
     ensures { steps.new ≡ steps.old + visits_of seg.now ages.now n kind }
 {
-    let mut place = first_due(seg, ages, n);
-    while let Some(block) = seg.block_at(kind, place) {
+    let mut index = first_due(seg, ages, n);
+    while let Some(block) = seg.block_at(kind, index) {
         tick_each(ages.due(block, n), steps);
-        place += 1;
+        index += 1;
     }
 }

@@ -3,7 +3,7 @@
 
 ghost use Rattle.std.specs.Prelude.{◌≡◌, ℕ, ◌<◌, ◌≤◌, ◌/◌, ◌^◌, cond, nat_le, min, slice_set, All};
 ghost use Rattle.std.specs.Int.{bit_at};
-ghost use Rattle.hd_ages.specs.Word.{IsWord, age_in, ages_in};
+ghost use Rattle.hd_ages.specs.{Inside.IsWord, Inside.ages_in, Word.age_in};
 ghost use Rattle.hd_model.specs.Ages.{grown};
 
 use hd_model::limits::{CLUMP, CLUMPS, OLDEST, ROWS};

@@ -24,7 +24,8 @@ use Rattle.hd_script.proofs.Digits.{with_digit, worth_grows}
 use Rattle.std.proofs.lemmas.Str.Parse.{IsNumeralModel, IsDigitsTest, FoldsDigits, numerals_by_fold}
 use Rattle.std.proofs.lemmas.Fmt.{digits_value-decimal}
 use Rattle.std.specs.Fmt.{digits, digits_onto, digit_glyph}
-use Rattle.hd_audit.specs.Choice.{HasChoice, after_mark, after_blank, leading_from, leading, slot_in, added_in, grown_in, place_in, choice_in}
+use Rattle.hd_plain.specs.ChosenSteps.{HasChoice}
+use Rattle.hd_plain.specs.Choice.{after_mark, after_blank, leading_from, leading, slot_in, added_in, grown_in, address_in, choice_in}
 
 -- ---- marks
 
@@ -405,7 +406,7 @@ pub record IsLow (e : Entry) : Type 0 where
   pub caller : e.caller < 2 ^ 32
   pub slot : IsLowSlot e.slot
   pub grown : IsLowGrowth e.grown
-  pub place : (p : ℕ) → e.reply ≡ Place p → p < 2 ^ 32
+  pub address : (p : ℕ) → e.reply ≡ Place p → p < 2 ^ 32
 
 module _ (e : Entry) (number : ℕ) (low : IsLow e) where
   caller_stated : leading (full_line e number) ≡ e.caller
@@ -422,17 +423,17 @@ module _ (e : Entry) (number : ℕ) (low : IsLow e) where
   grown_stated = ap grown_in (line_is e number)
       ∙ grown_after (head_of e number) (head_plain e number) e.slot e.grown low.grown
 
-  place_stated : (p : ℕ) → e.reply ≡ Place p → place_in (full_line e number) ≡ p
-  place_stated p is =
+  addr_stated : (p : ℕ) → e.reply ≡ Place p → address_in (full_line e number) ≡ p
+  addr_stated p is =
       let rest = reply_text e.reply ++ tail_of e in
-      ap place_in (words_are e number)
+      ap address_in (words_are e number)
       ∙ ap (λ (t : List ℕ). leading (after_blank (after_blank t)))
       (word_after e.caller (decimal number ++ 32 ∷ rest))
       ∙ ap (λ (t : List ℕ). leading (after_blank t)) (word_after number rest)
       ∙ ap (λ (r : Reply). leading (after_blank (reply_text r ++ tail_of e))) is
-      ∙ number_leads p (tail_of e) (low.place p is) (slot_ends e.slot e.grown)
+      ∙ number_leads p (tail_of e) (low.address p is) (slot_ends e.slot e.grown)
 
   -- what is read off the full line of an entry is that entry's
   pub line_has_choice : HasChoice e (choice_in (full_line e number))
   line_has_choice =
-      record { caller = caller_stated; slot = slot_stated; grown = grown_stated; place = place_stated }
+      record { caller = caller_stated; slot = slot_stated; grown = grown_stated; address = addr_stated }

@@ -14,94 +14,28 @@ use Rattle.hd_model.specs.declared.data.Kind.TheVariants as kind
 use Rattle.hd_model.specs.declared.data.Make.{Make}
 use Rattle.hd_model.specs.declared.data.Refusal.{Refusal}
 use Rattle.hd_model.specs.declared.data.Refusal.TheVariants as refusal
-use Rattle.hd_model.specs.declared.data.Reply.{Reply}
 use Rattle.hd_model.specs.declared.data.Reply.TheVariants as reply
 use Rattle.hd_model.specs.declared.data.Slot.{Slot}
 use Rattle.hd_model.specs.Command.{Adding, Outcome, add_entry, adding_key, adding_of, idle_slot, in_idle, in_new, is_refused, refuses, slot_of_key, with_entry}
 use Rattle.hd_model.specs.Kinds.{kind_of}
-use Rattle.hd_model.specs.Places.{IsFreePlace}
-use Rattle.hd_model.specs.State.{Numbers, State, register_of, with_place, without_use}
-use Rattle.hd_model.specs.Step.{Step, TakesWay, Way, adds_entry, decided, gives_back, makes_handle, replies_place, way_of, way_of_adding, with_growth, with_made}
+use Rattle.hd_model.specs.PinnedAddresses.{IsFreeAddress}
+use Rattle.hd_model.specs.State.{Numbers, State, register_of, with_address, without_use}
+use Rattle.hd_model.specs.Step.{TakesWay, adds_entry, decided, gives_back, makes_handle, replies_address, way_of, way_of_adding, with_growth, with_made}
 use Rattle.hd_model.specs.Valid.{IsValid}
-use Rattle.hd_audit.specs.declared.choice.Choice.{Choice}
+use Rattle.hd_plain.specs.declared.choice.Choice.{Choice}
 use Rattle.hd_commands.specs.declared.done.Done.{Done}
-use Rattle.hd_audit.specs.Before.{GivesBlock, HasExactly, HasOne, ReturnsFree, TakesSlot}
-use Rattle.hd_audit.specs.Choice.{HasChoice}
+use Rattle.hd_audit.specs.Before.{GivesBlock, ReturnsFree, TakesSlot}
+use Rattle.hd_plain.specs.OneEntry.{HasExactly, HasOne}
 use Rattle.hd_commands.specs.Handles.{pinned_in}
 use Rattle.hd_commands.specs.Done.{entry_by}
 use Rattle.hd_commands.specs.Done.{done_of}
-use Rattle.hd_audit.specs.Judge.{Judge}
-use Rattle.hd_audit.proofs.PlaceWays.{at_place, may_of, outcome_of, place_again, place_refused}
-use Rattle.hd_audit.proofs.StepWays.{same_entry}
-
--- the choice that an entry has
-abbrev place_in : Reply → ℕ
-place_in (reply.Place p) = p
-place_in (reply.Object id) = 0
-place_in (reply.Value n) = 0
-place_in (reply.Generation g) = 0
-place_in (reply.Report r) = 0
-place_in (reply.Chain from edges) = 0
-place_in (reply.Refused r) = 0
-place_in reply.Done = 0
-place_in reply.Nothing = 0
-place_in reply.NoneQueued = 0
-place_in reply.Absent = 0
-place_in reply.Unrooted = 0
-
-abbrev own_choice : Entry → Choice
-own_choice e = record { caller = e.caller; slot = e.slot; grown = e.grown; place = place_in e.reply }
-
-has_own : (e : Entry) → HasChoice e (own_choice e)
-has_own e =
-    record { caller = refl; slot = refl; grown = refl; place = λ p is. ap place_in is }
+use Rattle.hd_plain.specs.MachineViews.{MachineView}
+use Rattle.hd_plain.proofs.AddressWays.{at_address, may_of, outcome_of, addr_again, addr_refused}
+use Rattle.hd_plain.proofs.StepWays.{same_entry}
+use Rattle.hd_plain.proofs.EntriesByWay.{by_way, one_entry}
 
 module _ (n : Numbers) (s : State) (caller : ℕ) (c : Cmd) (known : caller < n.callers) (valid : IsValid c)
   where
-    -- a step of the command goes its way, and what goes its way is a step
-    goes : (e : Entry) (after : State) → e.caller ≡ caller → e.cmd ≡ c → Step n s e after
-        → TakesWay n s e after (way_of s caller c)
-    goes e after by of step =
-        subst (λ x. TakesWay n s e after (way_of s caller x)) of
-        (subst (λ k. TakesWay n s e after (way_of s k e.cmd)) by step.does)
-
-    steps : (e : Entry) (after : State) → e.caller ≡ caller → e.cmd ≡ c
-        → TakesWay n s e after (way_of s caller c) → Step n s e after
-    steps e after by of takes = record {
-      caller = subst (λ k. k < n.callers) (sym by) known;
-      valid = subst IsValid (sym of) valid;
-      does = subst (λ k. TakesWay n s e after (way_of s k e.cmd)) (sym by)
-          (subst (λ x. TakesWay n s e after (way_of s caller x)) (sym of) takes);
-    }
-
-    -- so the entries of its steps are those of its way
-    pub by_way : (way : Way) → way_of s caller c ≡ way → (P : Entry → Type 0)
-        → ((e : Entry) (after : State) → e.caller ≡ caller → e.cmd ≡ c → TakesWay n s e after way → P e)
-        → ((e : Entry) → e.caller ≡ caller → e.cmd ≡ c → P e → (after : State) × TakesWay n s e after way)
-        → HasExactly n s caller c P
-    by_way way is P there back = λ e by of. (
-      λ found. there e found.0 by of (subst (TakesWay n s e found.0) is (goes e found.0 by of found.1)),
-      λ p. let done = back e by of p in
-          (done.0, steps e done.0 by of (subst (TakesWay n s e done.0) (sym is) done.1)),
-    )
-
-    -- one entry, where the machine comes to it whatever a line states
-    pub one_entry : (new : State) (made : Done)
-        → ((choice : Choice) → (x : Cmd) → (TakesWay n s (entry_by caller x made) new (way_of s caller c))
-        × ((e : Entry) (t : State) → TakesWay n s e t (way_of s caller c) → e.caller ≡ caller → e.cmd ≡ x
-        → HasChoice e choice → e ≡ entry_by caller x made))
-        → HasOne n s caller c (entry_by caller c made)
-    one_entry new made comes = record {
-      caller_is = refl;
-      command = refl;
-      only = by_way (way_of s caller c) refl (λ e. e ≡ entry_by caller c made)
-          (λ e t by of takes. (comes (own_choice e) c).1 e t takes by of (has_own e))
-          (λ e by of is. (
-            new,
-            subst (λ x. TakesWay n s x new (way_of s caller c)) (sym is) (comes (own_choice e) c).0,
-          ));
-    }
-
     -- one entry, where the state decides its outcome
     outcome_one : (wanted : Outcome) (made : Done) → way_of s caller c ≡ decided wanted
         → made ≡ record { reply = wanted.reply; slot = wanted.slot; grown = Zero }
@@ -109,7 +43,7 @@ module _ (n : Numbers) (s : State) (caller : ℕ) (c : Cmd) (known : caller < n.
     outcome_one wanted made is same = record {
       caller_is = refl;
       command = refl;
-      only = by_way (decided wanted) is (λ e. e ≡ entry_by caller c made)
+      only = by_way n s caller c known valid (decided wanted) is (λ e. e ≡ entry_by caller c made)
           (λ e t by of out. same_entry e caller c made by of
           (out.slot ∙ sym (ap (λ (m : Done). m.slot) same))
           (out.grown ∙ sym (ap (λ (m : Done). m.grown) same))
@@ -129,7 +63,7 @@ module _ (n : Numbers) (s : State) (caller : ℕ) (c : Cmd) (known : caller < n.
     pub slot_of_handle : (d : ℕ) (make : Make) (t : ℕ) → way_of s caller c ≡ makes_handle d make t
         → HasExactly n s caller c (TakesSlot n s (kind_of make))
     slot_of_handle d make t is =
-        by_way (makes_handle d make t) is (TakesSlot n s (kind_of make)) there back
+        by_way n s caller c known valid (makes_handle d make t) is (TakesSlot n s (kind_of make)) there back
       where
         there : (e : Entry) (after : State) → e.caller ≡ caller → e.cmd ≡ c
             → TakesWay n s e after (makes_handle d make t) → TakesSlot n s (kind_of make) e
@@ -154,7 +88,7 @@ module _ (n : Numbers) (s : State) (caller : ℕ) (c : Cmd) (known : caller < n.
     -- an entry of the weak table gets one
     slot_of_entry : (v : ℕ) (key : Id) → way_of s caller c ≡ adds_entry v key
         → HasExactly n s caller c (TakesSlot n s kind.Dependent)
-    slot_of_entry v key is = by_way (adds_entry v key) is (TakesSlot n s kind.Dependent) there back
+    slot_of_entry v key is = by_way n s caller c known valid (adds_entry v key) is (TakesSlot n s kind.Dependent) there back
       where
         there : (e : Entry) (after : State) → e.caller ≡ caller → e.cmd ≡ c
             → TakesWay n s e after (adds_entry v key) → TakesSlot n s kind.Dependent e
@@ -179,7 +113,7 @@ module _ (n : Numbers) (s : State) (caller : ℕ) (c : Cmd) (known : caller < n.
     -- a block is given back, or none
     pub block_of_trim : (k : Kind) → way_of s caller c ≡ gives_back k
         → HasExactly n s caller c (GivesBlock s k)
-    block_of_trim k is = by_way (gives_back k) is (GivesBlock s k) there back
+    block_of_trim k is = by_way n s caller c known valid (gives_back k) is (GivesBlock s k) there back
       where
         there : (e : Entry) (after : State) → e.caller ≡ caller → e.cmd ≡ c
             → TakesWay n s e after (gives_back k) → GivesBlock s k e
@@ -204,46 +138,46 @@ module _ (n : Numbers) (s : State) (caller : ℕ) (c : Cmd) (known : caller < n.
 
     -- ---- `addr`
 
-    module _ (h : ℕ) (is : way_of s caller c ≡ replies_place h) where
-      abbrev here : Judge
+    module _ (h : ℕ) (is : way_of s caller c ≡ replies_address h) where
+      abbrev here : MachineView
       here = record { numbers = n; state = s }
 
       -- it is refused
       pub address_refused : (refused : Refusal) → pinned_in s caller h ≡ Err refused
           → HasOne n s caller c (entry_by caller c (done_of (Err refused)))
       address_refused refused pinned =
-          one_entry s (done_of (Err refused)) (λ choice x.
-          let its = place_refused caller h choice here refused pinned x in (
+          one_entry n s caller c known valid s (done_of (Err refused)) (λ choice x.
+          let its = addr_refused caller h choice here refused pinned x in (
             subst (TakesWay n s (entry_by caller x (done_of (Err refused))) s) (sym is) its.does,
             λ e t takes by of chosen. its.only e t (subst (TakesWay n s e t) is takes) by of chosen,
           ))
 
       -- it has one
-      pub address_again : (id : Id) (own : ℕ) → pinned_in s caller h ≡ Ok id → get s.places id.0 ≡ Some own
+      pub address_again : (id : Id) (own : ℕ) → pinned_in s caller h ≡ Ok id → get s.pinned id.0 ≡ Some own
           → HasOne n s caller c
           (entry_by caller c (record { reply = reply.Place own; slot = None; grown = Zero }))
       address_again id own pinned has =
           let made : Done = record { reply = reply.Place own; slot = None; grown = Zero } in
-          one_entry s made (λ choice x.
-          let its = place_again caller h choice here id own pinned has x in (
+          one_entry n s caller c known valid s made (λ choice x.
+          let its = addr_again caller h choice here id own pinned has x in (
             subst (TakesWay n s (entry_by caller x made) s) (sym is) its.does,
             λ e t takes by of chosen. its.only e t (subst (TakesWay n s e t) is takes) by of chosen,
           ))
 
       -- it has none
-      pub address_free : (id : Id) → pinned_in s caller h ≡ Ok id → get s.places id.0 ≡ None
+      pub address_free : (id : Id) → pinned_in s caller h ≡ Ok id → get s.pinned id.0 ≡ None
           → HasExactly n s caller c (ReturnsFree s id)
-      address_free id pinned none = by_way (replies_place h) is (ReturnsFree s id) there back
+      address_free id pinned none = by_way n s caller c known valid (replies_address h) is (ReturnsFree s id) there back
         where
           any : Choice
-          any = record { caller = caller; slot = None; grown = Zero; place = 0 }
+          any = record { caller = caller; slot = None; grown = Zero; address = 0 }
 
           there : (e : Entry) (after : State) → e.caller ≡ caller → e.cmd ≡ c
-              → TakesWay n s e after (replies_place h) → ReturnsFree s id e
+              → TakesWay n s e after (replies_address h) → ReturnsFree s id e
           there e after by of found =
               let out = outcome_of caller h any here e after (Ok id) by pinned found in (
-                found.place,
-                subst (λ o. MatchOption o (IsFreePlace s id found.place) (λ x. found.place ≡ x)) none
+                found.address,
+                subst (λ o. MatchOption o (IsFreeAddress s id found.address) (λ x. found.address ≡ x)) none
                     (may_of caller h any here id e after pinned by found),
                 out.reply,
                 out.slot,
@@ -251,15 +185,15 @@ module _ (n : Numbers) (s : State) (caller : ℕ) (c : Cmd) (known : caller < n.
               )
 
           back : (e : Entry) → e.caller ≡ caller → e.cmd ≡ c → ReturnsFree s id e
-              → (after : State) × TakesWay n s e after (replies_place h)
+              → (after : State) × TakesWay n s e after (replies_address h)
           back e by of free =
               let made : Done = record { reply = reply.Place free.0; slot = None; grown = Zero } in
               let same = same_entry e caller c made by of free.3 free.4 free.2 in
-              let new : Judge = record { numbers = n; state = with_place s id free.0 } in (
-                with_place s id free.0,
-                subst (λ x. TakesWay n s x (with_place s id free.0) (replies_place h)) (sym same)
-                    (at_place caller h any here c new id free.0 pinned
-                    (subst (λ o. MatchOption o (IsFreePlace s id free.0) (λ x. free.0 ≡ x)) (sym none)
+              let new : MachineView = record { numbers = n; state = with_address s id free.0 } in (
+                with_address s id free.0,
+                subst (λ x. TakesWay n s x (with_address s id free.0) (replies_address h)) (sym same)
+                    (at_address caller h any here c new id free.0 pinned
+                    (subst (λ o. MatchOption o (IsFreeAddress s id free.0) (λ x. free.0 ≡ x)) (sym none)
                     free.1) refl),
               )
 

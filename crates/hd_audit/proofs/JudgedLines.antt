@@ -11,18 +11,20 @@ use Rattle.hd_model.specs.declared.data.Id.{Id}
 use Rattle.hd_model.specs.declared.data.Slot.{Slot}
 use Rattle.hd_model.specs.FullText.{end_of, full_line}
 use Rattle.hd_model.specs.Grammar.{AreLists}
-use Rattle.hd_model.specs.Judged.{AreRight, IsWhole, at_the_end, list_of, so_far}
+use Rattle.hd_model.specs.RunTexts.{AreRight, IsWhole, at_the_end, list_of, so_far}
 use Rattle.hd_model.specs.Laws.{makes_object}
 use Rattle.hd_model.specs.Run.{commands_of, part_of, stay}
 use Rattle.hd_model.specs.State.{Handle, Numbers, State, count_of, handle_at, last_serial, start_of}
 use Rattle.hd_model.specs.Step.{Step}
 use Rattle.hd_model.specs.Text.{end_text, is_collect, numbered_after}
-use Rattle.hd_model.specs.UserLaws.{HasPlacesApart}
+use Rattle.hd_model.specs.UserLaws.{HasPinnedApart}
 use Rattle.hd_model.specs.WellFormed.{IsWellFormed}
-use Rattle.hd_model.proofs.{PlacesApart.pinned_objects_do_not_overlap, ReadAfterWrite.replicate_cases, RunCounts.objects_are_made_less_removed, Serials.count-le, Serials.last_serial-le, WellFormedSteps.run_is_well_formed}
+use Rattle.hd_model.proofs.{AddressesApart.pinned_objects_do_not_overlap, ReadAfterWrite.replicate_cases, RunCounts.objects_are_made_less_removed, Serials.count-le, Serials.last_serial-le, WellFormedSteps.run_is_well_formed}
 use Rattle.hd_print.proofs.JudgedRuns.{IsNextLine, goes_on, lines_more, next_line, next_number, of_end, of_entry}
-use Rattle.hd_audit.specs.SoFar.{IsJudged, entries_of}
-use Rattle.hd_audit.specs.Choice.{HasChoice, choice_in}
+use Rattle.hd_audit.specs.Inside.{IsJudged}
+use Rattle.hd_audit.specs.SoFar.{entries_of}
+use Rattle.hd_plain.specs.ChosenSteps.{HasChoice}
+use Rattle.hd_plain.specs.Choice.{choice_in}
 use Rattle.hd_audit.proofs.StepNumbers.{step_low}
 use Rattle.hd_audit.proofs.ChoiceLines.{line_has_choice}
 use Rattle.hd_model.specs.declared.limits.TheConstants.{BLOCKS, CALLERS, MOST_COMMANDS}
@@ -106,8 +108,8 @@ module _ {n : Numbers} {lists : List (List Cmd)} {s : State} {done : List ℕ} {
   pub well_formed : IsWellFormed n s
   well_formed = run_is_well_formed n j.journal s j.along.run
 
-  pub places_apart : HasPlacesApart s
-  places_apart = pinned_objects_do_not_overlap n j.journal s j.along.run
+  pub addresses_apart : HasPinnedApart s
+  addresses_apart = pinned_objects_do_not_overlap n j.journal s j.along.run
 
   pub serial_fits : (c : ℕ) → last_serial s c + 1 < 2 ^ 32
   serial_fits c = let low = last_serial-le n j.journal s c j.along.run in omega (arith, low, j.few)
@@ -189,7 +191,7 @@ module _ {n : Numbers} {lists : List (List Cmd)} {s : State} {done : List ℕ} {
             is_line = its_line;
             chosen = subst (λ l. HasChoice e (choice_in l)) (sym its_line)
                 (line_has_choice e (get_or done e.caller 0 + 1)
-                (step_low n s well_formed j.few_blocks places_apart e t j.few_callers step));
+                (step_low n s well_formed j.few_blocks addresses_apart e t j.few_callers step));
           }
       by (of_end all is) = let zero = none_left all in absurd (omega (arith, zero, some))
 

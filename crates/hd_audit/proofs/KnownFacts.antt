@@ -8,12 +8,12 @@ use Rattle.std.proofs.lemmas.List.Sums.{count_by-le-length}
 use Rattle.hd_model.specs.declared.command.Cmd.{Cmd}
 use Rattle.hd_model.specs.declared.data.Entry.{Entry}
 use Rattle.hd_model.specs.Valid.{IsValid}
-use Rattle.hd_audit.specs.declared.lines.Judged.{Judged}
-use Rattle.hd_audit.specs.Commands.{MayStep}
-use Rattle.hd_audit.specs.Known.{HasLines}
-use Rattle.hd_audit.proofs.JudgedLines.{count_fits, places_apart, serial_fits, well_formed}
+use Rattle.hd_audit.specs.declared.lines.Progress.{Progress}
+use Rattle.hd_plain.specs.Commands.{MayStep}
+use Rattle.hd_audit.specs.Inside.{HasLines}
+use Rattle.hd_audit.proofs.JudgedLines.{count_fits, addresses_apart, serial_fits, well_formed}
 
-module _ (lists : List (List Cmd)) (j : Judged) (has : HasLines lists j) where
+module _ (lists : List (List Cmd)) (j : Progress) (has : HasLines lists j) where
   -- the number of a caller's next entry fits
   pub number_fits : (c : ℕ) → c < j.machine.numbers.callers → get_or j.done.items c 0 + 1 < 2 ^ 32
   number_fits c known =
@@ -29,7 +29,7 @@ module _ (lists : List (List Cmd)) (j : Judged) (has : HasLines lists j) where
     formed = well_formed has.1;
     serial = serial_fits has.1 c;
     counts = λ slot handle is. count_fits has.1 (record { 0 = slot }) handle is;
-    apart = places_apart has.1;
+    apart = addresses_apart has.1;
   }
 
   -- an object has few fields

@@ -3,7 +3,7 @@ use Rattle.std.proofs.Common.{Bool, List, None, Some, [], ap, arith, cond, drop,
 use Rattle.std.proofs.lemmas.Option.{none-some, same_Some}
 use Rattle.std.specs.List.{concat, position, position_or_len}
 use Rattle.hd_model.specs.Grammar.{is_line_end}
-use Rattle.hd_model.specs.Judged.{onto_line, cut_lines}
+use Rattle.hd_model.specs.RunTexts.{onto_line, cut_lines}
 
 -- the lines, one after another, are the bytes
 onto_is : (b : ℕ) (lines : List (List ℕ)) → concat (onto_line b lines) ≡ b ∷ concat lines

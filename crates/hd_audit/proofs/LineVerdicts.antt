@@ -10,11 +10,11 @@ use Rattle.std.proofs.lemmas.List.Folds.{concat-append}
 use Rattle.hd_model.specs.declared.command.Cmd.{Cmd}
 use Rattle.hd_model.specs.declared.data.Entry.{Entry}
 use Rattle.hd_model.specs.FullText.{end_of, full_line, full_lines}
-use Rattle.hd_model.specs.Judged.{AreRight, IsNoRun, IsRunText, at_the_end, cut_lines, missing, so_far, wrong}
+use Rattle.hd_model.specs.RunTexts.{AreRight, IsNoRun, IsRunText, at_the_end, cut_lines, missing, so_far, wrong}
 use Rattle.hd_model.specs.State.{Numbers, State}
 use Rattle.hd_model.specs.Text.{end_text, numbered_after}
 use Rattle.hd_print.proofs.JudgedRuns.{next_number}
-use Rattle.hd_audit.specs.SoFar.{IsJudged}
+use Rattle.hd_audit.specs.Inside.{IsJudged}
 use Rattle.hd_audit.proofs.JudgedLines.{end_only, ends_right, right_so_far, whole}
 use Rattle.hd_audit.proofs.LineCuts.{lines_again}
 use Rattle.hd_audit.proofs.ChoiceLines.{digits_are, words_are}

@@ -7,22 +7,22 @@ use Rattle.std.proofs.lemmas.List.{same_from_push, take-take}
 use Rattle.std.specs.FinMap.{len}
 use Rattle.hd_model.specs.declared.command.Cmd.{Cmd}
 use Rattle.hd_model.specs.FullText.{full_lines}
-use Rattle.hd_model.specs.Judged.{AreRight, cut_lines, list_of}
+use Rattle.hd_model.specs.RunTexts.{AreRight, cut_lines, list_of}
 use Rattle.hd_model.specs.State.{Numbers}
 use Rattle.hd_model.specs.Text.{end_text, is_collect}
 use Rattle.hd_print.proofs.JudgedRuns.{one_run}
 use Rattle.hd_print.proofs.RightLines.{right_take}
-use Rattle.hd_audit.specs.declared.lines.Judged.{Judged}
+use Rattle.hd_audit.specs.declared.lines.Progress.{Progress}
 use Rattle.hd_audit.specs.Before.{IsBefore, IsEntryLine, MayCome, OneStateBefore, end_after}
 use Rattle.hd_audit.specs.Known.{Known, known_of}
-use Rattle.hd_audit.specs.SoFar.{Along, IsAt, TakesLine}
+use Rattle.hd_audit.specs.Inside.{Along, TakesLine}
+use Rattle.hd_audit.proofs.LinesSoFar.{IsAt, right_follows}
 use Rattle.hd_audit.proofs.JudgedLines.{NextEntry, end_only, ends_right, judged_more, left_of, next_entry, next_left, right_so_far}
-use Rattle.hd_audit.proofs.LinesSoFar.{right_follows}
 use Rattle.hd_audit.proofs.LineVerdicts.{none_after, none_ends, take_of, take_one}
 
 -- ---- the lines that may come
 
-module _ (lists : List (List Cmd)) (j : Judged) (rest : List ℕ) (lines : List (List ℕ))
+module _ (lists : List (List Cmd)) (j : Progress) (rest : List ℕ) (lines : List (List ℕ))
     (along : Along lists j lines) where
   -- where a command is due, something is left
   due_left : (c : ℕ) (cmd : Cmd) → c < j.machine.numbers.callers
@@ -123,7 +123,7 @@ drop_of : (xs ys : List (List ℕ)) → drop (length xs) (xs ++ ys) ≡ ys
 drop_of [] ys = refl
 drop_of (x ∷ xs) ys = drop_of xs ys
 
-module _ {n : Numbers} {lists : List (List Cmd)} {j : Judged} {bytes : List ℕ} {count : ℕ} (most : ℕ) where
+module _ {n : Numbers} {lists : List (List Cmd)} {j : Progress} {bytes : List ℕ} {count : ℕ} (most : ℕ) where
   pub some_rest : (rest : List ℕ) → IsAt n lists j bytes rest count → count < most
       → most ≤ length (cut_lines bytes) → 0 < length rest
   some_rest [] at less within =
@@ -163,7 +163,7 @@ module _ {n : Numbers} {lists : List (List Cmd)} {j : Judged} {bytes : List ℕ}
       next_of_judge = subst (λ m. AreRight m lists (at.lines ++ line ∷ [])) (sym at.numbers) next_right
 
       -- and so the judge takes it
-      pub taken : (new : Judged) (result : Bool) → TakesLine lists j line new result
+      pub taken : (new : Progress) (result : Bool) → TakesLine lists j line new result
           → IsAt n lists new bytes after (count + 1)
       taken new true took = right_follows at line after next new took
       taken new false none = absurd (none at.lines at.along next_of_judge)

@@ -3,17 +3,26 @@ use Rattle.std.proofs.Common.{List, [], ap, append_assoc, arith, eqb-true, false
 use Rattle.std.proofs.lemmas.List.{nil_from_length}
 use Rattle.std.specs.FinMap.{len}
 use Rattle.hd_model.specs.declared.command.Cmd.{Cmd}
-use Rattle.hd_model.specs.Judged.{IsNoRun, cut_lines}
+use Rattle.hd_model.specs.RunTexts.{IsNoRun, cut_lines}
 use Rattle.hd_model.specs.State.{Numbers}
-use Rattle.hd_audit.specs.declared.lines.Judged.{Judged}
+use Rattle.hd_audit.specs.declared.lines.Progress.{Progress}
 use Rattle.hd_audit.specs.declared.lines.Verdict.{Verdict}
-use Rattle.hd_audit.specs.Judging.{IsRight}
-use Rattle.hd_audit.specs.SoFar.{Ends, IsAt, TakesLine}
+use Rattle.hd_audit.specs.RightVerdicts.{IsRight}
+use Rattle.hd_audit.specs.Inside.{Ends, TakesLine, Along}
 use Rattle.hd_audit.proofs.JudgedLines.{lines_fit, objects_fit}
 use Rattle.hd_audit.proofs.LineVerdicts.{missing_line, wrong_line}
 use Rattle.hd_model.specs.declared.limits.TheConstants.{MOST_COMMANDS}
 
-module _ {n : Numbers} {lists : List (List Cmd)} {j : Judged} {bytes rest : List ℕ} {count : ℕ}
+-- after a number of lines of bytes, with others left
+pub record IsAt (n : Numbers) (lists : List (List Cmd)) (j : Progress) (bytes rest : List ℕ) (count : ℕ)
+    : Type 0 where
+  pub lines : List (List ℕ)
+  pub along : Along lists j lines
+  pub numbers : j.machine.numbers ≡ n
+  pub count_is : length lines ≡ count
+  pub cut : cut_lines bytes ≡ lines ++ cut_lines rest
+
+module _ {n : Numbers} {lists : List (List Cmd)} {j : Progress} {bytes rest : List ℕ} {count : ℕ}
     (at : IsAt n lists j bytes rest count) where
   pub few_lines : count + j.left ≤ MOST_COMMANDS
   few_lines = let low = lines_fit at.along in let same = at.count_is in omega (arith, low, same)
@@ -32,7 +41,7 @@ module _ {n : Numbers} {lists : List (List Cmd)} {j : Judged} {bytes rest : List
       no_run (missing_line at.along bytes rest at.cut
       (nil_from_length rest (eqb-true (length rest) 0 empty)))
 
-  module _ (line after : List ℕ) (next : cut_lines rest ≡ line ∷ cut_lines after) (new : Judged) where
+  module _ (line after : List ℕ) (next : cut_lines rest ≡ line ∷ cut_lines after) (new : Progress) where
     -- a line follows that is not right
     pub wrong_follows : TakesLine lists j line new false → IsNoRun n lists bytes (count + 1)
     wrong_follows none =

@@ -8,7 +8,7 @@ use Rattle.hd_model.specs.declared.command.Cmd.{Cmd}
 use Rattle.hd_model.specs.declared.data.Entry.{Entry}
 use Rattle.hd_model.specs.FullText.{end_of, full_line, full_lines}
 use Rattle.hd_model.specs.Grammar.{is_line_end}
-use Rattle.hd_model.specs.Judged.{AreRight, IsRunText, at_the_end, cut_lines, missing, onto_line, wrong}
+use Rattle.hd_model.specs.RunTexts.{AreRight, IsRunText, at_the_end, cut_lines, missing, onto_line, wrong}
 use Rattle.hd_model.specs.State.{Numbers, State}
 use Rattle.hd_model.specs.Text.{collections_of, newline, numbered_after}
 use Rattle.hd_print.proofs.JudgedRuns.{next_number}

@@ -17,11 +17,11 @@ use Rattle.hd_model.specs.declared.data.Reply.TheVariants as reply
 use Rattle.hd_model.specs.declared.data.Refusal.TheVariants as refusal
 use Rattle.hd_model.specs.Anchors.{ReturnsRoot}
 use Rattle.hd_model.specs.Command.{Outcome, reply_with, refuses}
-use Rattle.hd_model.specs.Places.{IsFreePlace, MayReturn}
+use Rattle.hd_model.specs.PinnedAddresses.{IsFreeAddress, MayReturn}
 use Rattle.hd_model.specs.Role.{pins}
 use Rattle.hd_model.specs.State.{Handle, IsAllFree, IsFree, Numbers, State, block_of, first_slot, handle_at, handle_register_of, object_by_id, total_size, use_of}
-use Rattle.hd_model.specs.Step.{RepliesPlace, FindsTableFull, IsOutcome, MayGive, Step, TakesWay, Way, adds_entry, replies_place, replies_root, collects, decided, gives_back, makes_handle, makes_object, pinned_by, pinned_target, way_of}
-use Rattle.hd_model.specs.UserLaws.{HasPlacesApart}
+use Rattle.hd_model.specs.Step.{RepliesAddress, FindsTableFull, IsOutcome, MayGive, Step, TakesWay, Way, adds_entry, replies_address, replies_root, collects, decided, gives_back, makes_handle, makes_object, pinned_by, pinned_target, way_of}
+use Rattle.hd_model.specs.UserLaws.{HasPinnedApart}
 use Rattle.hd_model.specs.WellFormed.{IsWellFormed}
 use Rattle.hd_model.specs.Kinds.{kind_of}
 use Rattle.hd_model.proofs.DecidedOutcomes.{DecidedHas, IsDecided, decided_has}
@@ -31,21 +31,21 @@ use Rattle.hd_audit.proofs.ChoiceLines.{IsLow, IsLowGrowth, IsLowSlot}
 use Rattle.hd_model.specs.declared.limits.TheConstants.{BLOCKS, CALLERS, ROWS}
 
 -- the address in a reply
-abbrev place_of : Reply → Option ℕ
-place_of (reply.Place p) = Some p
-place_of (reply.Object id) = None
-place_of (reply.Value n) = None
-place_of (reply.Generation g) = None
-place_of (reply.Report r) = None
-place_of (reply.Chain from edges) = None
-place_of (reply.Refused r) = None
-place_of reply.Done = None
-place_of reply.Nothing = None
-place_of reply.NoneQueued = None
-place_of reply.Absent = None
-place_of reply.Unrooted = None
+abbrev address_of : Reply → Option ℕ
+address_of (reply.Place p) = Some p
+address_of (reply.Object id) = None
+address_of (reply.Value n) = None
+address_of (reply.Generation g) = None
+address_of (reply.Report r) = None
+address_of (reply.Chain from edges) = None
+address_of (reply.Refused r) = None
+address_of reply.Done = None
+address_of reply.Nothing = None
+address_of reply.NoneQueued = None
+address_of reply.Absent = None
+address_of reply.Unrooted = None
 
-no_address : (r : Reply) → IsDecided r → place_of r ≡ None
+no_address : (r : Reply) → IsDecided r → address_of r ≡ None
 no_address (reply.Place p) h = absurd h
 no_address (reply.Refused r) h = refl
 no_address r h = refl
@@ -53,17 +53,17 @@ no_address r h = refl
 -- an outcome with a low slot and no address
 record IsPlain (o : Outcome) : Type 0 where
   slot : IsLowSlot o.slot
-  reply : place_of o.reply ≡ None
+  reply : address_of o.reply ≡ None
 
-plain : (r : Reply) (s : State) → place_of r ≡ None → IsPlain (reply_with r s)
+plain : (r : Reply) (s : State) → address_of r ≡ None → IsPlain (reply_with r s)
 plain r s is = record { slot = tt; reply = is }
 
 is_there : {A : Type 0} (x : Option A) (d : A) → IsSome x → x ≡ Some (unwrap_or x d)
 is_there None d h = absurd (true≢false (sym h))
 is_there (Some x) d h = refl
 
-root_is : {s : State} (goal : Id) (r : Reply) → ReturnsRoot s goal r → place_of r ≡ None
-root_is goal r is_root = ⊎_elim (λ chain. ap place_of chain.reply_is) (λ none. ap place_of none.1) is_root
+root_is : {s : State} (goal : Id) (r : Reply) → ReturnsRoot s goal r → address_of r ≡ None
+root_is goal r is_root = ⊎_elim (λ chain. ap address_of chain.reply_is) (λ none. ap address_of none.1) is_root
 
 module _ (n : Numbers) (s : State) (w : IsWellFormed n s) (few : n.blocks ≤ BLOCKS) where
   used_low : (slot : Slot) → IsSome (use_of s (block_of slot)) → slot.0 < 2 ^ 32
@@ -114,16 +114,16 @@ module _ (n : Numbers) (s : State) (w : IsWellFormed n s) (few : n.blocks ≤ BL
   record HasLow (e : Entry) : Type 0 where
     slot : IsLowSlot e.slot
     grown : IsLowGrowth e.grown
-    place : (p : ℕ) → e.reply ≡ reply.Place p → p < 2 ^ 32
+    address : (p : ℕ) → e.reply ≡ reply.Place p → p < 2 ^ 32
 
-  no_place : (r : Reply) → place_of r ≡ None → (p : ℕ) → r ≡ reply.Place p → p < 2 ^ 32
-  no_place r is p place = absurd (none-some p (sym is ∙ ap place_of place))
+  none_returned : (r : Reply) → address_of r ≡ None → (p : ℕ) → r ≡ reply.Place p → p < 2 ^ 32
+  none_returned r is p address = absurd (none-some p (sym is ∙ ap address_of address))
 
   of_plain : (e : Entry) (o : Outcome) (t : State) → IsPlain o → IsOutcome e o t → HasLow e
   of_plain e o t low is = record {
     slot = subst IsLowSlot (sym is.slot) low.slot;
     grown = subst IsLowGrowth (sym is.grown) tt;
-    place = no_place e.reply (ap place_of is.reply ∙ low.reply);
+    address = none_returned e.reply (ap address_of is.reply ∙ low.reply);
   }
 
   of_given : (wanted : Kind) (e : Entry) (slot : Slot) → e.slot ≡ Some slot
@@ -132,25 +132,25 @@ module _ (n : Numbers) (s : State) (w : IsWellFormed n s) (few : n.blocks ≤ BL
       let low = given_low wanted e.grown slot may in record {
         slot = subst IsLowSlot (sym is) low.0;
         grown = low.1;
-        place = no_place e.reply (ap place_of replies);
+        address = none_returned e.reply (ap address_of replies);
       }
 
   of_full : (wanted : Kind) (e : Entry) (t : State) → FindsTableFull n s e t wanted → HasLow e
   of_full wanted e t full = of_plain e _ t (refused _) full.refused
 
-  module _ (apart : HasPlacesApart s) where
+  module _ (apart : HasPinnedApart s) where
     may_low : (id : Id) (p : ℕ) → MayReturn s id p → p < 2 ^ 32
-    may_low id p may = by (get s.places id.0) refl may
+    may_low id p may = by (get s.pinned id.0) refl may
       where
-        by : (o : Option ℕ) → get s.places id.0 ≡ o
-            → MatchOption o (IsFreePlace s id p) (λ own. p ≡ own) → p < 2 ^ 32
+        by : (o : Option ℕ) → get s.pinned id.0 ≡ o
+            → MatchOption o (IsFreeAddress s id p) (λ own. p ≡ own) → p < 2 ^ 32
         by None none free = free.small
         by (Some own) some same =
             let object = object_by_id s id in
             let low : own < 2 ^ 32 = apart.small id own (own + (length object.fields + 3)) (record {
               object = object;
-              is_stored = is_there (get s.objects id.0) _ (w.names.places id.0 (ap is_some some));
-              place = some;
+              is_stored = is_there (get s.objects id.0) _ (w.names.pinned id.0 (ap is_some some));
+              address = some;
               end_is = refl;
             }) in
             subst (λ k. k < 2 ^ 32) (sym same) low
@@ -163,8 +163,8 @@ module _ (n : Numbers) (s : State) (w : IsWellFormed n s) (few : n.blocks ≤ BL
         ap (option_and_then (λ x. pinned_by (handle_at s x))) f ∙ ap pinned_by g
         ∙ ap (λ b. cond b handle.target None) same ∙ target
 
-    of_place : (e : Entry) (t : State) (h : ℕ) → RepliesPlace s e t h → HasLow e
-    of_place e t h a =
+    of_address : (e : Entry) (t : State) (h : ℕ) → RepliesAddress s e t h → HasLow e
+    of_address e t h a =
         let Low : Outcome → Type 0 = λ o. IsOutcome e o t → HasLow e in
         let lost : (r : Refusal) → Low (refuses r s) = λ r. of_plain e _ t (refused r) in
         on_handle_cases Low s e.caller h _ (λ _. lost _) (λ _ _ _. lost _)
@@ -173,9 +173,9 @@ module _ (n : Numbers) (s : State) (w : IsWellFormed n s) (few : n.blocks ≤ BL
         (λ id target is. record {
           slot = subst IsLowSlot (sym is.slot) tt;
           grown = subst IsLowGrowth (sym is.grown) tt;
-          place = λ p placed. subst (λ k. k < 2 ^ 32)
-              (same_Some a.place p (sym (ap place_of is.reply) ∙ ap place_of placed))
-              (may_low id a.place (a.may id (found e.caller h slot handle id f g same target)));
+          address = λ p placed. subst (λ k. k < 2 ^ 32)
+              (same_Some a.address p (sym (ap address_of is.reply) ∙ ap address_of placed))
+              (may_low id a.address (a.may id (found e.caller h slot handle id f g same target)));
         })) (λ _. lost _)) a.outcome
 
     of_way : (e : Entry) (t : State) (way : Way) → DecidedHas IsPlain way → TakesWay n s e t way → HasLow e
@@ -189,14 +189,14 @@ module _ (n : Numbers) (s : State) (w : IsWellFormed n s) (few : n.blocks ≤ BL
     of_way e t (collects k) low is = record {
       slot = subst IsLowSlot (sym is.slot) tt;
       grown = subst IsLowGrowth (sym is.grown) tt;
-      place = no_place e.reply (ap place_of is.reply);
+      address = none_returned e.reply (ap address_of is.reply);
     }
-    of_way e t (replies_place h) low is = of_place e t h is
+    of_way e t (replies_address h) low is = of_address e t h is
     of_way e t (gives_back wanted) low is =
         ⊎_elim (λ g. record {
           slot = subst IsLowSlot (sym g.slot) tt;
           grown = subst IsLowGrowth (sym g.grown) (all_free_low wanted g.block g.free);
-          place = no_place e.reply (ap place_of g.reply);
+          address = none_returned e.reply (ap address_of g.reply);
         }) (of_plain e _ t (plain _ s refl)) is
     of_way e t (adds_entry v key) low is =
         ⊎_elim (λ a. of_given kind.Dependent e a.slot a.given a.may a.reply)
@@ -213,5 +213,5 @@ module _ (n : Numbers) (s : State) (w : IsWellFormed n s) (few : n.blocks ≤ BL
           caller = let known = step.caller in omega (arith, known, callers);
           slot = low.slot;
           grown = low.grown;
-          place = low.place;
+          address = low.address;
         }

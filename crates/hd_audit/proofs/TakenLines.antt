@@ -10,13 +10,14 @@ use Rattle.hd_model.specs.declared.command.Cmd.{Cmd}
 use Rattle.hd_model.specs.declared.data.Entry.{Entry}
 use Rattle.hd_model.specs.FullText.{full_line}
 use Rattle.hd_model.specs.Grammar.{is_line_end}
-use Rattle.hd_model.specs.Judged.{AreRight, IsNoRun, IsRunText, cut_lines, list_of, onto_line}
+use Rattle.hd_model.specs.RunTexts.{AreRight, IsNoRun, IsRunText, cut_lines, list_of, onto_line}
 use Rattle.hd_model.specs.State.{Numbers, State}
 use Rattle.hd_model.specs.Step.{Step}
 use Rattle.hd_model.specs.Text.{end_text, is_collect}
-use Rattle.hd_audit.specs.declared.choice.Choice.{Choice}
-use Rattle.hd_audit.specs.SoFar.{IsJudged}
-use Rattle.hd_audit.specs.Choice.{HasChoice, choice_in}
+use Rattle.hd_plain.specs.declared.choice.Choice.{Choice}
+use Rattle.hd_audit.specs.Inside.{IsJudged}
+use Rattle.hd_plain.specs.ChosenSteps.{HasChoice}
+use Rattle.hd_plain.specs.Choice.{choice_in}
 use Rattle.hd_audit.proofs.JudgedLines.{NextEntry, judged_more, next_entry}
 use Rattle.hd_audit.proofs.LineVerdicts.{line_after, run_text, wrong_end}
 

@@ -1,10 +1,7 @@
 -- What may come after some lines of a text: the lines, and the entries that a command may have.
-use Rattle.std.specs.Prelude.{◌≡◌, ℕ, ◌+◌, ◌<◌, ◌≤◌, ◌↔◌, ◌⊎◌, Bool, true, false, cond, List, [], ◌∷◌, ◌++◌, length, sum_by, slice_get, slice_index, Option, Some, None, option_map, AllPairs, Contains}
+use Rattle.std.specs.Prelude.{◌≡◌, ℕ, ◌+◌, ◌<◌, ◌≤◌, ◌↔◌, ◌⊎◌, true, false, cond, List, [], ◌∷◌, ◌++◌, length, sum_by, slice_get, slice_index, Option, Some, None, option_map, AllPairs, Contains}
 use Rattle.std.specs.FinMap.{get, len}
 use Rattle.hd_model.specs.declared.command.Cmd.{Cmd}
-use Rattle.hd_model.specs.declared.class.Class.{Class}
-use Rattle.hd_model.specs.declared.class.Class.TheVariants as class
-use Rattle.hd_model.specs.Class.{class_of}
 use Rattle.hd_model.specs.declared.data.Entry.{Entry}
 use Rattle.hd_model.specs.declared.data.Id.{Id}
 use Rattle.hd_model.specs.declared.data.Kind.{Kind}
@@ -15,9 +12,9 @@ use Rattle.hd_model.specs.declared.data.Refusal.TheVariants as refusal
 use Rattle.hd_model.specs.declared.data.Reply.TheVariants as reply
 use Rattle.hd_model.specs.declared.limits.TheConstants.{BLOCKS, CALLERS}
 use Rattle.hd_model.specs.FullText.{full_line, full_lines}
-use Rattle.hd_model.specs.Judged.{AreRight, GoesAlong, list_of}
+use Rattle.hd_model.specs.RunTexts.{AreRight, GoesAlong, list_of}
 use Rattle.hd_model.specs.Kinds.{is_paired}
-use Rattle.hd_model.specs.Places.{IsFreePlace}
+use Rattle.hd_model.specs.PinnedAddresses.{IsFreeAddress}
 use Rattle.hd_model.specs.State.{Numbers, State, IsAllFree, given_of, object_by_id, size_of}
 use Rattle.hd_model.specs.Step.{Step, MayGive, IsLeastUnused, blocks_needed}
 use Rattle.hd_model.specs.Text.{collections_of, end_text}
@@ -26,6 +23,7 @@ use Rattle.hd_audit.specs.SoFar.{entries_of}
 use Rattle.hd_audit.specs.declared.entry_choice.Entries.{Entries}
 use Rattle.hd_audit.specs.declared.entry_choice.Entries.TheVariants as entries
 use Rattle.hd_audit.specs.declared.entry_choice.PinnedCells.{PinnedCells}
+use Rattle.hd_plain.specs.OneEntry.{HasExactly, HasOne, has_one_step}
 
 -- ---- the lines that may come
 
@@ -81,17 +79,6 @@ pub record IsBefore (n : Numbers) (lists : List (List Cmd)) (lines : List (List 
 
 -- ---- the entries that a command may have
 
--- the entries of the steps of a caller's command are exactly these
-abbrev pub HasExactly : Numbers → State → ℕ → Cmd → (Entry → Type 0) → Type 0
-HasExactly n s caller c P =
-    (e : Entry) → e.caller ≡ caller → e.cmd ≡ c → ((after : State) × Step n s e after) ↔ P e
-
--- this one alone
-pub record HasOne (n : Numbers) (s : State) (caller : ℕ) (c : Cmd) (entry : Entry) : Type 0 where
-  pub caller_is : entry.caller ≡ caller
-  pub command : entry.cmd ≡ c
-  pub only : HasExactly n s caller c (λ e. e ≡ entry)
-
 -- an entry gives a new row of a kind a slot, or it is refused for a full table
 abbrev pub TakesSlot : Numbers → State → Kind → Entry → Type 0
 TakesSlot n s kind e =
@@ -102,7 +89,8 @@ TakesSlot n s kind e =
 -- an entry returns an address that is free for an object
 abbrev pub ReturnsFree : State → Id → Entry → Type 0
 ReturnsFree s id e =
-    (place : ℕ) × IsFreePlace s id place × (e.reply ≡ reply.Place place) × (e.slot ≡ None) × (e.grown ≡ Zero)
+    (address : ℕ) × IsFreeAddress s id address × (e.reply ≡ reply.Place address) × (e.slot ≡ None)
+    × (e.grown ≡ Zero)
 
 -- an entry gives back a block of a kind whose slots are all free, or none
 abbrev pub GivesBlock : State → Kind → Entry → Type 0
@@ -110,24 +98,6 @@ GivesBlock s kind e =
     ((block : ℕ) × IsAllFree s kind block × (e.reply ≡ reply.Value 1) × (e.slot ≡ None)
     × (e.grown ≡ Back block))
     ⊎ ((e.reply ≡ reply.Value 0) × (e.slot ≡ None) × (e.grown ≡ Zero))
-
--- the commands that have one entry, which is found by making the step, by their class
-abbrev pub class_has_one_step : Class → Bool
-class_has_one_step (class.MakesObject fields) = true
-class_has_one_step (class.TakesSlot make t) = false
-class_has_one_step (class.StoresTarget h t) = true
-class_has_one_step (class.StoresSecondary h) = true
-class_has_one_step class.Frees = true
-class_has_one_step (class.GivesBack kind) = false
-class_has_one_step (class.Collects n) = true
-class_has_one_step (class.RepliesPlace h) = false
-class_has_one_step (class.AddsEntry k v) = false
-class_has_one_step (class.LooksUp k) = true
-class_has_one_step (class.Searches s) = true
-class_has_one_step class.Plain = true
-
-abbrev pub has_one_step : Cmd → Bool
-has_one_step c = class_has_one_step (class_of c)
 
 -- what is said of the entries of a caller's command
 abbrev pub MayHave : Numbers → State → ℕ → Cmd → Entries → Type 0
@@ -150,14 +120,15 @@ IsGrowthFor n s kind (Back block) = ⊥
 -- the cells of an object, if it has a pinned address
 abbrev pub pinned_cells : State → Id → Option PinnedCells
 pinned_cells s id =
-    option_map (λ place. record { first = place; count = size_of (object_by_id s id) }) (get s.places id.0)
+    option_map (λ address. record { first = address; count = size_of (object_by_id s id) })
+    (get s.pinned id.0)
 
 -- these are the cells of all objects that have pinned addresses, in rising address
 pub record AreTaken (s : State) (cells : List PinnedCells) : Type 0 where
   pub only : (p : PinnedCells) → Contains cells p
-      → (id : Id) × (get s.places id.0 ≡ Some p.first) × (p.count ≡ size_of (object_by_id s id))
-  pub all : (id : Id) (place : ℕ) → get s.places id.0 ≡ Some place
-      → Contains cells (record { first = place; count = size_of (object_by_id s id) })
+      → (id : Id) × (get s.pinned id.0 ≡ Some p.first) × (p.count ≡ size_of (object_by_id s id))
+  pub all : (id : Id) (address : ℕ) → get s.pinned id.0 ≡ Some address
+      → Contains cells (record { first = address; count = size_of (object_by_id s id) })
   pub rising : AllPairs (λ (a b : PinnedCells). a.first < b.first) cells
 
 -- law: after the same lines there is one state

@@ -1,72 +1,55 @@
--- How the parts of the machine are represented, and what is always true of their fields.
-use Rattle.std.specs.Prelude.{◌≡◌, ℕ, ◌+◌, ◌*◌, ◌<◌, ◌≤◌, ◌^◌, map, Option, Some, None, IsSome, option_map}
-use Rattle.std.specs.List.{find}
-use Rattle.std.specs.FinMap.{FinMap, entries, from_sorted, get}
-use Rattle.std.specs.Ordering.{nat_cmp}
-use Rattle.hd_model.specs.{declared.data.Id.Id, declared.data.Slot.Slot}
-use Rattle.hd_model.specs.declared.limits.TheConstants.{BLOCKS, ROWS}
-use Rattle.hd_model.specs.State.{WeakEntry}
-use Rattle.hd_model.specs.Command.{has_key, is_idle}
-use Rattle.hd_audit.specs.View.{Row}
-use Rattle.hd_audit.specs.declared.data.WeakEntry.{WeakEntry as Pair}
-use Rattle.hd_audit.specs.declared.data.BlockUse.{BlockUse as Use}
-use Rattle.hd_audit.specs.View.{entry_of}
-use Rattle.hd_audit.specs.Judge.{TableView}
+-- What private clauses alone cite.
+use Rattle.std.specs.Prelude.{ℕ, List, ◌≡◌, [], ◌∷◌, ◌++◌, ◌+◌, ◌<◌, ◌≤◌, Bool, true, false, length, sum_by, slice_index}
+use Rattle.hd_model.specs.declared.command.Cmd.{Cmd}
+use Rattle.hd_model.specs.declared.data.Entry.{Entry}
+use Rattle.hd_model.specs.FullText.{full_lines}
+use Rattle.hd_model.specs.Text.{collections_of}
+use Rattle.hd_model.specs.State.{State, Numbers}
+use Rattle.hd_model.specs.declared.limits.TheConstants.{BLOCKS, CALLERS, MOST_COMMANDS}
+use Rattle.hd_model.specs.RunTexts.{AreRight, GoesAlong, cut_lines, list_of}
+use Rattle.hd_audit.specs.declared.lines.Progress.{Progress}
+use Rattle.hd_audit.specs.declared.lines.Verdict.{Verdict}
+use Rattle.hd_audit.specs.RightVerdicts.{IsRight}
+use Rattle.hd_audit.specs.SoFar.{entries_of}
 
--- a map whose values are seen through a function
-abbrev pub seen_as : {A B : Type 0} → (A → B) → FinMap nat_cmp A → FinMap nat_cmp B
-seen_as f m = from_sorted (map (λ e. (e.0, f e.1)) (entries m))
+-- these lines are the full lines of a run, in which each caller has the commands of its list left after as
+-- many entries as are counted for it
+pub record IsJudged (n : Numbers) (lists : List (List Cmd)) (s : State) (done : List ℕ)
+    (left collections : ℕ) (lines : List (List ℕ)) : Type 0 where
+  pub journal : List Entry
+  pub rest : List (List Cmd)
+  pub along : GoesAlong n lists journal s (list_of rest)
+  pub lines_are : lines ≡ full_lines journal
+  pub callers : n.callers ≡ length lists
+  pub few_callers : n.callers ≤ CALLERS
+  pub few_blocks : n.blocks ≤ BLOCKS
+  pub each_rest : length rest ≡ n.callers
+  pub each_done : length done ≡ n.callers
+  pub counts : (c : ℕ) → c < n.callers → slice_index done c ≡ entries_of c journal
+  pub left_is : left ≡ sum_by (λ (list : List Cmd). length list) rest
+  pub few : length journal + left ≤ MOST_COMMANDS
+  pub collected : collections ≡ collections_of journal
 
--- the number of slots of a number of blocks. Block 0 is never used.
-abbrev pub slots_of : ℕ → ℕ
-slots_of blocks = ROWS * (blocks + 1)
+-- the judge has these lines behind it
+abbrev pub Along : List (List Cmd) → Progress → List (List ℕ) → Type 0
+Along lists j lines = IsJudged j.machine.numbers lists j.machine.state j.done.items j.left j.collections lines
 
--- what is always true of a table: handles are in the slots, and uses are those of the blocks, that it may have
-pub record IsTable (count : ℕ) (handles : FinMap nat_cmp Row) (uses : FinMap nat_cmp Use) : Type 0 where
-  pub limit : count ≤ BLOCKS
-  pub slots : (k : ℕ) → IsSome (get handles k) → k < slots_of count
-  pub blocks : (k : ℕ) → IsSome (get uses k) → k ≤ count
+-- a line that is right takes the judge one step on, and one that is not is that of no entry that may come
+abbrev pub TakesLine : List (List Cmd) → Progress → List ℕ → Progress → Bool → Type 0
+TakesLine lists old line new true =
+    (new.machine.numbers ≡ old.machine.numbers)
+    × ((lines : List (List ℕ)) → Along lists old lines → Along lists new (lines ++ line ∷ []))
+TakesLine lists old line new false =
+    (lines : List (List ℕ)) → Along lists old lines
+    → AreRight old.machine.numbers lists (lines ++ line ∷ []) → ⊥
 
--- the least block from a number on that has no use
-pub record IsLeast (t : TableView) (from block : ℕ) : Type 0 where
-  pub unused : get t.uses block ≡ None
-  pub low : from ≤ block
-  pub high : block ≤ t.blocks
-  pub least : (other : ℕ) → from ≤ other → other < block → IsSome (get t.uses other)
+-- the verdict on a text of a number of lines that were judged and of bytes that are left
+abbrev pub Ends : Progress → ℕ → List ℕ → Verdict → Type 0
+Ends j count rest verdict =
+    (lists : List (List Cmd)) (lines : List (List ℕ)) (bytes : List ℕ) → Along lists j lines
+    → length lines ≡ count → cut_lines bytes ≡ lines ++ cut_lines rest
+    → IsRight j.machine.numbers lists bytes verdict
 
--- the slot of a number, the slot with the entry of a key, and the least idle slot
-abbrev pub slot_at : ℕ → Slot
-slot_at k = record { 0 = k }
-
-abbrev pub slot_with : FinMap nat_cmp (Option (WeakEntry Id)) → Id → Option Slot
-slot_with held key = option_map (λ p. slot_at p.0) (find (λ p. has_key key p.1) (entries held))
-
-abbrev pub idle_in : FinMap nat_cmp (Option (WeakEntry Id)) → Option Slot
-idle_in held = option_map (λ p. slot_at p.0) (find (λ p. is_idle p.1) (entries held))
-
--- a slot without an entry: it is not held, or idle
-abbrev pub IsUnnamed : Option (Option (WeakEntry Id)) → Type 0
-IsUnnamed None = Unit {0}
-IsUnnamed (Some None) = Unit {0}
-IsUnnamed (Some (Some e)) = ⊥
-
--- a slot with an entry of a key
-pub record HasEntry (held : FinMap nat_cmp (Option (WeakEntry Id))) (key slot : ℕ) : Type 0 where
-  pub entry : WeakEntry Id
-  pub is : get held slot ≡ Some (Some entry)
-  pub key_is : entry.key.0 ≡ key
-
--- what the weak table holds
-abbrev pub held_as : FinMap nat_cmp (Option Pair) → FinMap nat_cmp (Option (WeakEntry Id))
-held_as slots = seen_as (option_map entry_of) slots
-
--- what is always true of a weak table: the keys lead to the slots of their entries, the idle slots are those
--- without one, and a slot has 32 bits
-pub record IsWeak (slots : FinMap nat_cmp (Option Pair)) (keys : FinMap nat_cmp ℕ)
-    (free : FinMap nat_cmp (Unit {0})) : Type 0 where
-  pub keyed : (slot : ℕ) (e : WeakEntry Id) → get (held_as slots) slot ≡ Some (Some e)
-      → get keys e.key.0 ≡ Some slot
-  pub named : (key slot : ℕ) → get keys key ≡ Some slot → HasEntry (held_as slots) key slot
-  pub idle : (slot : ℕ) → get (held_as slots) slot ≡ Some None → IsSome (get free slot)
-  pub only : (slot : ℕ) → IsSome (get free slot) → get (held_as slots) slot ≡ Some None
-  pub low : (slot : ℕ) → IsSome (get slots slot) → slot < 2 ^ 32
+-- it has lines of a run behind it
+abbrev pub HasLines : List (List Cmd) → Progress → Type 0
+HasLines lists j = (lines : List (List ℕ)) × Along lists j lines

@@ -5,8 +5,7 @@ use Rattle.hd_model.specs.declared.command.Cmd.{Cmd}
 use Rattle.hd_model.specs.contracts.command.Cmd as cmd_contract
 use Rattle.hd_model.specs.State.{Numbers, State}
 use Rattle.hd_model.specs.Code.{numbers_code, state_code}
-use Rattle.hd_audit.specs.declared.lines.Judged.{Judged}
-use Rattle.hd_audit.specs.SoFar.{Along}
+use Rattle.hd_audit.specs.declared.lines.Progress.{Progress}
 
 -- the numbers of the run, the state that the lines lead to, the commands of each caller, how many of them
 -- each has done, how many all have left, the collections so far, whether the end line was among the lines,
@@ -41,7 +40,7 @@ known_code =
     (λ _. refl)
 
 -- what a judge knows that has some lines behind it
-abbrev pub known_of : List (List Cmd) → Judged → Bool → List ℕ → Known
+abbrev pub known_of : List (List Cmd) → Progress → Bool → List ℕ → Known
 known_of lists j ended rest = record {
   numbers = j.machine.numbers;
   state = j.machine.state;
@@ -52,7 +51,3 @@ known_of lists j ended rest = record {
   ended = ended;
   rest = rest;
 }
-
--- it has lines of a run behind it
-abbrev pub HasLines : List (List Cmd) → Judged → Type 0
-HasLines lists j = (lines : List (List ℕ)) × Along lists j lines

@@ -2,7 +2,7 @@
 use Rattle.std.specs.Prelude.{ℕ, List}
 use Rattle.hd_model.specs.declared.command.Cmd.{Cmd}
 use Rattle.hd_model.specs.State.{Numbers}
-use Rattle.hd_model.specs.Judged.{IsRunText, IsNoRun}
+use Rattle.hd_model.specs.RunTexts.{IsRunText, IsNoRun}
 
 -- the full text of a run has no line that is wrong or missing
 abbrev pub RunsHaveNoWrongLine : Type 0

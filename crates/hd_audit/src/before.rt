@@ -5,22 +5,21 @@ ghost use Rattle.std.specs.Option.{option_to_list};
 ghost use Rattle.hd_model.specs.declared.limits.TheConstants.{BLOCKS, FIELDS, HEADER};
 ghost use Rattle.hd_model.specs.declared.command.Cmd.TheVariants.{AddrOf, CAdd};
 ghost use Rattle.hd_model.specs.Command.{idle_slot};
-ghost use Rattle.hd_model.specs.Judged.{AreRight, cut_lines};
+ghost use Rattle.hd_model.specs.RunTexts.{AreRight, cut_lines};
 ghost use Rattle.hd_model.specs.State.{IsFree, IsAllFree, handles_of, given_of, handle_at, object_by_id, size_of, use_of};
 ghost use Rattle.hd_model.specs.Step.{IsLeastUnused};
 ghost use Rattle.hd_model.specs.Valid.{IsValid};
-ghost use Rattle.hd_audit.specs.Judging.{numbers_of};
-ghost use Rattle.hd_audit.specs.Before.{due_of, end_after, has_one_step, number_of, pinned_cells, AreTaken, HasOne};
-ghost use Rattle.hd_audit.specs.Before.{IsBefore, IsGrowthFor, MayHave};
+ghost use Rattle.hd_audit.specs.RightVerdicts.{numbers_of};
+ghost use Rattle.hd_audit.specs.Before.{due_of, end_after, number_of, pinned_cells, AreTaken, IsBefore, IsGrowthFor, MayHave};
+ghost use Rattle.hd_plain.specs.OneEntry.{has_one_step, HasOne};
 
 use crate::entry_choice::{Entries, PinnedCells};
-use crate::lines::{Judged, cut_line};
-use crate::making::{is_all_free, is_free};
-use crate::step::has_one_step;
+use crate::lines::{Progress, cut_line};
 use hd_commands::on_handles::pinned_in;
 use hd_commands::{Done, Parts, entry_of};
 use hd_model::limits::HEADER;
 use hd_model::{Cmd, Entry, Grown, Id, Kind, Memory, Refusal, Reply, Slot};
+use hd_plain::{has_one_step, is_all_free, is_free};
 use hd_print::{Line, end_line};
 use hd_script::Scripts;
 use std::alloc::Global;
@@ -31,13 +30,14 @@ use std::marker::Model;
 #[derive(Drop)]
 pub struct Before<'a> {
     scripts: &'a Scripts,
-    judged: Judged,
+    judged: Progress,
     is_ended: bool,
     rest: &'a [u8],
 }
 
 impl<'a> Model for Before<'a> {
-    ghost use Rattle.hd_audit.specs.Known.{Known, known_code, known_of, HasLines};
+    ghost use Rattle.hd_audit.specs.Known.{Known, known_code, known_of};
+    ghost use Rattle.hd_audit.specs.Inside.{HasLines};
 
     ghost Value = { Known };
 
@@ -66,7 +66,7 @@ pub fn state_after<'a>(
         IfOk result (IsBefore n scripts.now (take count (cut_lines text.now))) }
     ensures rest { IfOk result (λ k. cut_lines k.rest ≡ drop count (cut_lines text.now)) }
 {
-    let mut judged = Judged::open(alloc, scripts, heap, blocks)?;
+    let mut judged = Progress::open(alloc, scripts, heap, blocks)?;
     let mut rest = text;
     let mut number = 0;
     'lines: while number < count && judged.left > 0 {
@@ -201,7 +201,7 @@ impl<'a> Before<'a> {
             Ok(id) => id,
             Err(refusal) => return Entries::One(entry_of(caller, cmd, Err(refusal))),
         };
-        match machine.places.of(id) {
+        match machine.pinned.of(id) {
             Some(own) => {
                 let done = Done::of(Reply::Place(own));
                 Entries::One(entry_of(caller, cmd, Ok(done)))
@@ -323,7 +323,7 @@ impl<'a> Before<'a> {
         ensures { IfOk result (λ cells. AreTaken self.now.state cells.items) }
     {
         let mut cells = Vec::new(alloc);
-        let ids = self.judged.machine.places.ids_by_address(alloc)?;
+        let ids = self.judged.machine.pinned.ids_by_address(alloc)?;
         for id in &ids {
             self.push_cells(Id(*id), &mut cells)?;
         }
@@ -335,7 +335,7 @@ impl<'a> Before<'a> {
         ensures { IfOk result (λ _. cells.new.items
             ≡ cells.old.items ++ option_to_list (pinned_cells self.now.state id)) }
     {
-        let Some(first) = self.judged.machine.places.of(id) else {
+        let Some(first) = self.judged.machine.pinned.of(id) else {
             return Ok(());
         };
         let count = self.size(id);

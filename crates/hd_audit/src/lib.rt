@@ -3,28 +3,12 @@
 #![tactic(auto)]
 
 mod before;
-mod choice;
-mod collecting;
-mod data;
-mod entries;
 mod entry_choice;
 mod laws;
 mod lines;
-mod machine;
-mod making;
-mod marks;
-mod numbered;
-mod objects;
-mod parts;
-mod places;
-mod rooting;
-mod step;
-mod store;
-mod table;
-mod weak;
 
 pub use before::{Before, state_after};
-pub use choice::{Choice, leading};
 pub use entry_choice::{Entries, PinnedCells};
+pub use hd_plain::{Choice, leading};
 pub use laws::{one_state_before, runs_have_no_wrong_line};
 pub use lines::{Verdict, audit, cut_line};

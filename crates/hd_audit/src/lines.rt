@@ -2,15 +2,14 @@
 ghost use Rattle.std.specs.Prelude.{◌≡◌, ℕ, ◌+◌, ◌<◌, ◌≤◌, ◌^◌, if◌then◌else◌, List, [], ◌∷◌, length, position, slice_get, slice_index, slice_index_or, bytes_eq, IfOk, IfSome, IsSome};
 ghost use Rattle.std.specs.FinMap.{len};
 ghost use Rattle.hd_model.specs.declared.limits.TheConstants.{BLOCKS};
-ghost use Rattle.hd_model.specs.{FullText.full_line, Grammar.is_line_end, Judged.cut_lines};
+ghost use Rattle.hd_model.specs.{FullText.full_line, Grammar.is_line_end, RunTexts.cut_lines};
 ghost use Rattle.hd_model.specs.Text.{is_collect};
 ghost use Rattle.hd_model.specs.Valid.{IsValid};
-ghost use Rattle.hd_audit.specs.Judging.{numbers_of, IsRight};
-ghost use Rattle.hd_audit.specs.SoFar.{Along, TakesLine, Ends};
+ghost use Rattle.hd_audit.specs.RightVerdicts.{numbers_of, IsRight};
+ghost use Rattle.hd_audit.specs.Inside.{Along, TakesLine, Ends};
 
-use crate::choice::Choice;
-use crate::machine::Machine;
 use hd_model::{Class, Cmd, Entry, Memory, filled};
+use hd_plain::{Choice, Machine};
 use hd_print::{Line, end_line, full_line};
 use hd_script::Scripts;
 use std::alloc::Global;
@@ -31,14 +30,14 @@ pub fn audit(alloc: Global, scripts: &Scripts, text: &[u8], heap: u32, blocks: u
     requires { blocks ≤ BLOCKS }
     ensures { IsRight (numbers_of scripts.now heap blocks) scripts.now text.now result }
 {
-    match judge(alloc, scripts, text, heap, blocks) {
+    match judged_or_out_of_memory(alloc, scripts, text, heap, blocks) {
         Ok(verdict) => verdict,
         Err(Memory) => Verdict::Memory,
     }
 }
 
 // The same, as long as there is memory.
-fn judge(
+fn judged_or_out_of_memory(
     alloc: Global,
     scripts: &Scripts,
     text: &[u8],
@@ -48,7 +47,7 @@ fn judge(
     requires { blocks ≤ BLOCKS }
     ensures { IfOk result (IsRight (numbers_of scripts.now heap blocks) scripts.now text.now) }
 {
-    let mut judged = Judged::open(alloc, scripts, heap, blocks)?;
+    let mut judged = Progress::open(alloc, scripts, heap, blocks)?;
     let mut lines = 0;
     let mut rest = text;
     'lines: while judged.left > 0 {
@@ -91,21 +90,21 @@ fn line_end(bytes: &[u8]) -> Option<usize>
 /// What was judged so far: the machine after it, the entries of each caller, the commands that are
 /// left, and the collections.
 #[derive(Drop)]
-pub(crate) struct Judged {
+pub(crate) struct Progress {
     pub(crate) machine: Machine,
     pub(crate) done: Vec<u32>,
     pub(crate) left: u32,
     pub(crate) collections: u32,
 }
 
-impl Judged {
+impl Progress {
     /// Nothing yet.
     pub(crate) fn open(
         alloc: Global,
         scripts: &Scripts,
         heap: u32,
         blocks: u32,
-    ) -> Result<Judged, Memory>
+    ) -> Result<Progress, Memory>
         requires { blocks ≤ BLOCKS }
         ensures numbers { let n = numbers_of scripts.now heap blocks in
             IfOk result (λ j. j.machine.numbers ≡ n) }
@@ -115,7 +114,7 @@ impl Judged {
         let left = scripts.total();
         let done = filled(alloc, 0, callers)?;
         let machine = Machine::open(alloc, callers, heap, blocks)?;
-        Ok(Judged {
+        Ok(Progress {
             machine,
             done,
             left,

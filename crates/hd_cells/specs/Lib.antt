@@ -3,3 +3,4 @@ pub mod Region
 pub mod Cells
 pub mod Limits
 pub mod Headers
+pub mod Inside

@@ -1,7 +1,7 @@
 // The cells of a region: the parts of an object, and the cells that an object or gap takes.
 
 ghost use Rattle.std.specs.Prelude.{◌≡◌, ℕ, ◌+◌, ◌/◌, ◌<◌, ◌≤◌, if◌then◌else◌, length, slice_index};
-ghost use Rattle.hd_cells.specs.Cells.{extent_at, IsReached, IsFirstIn};
+ghost use Rattle.hd_cells.specs.{Cells.extent_at, Inside.IsReached, Inside.IsFirstIn};
 
 /// The number of cells of a region.
 pub const CELLS: usize = 256;

@@ -6,7 +6,7 @@ ghost use Rattle.hd_cells.specs.Region.{empty_region, IsFirstFrom, IsLaidOut, Is
 ghost use Rattle.hd_cells.specs.Region.{fields_at, object_at, with_object, with_put};
 ghost use Rattle.hd_cells.specs.Region.{without_object};
 ghost use Rattle.hd_cells.specs.Headers.{IsEnd, IsHeader, IsHeaderFrom};
-ghost use Rattle.hd_cells.specs.Cells.{HoldsObject};
+ghost use Rattle.hd_cells.specs.Inside.{HoldsObject};
 
 use crate::cells::{
     CELLS, FIELDS, HEADER, NONE, PARTS, REGISTERED, SHAPE, VALUE, clear, copy, extent, first_from,
@@ -35,7 +35,7 @@ pub struct Header {
 // Callers see the objects by their offsets and the allocation pointer, but no cells and no gaps.
 impl Model for Region {
     ghost use Rattle.hd_cells.specs.Region.{Contents, contents_code};
-    ghost use Rattle.hd_cells.specs.Cells.{IsWhole, contents_of};
+    ghost use Rattle.hd_cells.specs.{Inside.IsWhole, Cells.contents_of};
 
     ghost Value = { Contents };
 
@@ -166,8 +166,8 @@ impl Region {
             ≡ with_object self.old at (with_value (object_at self.old at) v) }
         ensures laid_out { IsLaidOut self.new }
     {
-        let place = at as usize + VALUE;
-        self.cells[place] = v;
+        let index = at as usize + VALUE;
+        self.cells[index] = v;
     }
 
     /// Whether the object at `at` is registered for finalization.
@@ -186,9 +186,9 @@ impl Region {
             self.new ≡ with_object self.old at after }
         ensures laid_out { IsLaidOut self.new }
     {
-        let place = at as usize + SHAPE;
-        let fields = self.cells[place] % REGISTERED;
-        self.cells[place] = shape(fields, on);
+        let index = at as usize + SHAPE;
+        let fields = self.cells[index] % REGISTERED;
+        self.cells[index] = shape(fields, on);
     }
 
     /// Field `i` of the object at `at`, counted from 0: an address, or 0 for null.
@@ -209,8 +209,8 @@ impl Region {
             self.new ≡ with_object self.old at after }
         ensures laid_out { IsLaidOut self.new }
     {
-        let place = at as usize + HEADER + i as usize;
-        self.cells[place] = u64::from(v);
+        let index = at as usize + HEADER + i as usize;
+        self.cells[index] = u64::from(v);
     }
 
     /// Removes the object at `at`. Its cells become a gap, which is never used again.

@@ -2,7 +2,7 @@
 ghost use Rattle.std.specs.Prelude.{◌≡◌, ◌<◌, Ok, Some, None, IsSome, IfOk, MatchResult};
 ghost use Rattle.hd_model.specs.declared.data.Refusal.TheVariants as refusal;
 ghost use Rattle.hd_model.specs.State.{register_of, with_register};
-ghost use Rattle.hd_model.specs.Command.{reply_with, loaded, set_field, get_field, set_value, read_value, copy_register, clear_register, put_static, get_static, read_generation, set_registered, take_queued};
+ghost use Rattle.hd_model.specs.Command.{reply_with, load_reply, set_field, get_field, set_value, read_value, copy_register, clear_register, put_static, get_static, read_generation, set_registered, take_queued};
 ghost use Rattle.hd_commands.specs.Seen.{name_in, named_in, HasObject, IsNamed, MayUse, MayUseBoth};
 ghost use Rattle.hd_commands.specs.Done.{ComesTo};
 
@@ -11,9 +11,9 @@ use crate::parts::Parts;
 use hd_model::{Refusal, Reply};
 
 // The reply of a load: the object, or null.
-fn loaded<P: Parts>(parts: &P, v: Option<P::Name>) -> Reply
+fn load_reply<P: Parts>(parts: &P, v: Option<P::Name>) -> Reply
     requires { IsNamed (P.seen parts.now) v }
-    ensures { result ≡ loaded (named_in (P.seen parts.now) v) }
+    ensures { result ≡ load_reply (named_in (P.seen parts.now) v) }
 {
     match v {
         Some(at) => Reply::Object(parts.id(at)),
@@ -27,10 +27,10 @@ pub fn load<P: Parts>(parts: &mut P, caller: u32, d: u8, v: Option<P::Name>) -> 
     requires named { IsNamed (P.seen parts.old) v }
     ensures { let p = P.seen parts.old in
         let id = named_in p v in
-        let wanted = reply_with (loaded id) (with_register p.state caller d id) in
+        let wanted = reply_with (load_reply id) (with_register p.state caller d id) in
         ComesTo wanted p (P.seen parts.new) (Ok result) }
 {
-    let reply = loaded(parts, v);
+    let reply = load_reply(parts, v);
     parts.set_register(caller, d, v);
     Done::of(reply)
 }

@@ -10,12 +10,12 @@ pub use Rattle.std.specs.Int.{bit_at, bit_not, w64}
 pub use Rattle.std.specs.Prelude.{IsNone, nat_lt, ◌&&◌, ◌||◌, ◌↔◌}
 pub use Rattle.atomic_table.proofs.Lists.{at_longer, at_set, set_else}
 pub use Rattle.atomic_table.specs.Table.{Allows, Final, Me, Seen, State, Step, gives, keeps, opening, step, takes}
-pub use Rattle.hd_custody.specs.CallSteps.{IsBlock, Banked, HasRows, HasRowsAs, Made, Offers, calling, found_or, into_mask, pushed_to, storing_data, swept_to, went, with_block, with_view}
+pub use Rattle.hd_custody.specs.Inside.{IsBlock, Banked, HasRows, HasRowsAs, Made, Offers, calling, found_or, into_mask, pushed_to, storing_data, swept_to, went, with_block, with_view}
 pub use Rattle.hd_custody.specs.Calls.{Allocates, Gathers, Releases, ShowsNone, gathered, offered, slot_number}
 pub use Rattle.hd_custody.specs.Counts.{IsCell, Every, Has, HasAs, IsSlot, cell_kind, changed, held_times, kind_word, named, named_by, naming, one_if, picks, put_out, rows, slot_count, total, total_at, weight, whole, with_slot, without, without_block, without_rows}
 pub use Rattle.hd_custody.specs.Rule.{Belongs, Custodied, Divided, Ended, Entered, Fits, Gate, HasNumber, Holds, IsUnused, Out, Seats, Slots, assigned, cleared, drawn, entered, exchanged, held_by, left, returned, room_of, seen, settled, stored, tally}
 pub use Rattle.hd_custody.specs.Traces.{Did, Phase, again, again_whole, back, back_part, bank, drain, drain_whole, ending, every_row, follow, found, is_step, last, look, look_whole, lowest, missed, next_phase, next_rows, probe, probe_word, push, push_word, rest, settle, sweep, sweep_word, to_bank, to_look, to_look_whole, to_probe, to_push, to_sweep, wrong}
-pub use Rattle.hd_custody.specs.Views.{Acting, Continues, Follows, Fresh, IsPrefix, IsSeated, KindIs, Kinded, Known, Named, Sorted, banked, begun, called, carried_by, closed, drained, gave_back, given, granted, handle_block, joined, looked, opened, put_in, restored, shared_out, spent, starting, swapped, took, with_data}
+pub use Rattle.hd_custody.specs.{Views.Acting, Views.Continues, Views.Follows, Views.Fresh, Views.IsPrefix, Views.KindIs, Views.Known, Views.Named, Views.Sorted, Views.banked, Views.begun, Views.called, Views.closed, Views.drained, Views.gave_back, Views.given, Views.granted, Views.handle_block, Views.joined, Views.looked, Views.opened, Views.put_in, Views.restored, Views.shared_out, Views.spent, Views.starting, Views.swapped, Views.took, Views.with_data, Inside.IsSeated, Inside.Kinded, Inside.carried_by}
 pub use Rattle.hd_custody.specs.declared.view.View.{View}
 pub use Rattle.hd_custody.specs.declared.words.TheConstants.{BANK, CACHE, EXTRA_DATA, FIRST_MASK, FIRST_QUICK, WORDS}
 pub use Rattle.hd_mask.specs.Mask.{set_bits}

@@ -17,7 +17,7 @@ place_there (x ∷ xs) zero a b e = refl
 place_there (x ∷ xs) (suc i) a b e = place_there xs i a b e
 
 module _ {W : Type 0} where
-  -- what is so of the seat at its place
+  -- what is so of the seat at its index
   pub fits_as : {made : ℕ} {owner : ℕ → ℕ} {journal : List Entry} {numbers : Numbers} {i j : ℕ} {w u : View W}
       → Fits made owner journal numbers i w → (j ≡ i) × (w ≡ u) → Fits made owner journal numbers j u
   fits_as {made} {owner} {journal} {numbers} {i} {j} {w} {u} f e =

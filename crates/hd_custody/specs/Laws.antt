@@ -23,14 +23,14 @@ pub data Spot : Type 0 where
   mask : Spot
   -- the whole of word i, a quick word or cell
   cell : ℕ → Spot
-  -- among the slots held by the seat at place i of the seats
+  -- among the slots held by the seat at index i of the seats
   seat : ℕ → Spot
   -- live in the world
   live : Spot
 
 module _ {W : Type 0} (m : Ghosts W) where
   module _ (world : W) (s : State (Option W) (View W)) (x : ℕ) where
-    -- the seat at place i knows v, has not ended, and holds the slot
+    -- the seat at index i knows v, has not ended, and holds the slot
     abbrev pub HoldsIt : ℕ → View W → Type 0
     HoldsIt i v = (get_elem? s.views i ≡ some v) × (v.is_spent ≡ false) × Has x v.held
 

@@ -5,4 +5,4 @@ pub mod Traces
 pub mod Misses
 pub mod Calls
 pub mod Laws
-pub mod CallSteps
+pub mod Inside

@@ -41,7 +41,7 @@ Belongs words p =
     × (p.1 ≢ 0 → kind_word words (slot_block p.0) ≡ p.1)
 
 module _ {W : Type 0} where
-  -- What is so of a seat at its place i among the views. owner n is 1 more than the place of the seat with
+  -- What is so of a seat at its index i among the views. owner n is 1 more than the index of the seat with
   -- number n, or 0 where that seat has ended.
   pub record Fits (made : ℕ) (owner : ℕ → ℕ) (journal : List Entry) (numbers : Numbers) (i : ℕ) (v : View W) :
       Type 0 where
@@ -105,7 +105,7 @@ module _ {W : Type 0} where
     pub empty_masks : (b : ℕ) → 0 < b → b < BLOCKS + 1 → named (kind_word words b) ≡ 0
         → slice_index words (mask_word b) ≡ 0
 
-  -- the world is out with the seat at this place
+  -- the world is out with the seat at this index
   pub record Out (world : W) (holder : ℕ) (homes : List (maybe.Option (Option W))) (views : List (View W)) :
       Type 0 where
     pub view : View W

@@ -1,7 +1,6 @@
 -- What a seat knows, and how each step that it makes changes that.
 use Rattle.std.specs.Prelude.{◌≡◌, ◌≢◌, ◌⊎◌, ℕ, zero, suc, ◌+◌, ◌-◌, ◌*◌, ◌<◌, ◌≤◌, Bool, true, false, cond, not, nat_lt}
 use Rattle.std.specs.Prelude.{◌==◌, ◌&&◌, bit_or, List, [], ◌∷◌, ◌++◌, length, filter, Option, Some, None}
-use Rattle.atomic_table.specs.Table.{Me}
 use Rattle.atomic_table.specs.Seated.{TableId}
 use Rattle.hd_model.specs.declared.held.Held.{Ghosts}
 use Rattle.hd_model.specs.declared.data.Entry.{Entry}
@@ -13,7 +12,7 @@ use Rattle.hd_model.specs.declared.limits.TheConstants.{BLOCKS, ROWS}
 use Rattle.hd_custody.specs.declared.words.TheConstants.{EXTRA_DATA}
 use Rattle.hd_custody.specs.declared.view.View.{View}
 use Rattle.hd_custody.specs.declared.view.Limits.{Limits}
-use Rattle.hd_custody.specs.Counts.{masked_block, slot_block, IsSlot, held_times, Has, Every, named, cell_kind, changed, picks, rows, whole, slot_count, put_out}
+use Rattle.hd_custody.specs.Counts.{masked_block, slot_block, held_times, Has, named, cell_kind, changed, picks, rows, whole, slot_count, put_out}
 use Rattle.hd_custody.specs.Counts.{without_rows, without_block, with_slot, naming, is_nil}
 
 -- what a clause sees of a `Custody`
@@ -39,10 +38,6 @@ numbers_of n = record { heap = n.heap; blocks = n.blocks; callers = n.callers }
 
 abbrev pub limits_of : Numbers → Limits
 limits_of n = record { heap = n.heap; blocks = n.blocks; callers = n.callers }
-
--- each slot held is one, and has a kind: so it is between two calls
-abbrev pub Kinded : List (ℕ × ℕ) → Type 0
-Kinded held = Every (λ p. IsSlot p.0 × (p.1 ≢ 0)) held
 
 -- the journal is the entries `front`, and others after them
 abbrev pub IsPrefix : List Entry → List Entry → Type 0
@@ -81,16 +76,6 @@ GrowsByBlocks paired (grown.Two b d) = (paired ≡ true) × (0 < d)
 GrowsByBlocks paired (grown.Back b) = ⊥
 
 module _ {W : Type 0} where
-  -- the slot of the table that is out with a seat between two calls: while it has the gate, the one that held
-  -- the world
-  abbrev pub carried_by : Bool → List (ℕ × Option W)
-  carried_by true = (0, None) ∷ []
-  carried_by false = []
-
-  -- a seat between two calls
-  abbrev pub IsSeated : Me (Option W) (View W) → Type 0
-  IsSeated m = (m.0.is_spent ≡ false) × (m.1 ≡ carried_by m.0.has_gate) × Kinded m.0.held
-
   -- the first seat, of a table over a world with these numbers and this much to spare
   abbrev pub starting : ℕ → Numbers → View W
   starting room numbers = record {

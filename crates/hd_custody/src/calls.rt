@@ -4,14 +4,14 @@ ghost use Rattle.std.specs.Prelude.{List, [], ◌∷◌, ◌++◌, IfSome, IsNon
 ghost use Rattle.std.specs.Int.{bit_at};
 ghost use Rattle.hd_model.specs.Kinds.{kind_number};
 ghost use Rattle.hd_custody.specs.Counts.{slot_block, IsSlot, held_times, HasAs, Has, with_slot, put_out, without, without_rows, rows};
-ghost use Rattle.hd_custody.specs.Views.{Kinded, Fresh, KindIs};
+ghost use Rattle.hd_custody.specs.{Inside.Kinded, Views.Fresh, Views.KindIs};
 ghost use Rattle.hd_custody.specs.Traces.{probe, look, again, sweep, push, found, missed, to_look, to_bank, to_sweep, to_look_whole};
 ghost use Rattle.hd_custody.specs.Traces.{every_row, look_whole, back_part};
 ghost use Rattle.hd_custody.specs.Misses.{WholeMiss};
 ghost use Rattle.hd_custody.specs.Calls.{slot_number, Allocates, Releases, Gathers};
-ghost use Rattle.hd_custody.specs.CallSteps.{IsBlock, HasRowsAs, found_or, with_block, pushed_to, swept_to, drained_to, into_mask, calling, went, Made, Banked, Offers};
+ghost use Rattle.hd_custody.specs.Inside.{IsBlock, HasRowsAs, found_or, with_block, pushed_to, swept_to, drained_to, into_mask, calling, went, Made, Banked, Offers};
 
-use crate::types::{Caller, Custody, Seat};
+use crate::types::{ActingSeat, Custody, Seat};
 use crate::words::{BANK, CACHE, probed, pushed, reserved, slot_block, slot_row, swept};
 use hd_mask::{bit, lowest};
 use hd_model::limits::{BLOCKS, KINDS, ROWS};
@@ -46,7 +46,7 @@ impl<W: Held> Custody<W> {
         }
     }
 
-    fn find(&self, caller: &mut Caller<W>, kind: u32) -> u64
+    fn find(&self, caller: &mut ActingSeat<W>, kind: u32) -> u64
         requires seat { caller.old.table ≡ self.now.table }
         requires kind { kind < KINDS }
         requires kinded { Kinded caller.old.view.held }
@@ -62,7 +62,7 @@ impl<W: Held> Custody<W> {
     }
 
     // The quick word and the cells, one after another.
-    fn probe(&self, caller: &mut Caller<W>, kind: u32) -> u64
+    fn probe(&self, caller: &mut ActingSeat<W>, kind: u32) -> u64
         requires seat { caller.old.table ≡ self.now.table }
         requires kind { kind < KINDS }
         ensures made { Made kind self.now.blocks (probe 0)
@@ -84,7 +84,7 @@ impl<W: Held> Custody<W> {
     }
 
     // The masks of the blocks, one after another.
-    fn search(&self, caller: &mut Caller<W>, kind: u32) -> u64
+    fn search(&self, caller: &mut ActingSeat<W>, kind: u32) -> u64
         requires seat { caller.old.table ≡ self.now.table }
         requires kind { kind < KINDS }
         requires kinded { Kinded caller.old.view.held }
@@ -103,7 +103,7 @@ impl<W: Held> Custody<W> {
     }
 
     // One block: where it is of the kind and its mask gives something, the least row is returned.
-    fn take_from(&self, caller: &mut Caller<W>, kind: u32, block: u32) -> u64
+    fn take_from(&self, caller: &mut ActingSeat<W>, kind: u32, block: u32) -> u64
         requires seat { caller.old.table ≡ self.now.table }
         requires kind { kind < KINDS }
         requires block { IsBlock block }
@@ -128,7 +128,7 @@ impl<W: Held> Custody<W> {
     }
 
     // What the mask of a block gave, where the block is of the kind: its slots have no kind yet.
-    fn take_rows(&self, caller: &mut Caller<W>, kind: u32, block: u32) -> u64
+    fn take_rows(&self, caller: &mut ActingSeat<W>, kind: u32, block: u32) -> u64
         requires seat { caller.old.table ≡ self.now.table }
         requires block { IsBlock block }
         requires kinded { Kinded caller.old.view.held }
@@ -150,7 +150,7 @@ impl<W: Held> Custody<W> {
 
     // The rows of a block go into the reserve cells, and what is left after the last cell goes back
     // into the mask.
-    fn share_out(&self, caller: &mut Caller<W>, kind: u32, block: u32, mask: u64)
+    fn share_out(&self, caller: &mut ActingSeat<W>, kind: u32, block: u32, mask: u64)
         requires seat { caller.old.table ≡ self.now.table }
         requires kind { kind < KINDS }
         requires block { IsBlock block }
@@ -165,7 +165,7 @@ impl<W: Held> Custody<W> {
     }
 
     // Offers the rows to the reserve cells, one to each, and returns those that are left.
-    fn fill_cells(&self, caller: &mut Caller<W>, kind: u32, block: u32, mask: u64) -> u64
+    fn fill_cells(&self, caller: &mut ActingSeat<W>, kind: u32, block: u32, mask: u64) -> u64
         requires seat { caller.old.table ≡ self.now.table }
         requires kind { kind < KINDS }
         requires block { IsBlock block }
@@ -181,7 +181,7 @@ impl<W: Held> Custody<W> {
     }
 
     // Offers the least row that is left, if there is one, to one reserve cell.
-    fn offer(&self, caller: &mut Caller<W>, kind: u32, block: u32, i: u32, left: u64) -> u64
+    fn offer(&self, caller: &mut ActingSeat<W>, kind: u32, block: u32, i: u32, left: u64) -> u64
         requires seat { caller.old.table ≡ self.now.table }
         requires kind { (kind < KINDS) × (i < BANK) }
         requires block { IsBlock block }
@@ -214,7 +214,7 @@ impl<W: Held> Custody<W> {
         self.release_of_kind(&mut seat.caller, kind.number(), slot.0 as u64);
     }
 
-    fn release_of_kind(&self, caller: &mut Caller<W>, kind: u32, slot: u64)
+    fn release_of_kind(&self, caller: &mut ActingSeat<W>, kind: u32, slot: u64)
         requires seat { caller.old.table ≡ self.now.table }
         requires kind { kind < KINDS }
         requires slot { (ROWS ≤ slot) × HasAs (slot, kind + 1) caller.old.view.held }
@@ -228,7 +228,7 @@ impl<W: Held> Custody<W> {
     }
 
     // A slot goes into the mask of its block.
-    fn put_slot_back(&self, caller: &mut Caller<W>, slot: u64)
+    fn put_slot_back(&self, caller: &mut ActingSeat<W>, slot: u64)
         requires seat { caller.old.table ≡ self.now.table }
         requires slot { IsSlot slot × Has slot caller.old.view.held }
         ensures view { (there : ℕ) × (caller.new ≡ went (without slot caller.old.view.held)
@@ -238,7 +238,7 @@ impl<W: Held> Custody<W> {
     }
 
     // The slot goes into the quick word, what was there into a free cell, and so on: what is left.
-    fn push(&self, caller: &mut Caller<W>, kind: u32, slot: u64) -> u64
+    fn push(&self, caller: &mut ActingSeat<W>, kind: u32, slot: u64) -> u64
         requires seat { caller.old.table ≡ self.now.table }
         requires kind { kind < KINDS }
         requires slot { (ROWS ≤ slot) × HasAs (slot, kind + 1) caller.old.view.held }
@@ -274,7 +274,7 @@ impl<W: Held> Custody<W> {
         if block == 0 { None } else { Some(block) }
     }
 
-    fn collect(&self, caller: &mut Caller<W>, kind: u32) -> u32
+    fn collect(&self, caller: &mut ActingSeat<W>, kind: u32) -> u32
         requires seat { caller.old.table ≡ self.now.table }
         requires kind { kind < KINDS }
         requires kinded { Kinded caller.old.view.held }
@@ -292,7 +292,7 @@ impl<W: Held> Custody<W> {
     }
 
     // All that the cache has goes into the masks.
-    fn empty_cache(&self, caller: &mut Caller<W>, kind: u32)
+    fn empty_cache(&self, caller: &mut ActingSeat<W>, kind: u32)
         requires seat { caller.old.table ≡ self.now.table }
         requires kind { kind < KINDS }
         ensures made { Made kind self.now.blocks (sweep 0) (to_look_whole self.now.blocks 1)
@@ -307,7 +307,7 @@ impl<W: Held> Custody<W> {
     }
 
     // A slot that came from the cache goes into its mask.
-    fn settle(&self, caller: &mut Caller<W>, slot: u64)
+    fn settle(&self, caller: &mut ActingSeat<W>, slot: u64)
         requires seat { caller.old.table ≡ self.now.table }
         requires slot { slot ≢ 0 → IsSlot slot × Has slot caller.old.view.held }
         ensures made { (k n : ℕ) → Made k self.now.blocks (swept_to self.now.blocks n slot)
@@ -320,7 +320,7 @@ impl<W: Held> Custody<W> {
     }
 
     // One block: whether it is of the kind and all its slots came.
-    fn take_whole(&self, caller: &mut Caller<W>, kind: u32, block: u32) -> bool
+    fn take_whole(&self, caller: &mut ActingSeat<W>, kind: u32, block: u32) -> bool
         requires seat { caller.old.table ≡ self.now.table }
         requires block { IsBlock block }
         requires kinded { Kinded caller.old.view.held }
@@ -341,7 +341,7 @@ impl<W: Held> Custody<W> {
     }
 
     // Whether all rows came, and the block still is of the kind.
-    fn stays_whole(&self, caller: &mut Caller<W>, kind: u32, block: u32, mask: u64) -> bool
+    fn stays_whole(&self, caller: &mut ActingSeat<W>, kind: u32, block: u32, mask: u64) -> bool
         requires seat { caller.old.table ≡ self.now.table }
         requires block { IsBlock block }
         ensures whole { (h : List (ℕ × ℕ)) → caller.old.view.held ≡ rows block mask 0 ++ h

@@ -5,15 +5,15 @@ ghost use Rattle.std.specs.Bool.{OnTrue, OnFalse};
 ghost use Rattle.hd_model.specs.Kinds.{kind_number, is_paired};
 ghost use Rattle.hd_custody.specs.Counts.{held_times, changed, Has};
 ghost use Rattle.hd_custody.specs.Views.{starting, shared_out, given, joined, took, opened, closed, granted, gave_back};
-ghost use Rattle.hd_custody.specs.CallSteps.{IsBlock, with_view, carrying, storing_data};
+ghost use Rattle.hd_custody.specs.Inside.{IsBlock, with_view, carrying, storing_data};
 ghost use Rattle.hd_custody.specs.Views.{Follows, MayGrant, GrowsByBlocks, handle_block, extra_block};
 ghost use Rattle.hd_custody.specs.Rule.{Entered, Divided, IsUnused};
 
 use crate::plays::{Assign, Clear, Cut, Ends, Enter, Leave, Share};
 use crate::rule::Board;
-use crate::types::{Caller, Custody, Seat};
+use crate::types::{ActingSeat, Custody, Seat};
 use crate::waiting::{WaitWords, Waiter};
-use crate::words::{EXTRA_DATA, FREE, GATE, HELD, ROWS_AFTER_FIRST, WORDS, WORLD};
+use crate::words::{EXTRA_DATA, FREE, GATE, ROWS_AFTER_FIRST, TAKEN, WORDS, WORLD};
 use atomic_table::{Refused, Table};
 use hd_model::limits::{BLOCKS, KINDS, ROWS};
 use hd_model::{Grown, Held, Kind, Memory};
@@ -55,14 +55,14 @@ impl<W: Held> Custody<W> {
             return Err(Memory);
         };
         match Table::new(alloc, words.as_slice(), slots, &about) {
-            Ok((table, place)) => {
+            Ok((table, inner)) => {
                 let waits = WaitWords::new();
                 let custody = Custody {
                     table,
                     blocks,
                     waits,
                 };
-                let caller = Caller { place };
+                let caller = ActingSeat { inner };
                 Ok((custody, Seat { caller }))
             }
             Err(Refused { slots: _ }) => Err(Memory),
@@ -98,8 +98,8 @@ impl<W: Held> Custody<W> {
         } }
     {
         let caller = &mut first.caller;
-        let place = self.table.shared.split_seat::<Cut<N>>(&mut caller.place);
-        let other = Caller { place };
+        let inner = self.table.shared.split_seat::<Cut<N>>(&mut caller.inner);
+        let other = ActingSeat { inner };
         Seat { caller: other }
     }
 
@@ -114,11 +114,11 @@ impl<W: Held> Custody<W> {
         ensures first { first.new ≡ record first.old { view = joined first.old.view ended.view } }
     {
         let Seat { caller: other } = ended;
-        let Caller { place } = other;
+        let ActingSeat { inner } = other;
         let caller = &mut first.caller;
         self.table
             .shared
-            .join_seat::<Ends>(&mut caller.place, place);
+            .join_seat::<Ends>(&mut caller.inner, inner);
     }
 
     /// The world, once all other seats were joined to seat 0. Its journal has of each caller
@@ -140,14 +140,14 @@ impl<W: Held> Custody<W> {
     }
 
     // An exchange of the gate word with 1: whether the gate was free, and is this seat's now.
-    fn win(&self, caller: &mut Caller<W>) -> bool
+    fn win(&self, caller: &mut ActingSeat<W>) -> bool
         requires seat { caller.old.table ≡ self.now.table }
         ensures won { OnTrue result ((w : W) × (caller.new ≡ carrying W.Held w caller.old)
             × Entered W.Held caller.old.view w) }
         ensures lost { OnFalse result (caller.new ≡ caller.old) }
     {
         let shared = &self.table.shared;
-        shared.swap::<Enter>(&mut caller.place, GATE, HELD) == FREE
+        shared.swap::<Enter>(&mut caller.inner, GATE, TAKEN) == FREE
     }
 
     // The world, where the gate was free.
@@ -164,7 +164,7 @@ impl<W: Held> Custody<W> {
         if !self.win(caller) {
             return None;
         }
-        self.table.shared.exchange(&mut caller.place, WORLD, None)
+        self.table.shared.exchange(&mut caller.inner, WORLD, None)
     }
 
     /// Takes the gate, and with it the world. It may wait for whoever has it, and counts one step
@@ -203,13 +203,13 @@ impl<W: Held> Custody<W> {
     {
         let shared = &self.table.shared;
         let caller = &mut seat.caller;
-        shared.exchange(&mut caller.place, WORLD, Some(world));
-        shared.store::<Leave>(&mut caller.place, GATE, FREE);
+        shared.exchange(&mut caller.inner, WORLD, Some(world));
+        shared.store::<Leave>(&mut caller.inner, GATE, FREE);
         self.wake();
     }
 
     // Stores the kind word of a block that has no kind.
-    fn assign(&self, caller: &mut Caller<W>, block: u32, kind: u64)
+    fn assign(&self, caller: &mut ActingSeat<W>, block: u32, kind: u64)
         requires seat { caller.old.table ≡ self.now.table }
         requires gate { caller.old.view.has_gate ≡ true }
         requires block { IsBlock block × (0 < kind) }
@@ -221,7 +221,7 @@ impl<W: Held> Custody<W> {
     {
         self.table
             .shared
-            .store::<Assign>(&mut caller.place, block as usize, kind);
+            .store::<Assign>(&mut caller.inner, block as usize, kind);
     }
 
     /// Gives a kind to a block without one, and for a paired kind makes another its data block. Row
@@ -247,7 +247,7 @@ impl<W: Held> Custody<W> {
     }
 
     // Makes a block without a kind a data block. Block 0 is none.
-    fn assign_data(&self, caller: &mut Caller<W>, block: u32)
+    fn assign_data(&self, caller: &mut ActingSeat<W>, block: u32)
         requires seat { caller.old.table ≡ self.now.table }
         requires gate { caller.old.view.has_gate ≡ true }
         requires block { block < BLOCKS + 1 }
@@ -261,7 +261,7 @@ impl<W: Held> Custody<W> {
     }
 
     // The stores of a grant, by the number of the kind. Block 0 is no data block.
-    fn give(&self, caller: &mut Caller<W>, kind: u32, block: u32, extra: u32)
+    fn give(&self, caller: &mut ActingSeat<W>, kind: u32, block: u32, extra: u32)
         requires seat { caller.old.table ≡ self.now.table }
         requires gate { caller.old.view.has_gate ≡ true }
         requires kind { kind < KINDS }
@@ -286,20 +286,20 @@ impl<W: Held> Custody<W> {
         let caller = &mut seat.caller;
         self.table
             .shared
-            .store::<Clear>(&mut caller.place, block as usize, 0);
+            .store::<Clear>(&mut caller.inner, block as usize, 0);
     }
 }
 
 // What the slot of a table has at its end.
-fn stored_world<W: Held>(table: Board<W>, caller: Caller<W>) -> W
+fn stored_world<W: Held>(table: Board<W>, caller: ActingSeat<W>) -> W
     requires seat { caller.table ≡ table.shared.table_id }
     requires slots { table.shared.table_id.slots ≡ 1 }
     requires first { (caller.view.number ≡ 0) × (caller.view.has_gate ≡ false) }
     requires all { length caller.view.ended + 1 ≡ caller.view.made }
     ensures { Divided W.Held caller.view result }
 {
-    let Caller { place } = caller;
-    let mut closed = table.close_with(place);
+    let ActingSeat { inner } = caller;
+    let mut closed = table.close_with(inner);
     let world = closed.take(WORLD);
     closed.free();
     match world {

@@ -19,4 +19,4 @@ impl<W: Held> TableRule<Option<W>, View<W>, Snapshot<W>> for Law {
 
 pub(crate) type Board<W> = Table<Option<W>, View<W>, Snapshot<W>, Law, Global>;
 
-pub(crate) type Place<W> = Seat<Option<W>, View<W>>;
+pub(crate) type TableSeat<W> = Seat<Option<W>, View<W>>;

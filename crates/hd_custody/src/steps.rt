@@ -4,17 +4,17 @@ ghost use Rattle.std.specs.Bool.{OnTrue, OnFalse};
 ghost use Rattle.std.specs.Int.{bit_at};
 ghost use Rattle.hd_custody.specs.Counts.{mask_word, cell_kind, IsCell, HasAs};
 ghost use Rattle.hd_custody.specs.Views.{begun, swapped, banked, looked, drained, restored, put_in, Fresh, KindIs};
-ghost use Rattle.hd_custody.specs.CallSteps.{IsBlock, HasRows, with_view, Offers};
+ghost use Rattle.hd_custody.specs.Inside.{IsBlock, HasRows, with_view, Offers};
 
 use crate::plays::{Bank, Begin, Drain, Exchange, Look, PutIn, Return};
-use crate::types::{Caller, Custody};
+use crate::types::{ActingSeat, Custody};
 use crate::words::mask_word;
 use hd_model::Held;
 use hd_model::limits::ROWS;
 
 impl<W: Held> Custody<W> {
     // The first step of a call: an exchange of a quick word or cell.
-    pub(crate) fn begin(&self, caller: &mut Caller<W>, word: usize, new: u64) -> u64
+    pub(crate) fn begin(&self, caller: &mut ActingSeat<W>, word: usize, new: u64) -> u64
         requires seat { caller.old.table ≡ self.now.table }
         requires cell { IsCell word }
         requires slot { new ≢ 0 → HasAs (new, cell_kind word + 1) caller.old.view.held }
@@ -24,11 +24,11 @@ impl<W: Held> Custody<W> {
     {
         self.table
             .shared
-            .swap::<Begin>(&mut caller.place, word, new)
+            .swap::<Begin>(&mut caller.inner, word, new)
     }
 
     // An exchange of a quick word or cell.
-    pub(crate) fn exchange(&self, caller: &mut Caller<W>, word: usize, new: u64) -> u64
+    pub(crate) fn exchange(&self, caller: &mut ActingSeat<W>, word: usize, new: u64) -> u64
         requires seat { caller.old.table ≡ self.now.table }
         requires cell { IsCell word }
         requires slot { new ≢ 0 → HasAs (new, cell_kind word + 1) caller.old.view.held }
@@ -37,11 +37,11 @@ impl<W: Held> Custody<W> {
     {
         self.table
             .shared
-            .swap::<Exchange>(&mut caller.place, word, new)
+            .swap::<Exchange>(&mut caller.inner, word, new)
     }
 
     // A compare-exchange of a cell from 0 to a slot: whether the cell has it now.
-    pub(crate) fn bank(&self, caller: &mut Caller<W>, word: usize, new: u64) -> bool
+    pub(crate) fn bank(&self, caller: &mut ActingSeat<W>, word: usize, new: u64) -> bool
         requires seat { caller.old.table ≡ self.now.table }
         requires cell { IsCell word }
         requires slot { new ≢ 0 → HasAs (new, cell_kind word + 1) caller.old.view.held }
@@ -51,11 +51,11 @@ impl<W: Held> Custody<W> {
             × (caller.new ≡ with_view (banked word there new caller.old.view) caller.old)) }
     {
         let shared = &self.table.shared;
-        shared.compare_exchange::<Bank>(&mut caller.place, word, 0, new) == 0
+        shared.compare_exchange::<Bank>(&mut caller.inner, word, 0, new) == 0
     }
 
     // A load of the kind word of a block, whose slots held then have that kind.
-    pub(crate) fn look(&self, caller: &mut Caller<W>, block: u32) -> u64
+    pub(crate) fn look(&self, caller: &mut ActingSeat<W>, block: u32) -> u64
         requires seat { caller.old.table ≡ self.now.table }
         requires block { IsBlock block }
         ensures view { caller.new ≡ with_view (looked block result caller.old.view) caller.old }
@@ -63,11 +63,11 @@ impl<W: Held> Custody<W> {
     {
         self.table
             .shared
-            .load::<Look>(&mut caller.place, block as usize)
+            .load::<Look>(&mut caller.inner, block as usize)
     }
 
     // An exchange of a block's mask with 0, whose slots then are held without a kind.
-    pub(crate) fn drain(&self, caller: &mut Caller<W>, block: u32) -> u64
+    pub(crate) fn drain(&self, caller: &mut ActingSeat<W>, block: u32) -> u64
         requires seat { caller.old.table ≡ self.now.table }
         requires block { IsBlock block }
         ensures view { caller.new
@@ -77,11 +77,11 @@ impl<W: Held> Custody<W> {
     {
         self.table
             .shared
-            .swap::<Drain>(&mut caller.place, mask_word(block), 0)
+            .swap::<Drain>(&mut caller.inner, mask_word(block), 0)
     }
 
     // A fetch-or of rows into the mask of their block.
-    pub(crate) fn put_back(&self, caller: &mut Caller<W>, block: u32, rows: u64) -> u64
+    pub(crate) fn put_back(&self, caller: &mut ActingSeat<W>, block: u32, rows: u64) -> u64
         requires seat { caller.old.table ≡ self.now.table }
         requires block { IsBlock block }
         requires slots { HasRows block rows caller.old.view.held }
@@ -90,11 +90,11 @@ impl<W: Held> Custody<W> {
     {
         self.table
             .shared
-            .fetch_or::<Return>(&mut caller.place, mask_word(block), rows)
+            .fetch_or::<Return>(&mut caller.inner, mask_word(block), rows)
     }
 
     // The same without a trace.
-    pub(crate) fn fill(&self, caller: &mut Caller<W>, block: u32, rows: u64)
+    pub(crate) fn fill(&self, caller: &mut ActingSeat<W>, block: u32, rows: u64)
         requires seat { caller.old.table ≡ self.now.table }
         requires block { IsBlock block }
         requires slots { HasRows block rows caller.old.view.held }
@@ -103,6 +103,6 @@ impl<W: Held> Custody<W> {
     {
         self.table
             .shared
-            .fetch_or::<PutIn>(&mut caller.place, mask_word(block), rows);
+            .fetch_or::<PutIn>(&mut caller.inner, mask_word(block), rows);
     }
 }

@@ -1,4 +1,4 @@
-use crate::rule::{Board, Place};
+use crate::rule::{Board, TableSeat};
 use crate::waiting::WaitWords;
 use hd_model::Held;
 use std::marker::Model;
@@ -6,30 +6,30 @@ use std::marker::Model;
 /// A seat that has not ended, as the steps of a call change it. Contracts see the table, what its
 /// caller knows, and what it has taken out of the table's slot.
 #[derive(Drop)]
-pub(crate) struct Caller<W: Held> {
-    pub(crate) place: Place<W>,
+pub(crate) struct ActingSeat<W: Held> {
+    pub(crate) inner: TableSeat<W>,
 }
 
-impl<W: Held> Model for Caller<W> {
+impl<W: Held> Model for ActingSeat<W> {
     ghost use Rattle.std.specs.Prelude.{◌≡◌, false};
     ghost use Rattle.hd_custody.specs.Views.{Acting};
 
     ghost Value = { Acting W };
 
     ghost view = { λ c.
-        record { table = c.place.table_id; view = c.place.me.0; out = c.place.me.1 } };
+        record { table = c.inner.table_id; view = c.inner.me.0; out = c.inner.me.1 } };
 
-    ghost invariant = { λ c. c.place.me.0.is_spent ≡ false };
+    ghost invariant = { λ c. c.inner.me.0.is_spent ≡ false };
 }
 
 /// A caller's token at a table. It has no bytes. Contracts see the table and what the caller knows.
 #[derive(Drop)]
 pub struct Seat<W: Held> {
-    pub(crate) caller: Caller<W>,
+    pub(crate) caller: ActingSeat<W>,
 }
 
 impl<W: Held> Model for Seat<W> {
-    ghost use Rattle.hd_custody.specs.Views.{Known, IsSeated};
+    ghost use Rattle.hd_custody.specs.{Views.Known, Inside.IsSeated};
 
     ghost Value = { Known W };
 

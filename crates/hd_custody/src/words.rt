@@ -13,7 +13,7 @@ pub(crate) const GATE: usize = 0;
 pub(crate) const FREE: u64 = 0;
 
 /// What it has while one has.
-pub(crate) const HELD: u64 = 1;
+pub(crate) const TAKEN: u64 = 1;
 
 /// The slot of the table, which has the world.
 pub(crate) const WORLD: usize = 0;
@@ -81,7 +81,7 @@ fn quick_word(kind: u32) -> usize
 #[tactic(auto, using(crate::proofs::WordNumbers::numbered))]
 pub(crate) fn probed(kind: u32, n: u32) -> usize
     requires kind { kind < KINDS }
-    requires place { n < CACHE }
+    requires index { n < CACHE }
     ensures value { result ≡ probe_word kind n }
     ensures cell { IsCell result }
     ensures kind { cell_kind result ≡ kind }
@@ -100,7 +100,7 @@ pub(crate) fn probed(kind: u32, n: u32) -> usize
 #[tactic(auto, using(crate::proofs::WordNumbers::numbered))]
 pub(crate) fn swept(kind: u32, n: u32) -> usize
     requires kind { kind < KINDS }
-    requires place { n < CACHE }
+    requires index { n < CACHE }
     ensures value { result ≡ sweep_word kind n }
     ensures cell { IsCell result }
     ensures kind { cell_kind result ≡ kind }
@@ -112,7 +112,7 @@ pub(crate) fn swept(kind: u32, n: u32) -> usize
 #[tactic(auto, using(crate::proofs::WordNumbers::numbered))]
 pub(crate) fn pushed(kind: u32, n: u32) -> usize
     requires kind { kind < KINDS }
-    requires place { n < ROWS }
+    requires index { n < ROWS }
     ensures value { result ≡ push_word kind n }
     ensures cell { IsCell result }
     ensures kind { cell_kind result ≡ kind }
@@ -128,7 +128,7 @@ pub(crate) fn pushed(kind: u32, n: u32) -> usize
 /// A reserve cell.
 pub(crate) fn reserved(kind: u32, i: u32) -> usize
     requires kind { kind < KINDS }
-    requires place { i < BANK }
+    requires index { i < BANK }
     ensures value { result ≡ reserve_cell kind i }
     ensures cell { IsCell result }
     ensures kind { cell_kind result ≡ kind }

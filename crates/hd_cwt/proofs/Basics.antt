@@ -9,11 +9,11 @@ pub use Rattle.std.specs.FinMap.{empty, entries, get, get-empty, insert, len, le
 pub use Rattle.std.specs.Int.{bit_at, bit_not, w64}
 pub use Rattle.std.specs.Prelude.{is_none, is_some}
 pub use Rattle.hd_cwt.specs.Inside.{HasBucket, IsBucket, IsEntries, IsLeft, IsLinked, IsListed, IsListedAt, IsMarked, IsTaken, IsUnlisted, bucket_in, entry_at, idle_in, keyed_in}
-pub use Rattle.hd_cwt.specs.Rings.{IsRings, IsWalk, exchanged, node_at, turned}
+pub use Rattle.hd_cwt.specs.Inside.{IsRings, IsWalk, exchanged, node_at, turned}
 pub use Rattle.hd_cwt.specs.WeakTable.{CanTake, HasKey, IsWeakTable, LooksAt, WeakTable, bucket_of, entries_in, is_in_bucket, kept_key, room_of, slots_of}
-pub use Rattle.hd_model.proofs.IndexedItems.{by_place-empty, by_place-put, get-by_place, get_or-replicate_None}
+pub use Rattle.hd_model.proofs.IndexedItems.{by_index-empty, by_index-put, get-by_index, get_or-replicate_None}
 pub use Rattle.hd_model.proofs.Members.{first_in, later_in, mapped_in, member_cases, not_in_none, pairs_cons, pairs_none, pairs_passing, passing_from, passing_in}
 pub use Rattle.hd_model.proofs.ReadAfterWrite.{insert_cases, len_again, len_new, replicate_cases, some_cases, still_some}
-pub use Rattle.hd_model.specs.Indexed.{by_place}
+pub use Rattle.hd_model.specs.Indexed.{by_index}
 pub use Rattle.hd_model.specs.declared.data.Id.{Id}
 pub use Rattle.hd_model.specs.declared.limits.TheConstants.{BLOCKS, ROWS}

@@ -1,5 +1,5 @@
 -- What each call does to the entries, by their fields and their value.
-use Rattle.hd_cwt.proofs.Basics.{HasKey, Id, IfNone, IfSome, IsEntries, IsLinked, IsSome, List, None, Option, ROWS, Some, WeakTable, ap, arith, bit_and, bit_not, bit_or, bucket_in, bucket_of, by_place, by_place-put, cases_lt, entry_at, exchanged, false≢true, get, get-by_place, get_or, get_or_default_zero, get_or_past, inl, inr, insert, is_some, length, length-set, min, node_at, refl, set, slots_of, subst, sym, turned, w64, ℕ, ◌%◌, ◌+◌, ◌/◌, ◌<◌, ◌^◌, ◌∙◌, ◌≡◌, ◌≢◌, ◌≤◌}
+use Rattle.hd_cwt.proofs.Basics.{HasKey, Id, IfNone, IfSome, IsEntries, IsLinked, IsSome, List, None, Option, ROWS, Some, WeakTable, ap, arith, bit_and, bit_not, bit_or, bucket_in, bucket_of, by_index, by_index-put, cases_lt, entry_at, exchanged, false≢true, get, get-by_index, get_or, get_or_default_zero, get_or_past, inl, inr, insert, is_some, length, length-set, min, node_at, refl, set, slots_of, subst, sym, turned, w64, ℕ, ◌%◌, ◌+◌, ◌/◌, ◌<◌, ◌^◌, ◌∙◌, ◌≡◌, ◌≢◌, ◌≤◌}
 use Rattle.hd_cwt.proofs.{BucketChange.put_linked, BucketChange.clear_linked, IdleMasks.put_marked, IdleMasks.clear_marked}
 
 no_bucket : (v : Option (Option Id)) → ((k : Id) → v ≡ Some (Some k) → ⊥) → bucket_in v ≡ None
@@ -9,9 +9,9 @@ no_bucket (Some (Some k)) free = absurd (free k refl)
 
 module _ {blocks : ℕ} {held : List (Option (Option Id))} {next previous masks : List ℕ} {first : ℕ}
     (is : IsEntries blocks held next previous masks first) {t : WeakTable}
-    (view : ◌≡◌ {A = WeakTable} (record { blocks = blocks; held = by_place held }) t) where
+    (view : ◌≡◌ {A = WeakTable} (record { blocks = blocks; held = by_index held }) t) where
   pub read : (s : ℕ) → get t.held s ≡ entry_at held s
-  read s = ap (λ (u : WeakTable). get u.held s) (sym view) ∙ get-by_place held s
+  read s = ap (λ (u : WeakTable). get u.held s) (sym view) ∙ get-by_index held s
 
   module _ (list : List (Option (Option Id))) (same : list ≡ held) where
     pub found : (o : Option ℕ) (key : Id) → IfSome o (λ s. entry_at list s ≡ Some (Some key))
@@ -50,12 +50,12 @@ module _ {blocks : ℕ} {held : List (Option (Option Id))} {next previous masks 
   mask_low s low = omega (arith, low, is.marked.size)
 
   pub viewed : (s : ℕ) (v : Option Id) → s < length held
-      → ◌≡◌ {A = WeakTable} (record { blocks = blocks; held = by_place (set held s (Some v)) })
+      → ◌≡◌ {A = WeakTable} (record { blocks = blocks; held = by_index (set held s (Some v)) })
       (record t { held = insert t.held s v })
   viewed s v low =
-      let now : ◌≡◌ {A = WeakTable} (record { blocks = blocks; held = by_place (set held s (Some v)) })
-      (record { blocks = blocks; held = insert (by_place held) s v }) =
-      λ i. record { blocks = blocks; held = by_place-put held s v low i } in
+      let now : ◌≡◌ {A = WeakTable} (record { blocks = blocks; held = by_index (set held s (Some v)) })
+      (record { blocks = blocks; held = insert (by_index held) s v }) =
+      λ i. record { blocks = blocks; held = by_index-put held s v low i } in
       now ∙ ap (λ (u : WeakTable). record u { held = insert u.held s v }) view
 
   module _ (s mask bit : ℕ) (is_mask : mask ≡ get_or masks (s / ROWS) mask) (is_bit : bit ≡ 2 ^ (s % ROWS))

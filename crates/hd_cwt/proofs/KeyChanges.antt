@@ -33,17 +33,17 @@ can_none t s can = ⊎_elim (λ idle. ap keyed_in idle) (λ room. ap keyed_in ro
 pub can_seen : {t seen : WeakTable} → t ≡ seen → (s : ℕ) → CanTake seen s → keyed_in (get t.held s) ≡ false
 can_seen {t} view s can = can_none t s (subst (λ u. CanTake u s) (sym view) can)
 
-module _ {t : WeakTable} {count : ℕ} {slots places : List ℕ} {capacity : ℕ}
-    (is : IsListed t count slots places capacity) where
+module _ {t : WeakTable} {count : ℕ} {slots indexes : List ℕ} {capacity : ℕ}
+    (is : IsListed t count slots indexes capacity) where
   -- no slot is listed twice, so no more are listed than are held
-  same_place : (i j : ℕ) → i < length slots → j < length slots → node_at slots i ≡ node_at slots j → i ≡ j
-  same_place i j low more same =
-      sym (is.placed i low) ∙ ap (node_at places) same ∙ is.placed j more
+  same_index : (i j : ℕ) → i < length slots → j < length slots → node_at slots i ≡ node_at slots j → i ≡ j
+  same_index i j low more same =
+      sym (is.placed i low) ∙ ap (node_at indexes) same ∙ is.placed j more
 
   listed_apart : AllPairs (λ x y. x ≢ y) slots
   listed_apart = λ i j d less low same.
       let first : i < length slots = omega (arith, less, low) in
-      let e : i ≡ j = same_place i j first low
+      let e : i ≡ j = same_index i j first low
       (sym (get_or_default slots i d 0 first) ∙ same ∙ get_or_default slots j d 0 low) in
       omega (arith, less, e)
 
@@ -67,18 +67,18 @@ module _ {t : WeakTable} {count : ℕ} {slots places : List ℕ} {capacity : ℕ
   pub slot_held : (i : ℕ) → i < length slots → IsSome (get t.held (node_at slots i))
   slot_held i low = held_of (get t.held (node_at slots i)) (is.from i low)
 
-  pub held_low : (s : ℕ) → IsSome (get t.held s) → s < length places
+  pub held_low : (s : ℕ) → IsSome (get t.held s) → s < length indexes
   held_low s had = let inside = is.table.within s had in omega (arith, is.size, inside)
 
-  pub slot_low : (i : ℕ) → i < length slots → node_at slots i < length places
+  pub slot_low : (i : ℕ) → i < length slots → node_at slots i < length indexes
   slot_low i low = held_low (node_at slots i) (slot_held i low)
 
   -- a slot with a key is listed, and there is a last one
-  pub keyed_place : (s : ℕ) → keyed_in (get t.held s) ≡ true → node_at places s < length slots
-  keyed_place s keyed = (is.into s keyed).0
+  pub keyed_index : (s : ℕ) → keyed_in (get t.held s) ≡ true → node_at indexes s < length slots
+  keyed_index s keyed = (is.into s keyed).0
 
-  pub last_low : (s : ℕ) → keyed_in (get t.held s) ≡ true → node_at slots (length slots - 1) < length places
-  last_low s keyed = slot_low (length slots - 1) (let at = keyed_place s keyed in omega (arith, at))
+  pub last_low : (s : ℕ) → keyed_in (get t.held s) ≡ true → node_at slots (length slots - 1) < length indexes
+  last_low s keyed = slot_low (length slots - 1) (let at = keyed_index s keyed in omega (arith, at))
 
   module _ (s : ℕ) where
     -- a slot beside the one that is written
@@ -102,13 +102,13 @@ module _ {t : WeakTable} {count : ℕ} {slots places : List ℕ} {capacity : ℕ
 
       -- where it had none, the list is as it was
       pub clear_idle : keyed_in (get t.held s) ≡ false
-          → IsListed (with_entry t s None) count slots places capacity
+          → IsListed (with_entry t s None) count slots indexes capacity
       clear_idle none = record {
         table = clear_table;
         counted = is.counted ∙ sym (len_again t.held s None had);
         room = is.room;
         size = is.size;
-        into = λ q. insert_cases t.held s (λ x o. keyed_in o ≡ true → IsListedAt slots places x) None q
+        into = λ q. insert_cases t.held s (λ x o. keyed_in o ≡ true → IsListedAt slots indexes x) None q
             (λ e. absurd (false≢true e)) (λ _ e. is.into q e);
         from = λ i low. beside None (node_at slots i)
             (λ same. false≢true (sym none ∙ ap (λ q. keyed_in (get t.held q)) (sym same) ∙ is.from i low))
@@ -117,10 +117,10 @@ module _ {t : WeakTable} {count : ℕ} {slots places : List ℕ} {capacity : ℕ
       }
 
     -- a slot with a key loses it, and is listed no more
-    module _ (keyed : keyed_in (get t.held s) ≡ true) {new_slots new_places : List ℕ}
-        (off : IsUnlisted slots places new_slots new_places s) where
+    module _ (keyed : keyed_in (get t.held s) ≡ true) {new_slots new_indexes : List ℕ}
+        (off : IsUnlisted slots indexes new_slots new_indexes s) where
       abbrev at : ℕ
-      at = node_at places s
+      at = node_at indexes s
 
       abbrev end : ℕ
       end = length slots - 1
@@ -140,65 +140,65 @@ module _ {t : WeakTable} {count : ℕ} {slots places : List ℕ} {capacity : ℕ
       shorter : length new_slots + 1 ≡ length slots
       shorter = off.shorter
 
-      place_cases : (P : ℕ → Type 0) (i : ℕ) → i < length new_slots → (i ≡ at → P last)
+      index_cases : (P : ℕ → Type 0) (i : ℕ) → i < length new_slots → (i ≡ at → P last)
           → (i ≢ at → P (node_at slots i)) → P (node_at new_slots i)
-      place_cases P i low here there = elim (cases_eq i at) [
+      index_cases P i low here there = elim (cases_eq i at) [
         | inl e ↦ subst P
             (sym (ap (node_at new_slots) e ∙ off.moved (omega (arith, e, low, shorter)))) (here e)
         | inr n ↦ subst P (sym (off.kept i n (omega (arith, low, shorter)))) (there n)
       ]
 
       apart_from : (j : ℕ) → j < length slots → j ≢ at → node_at slots j ≢ s
-      apart_from j low n same = n (sym (is.placed j low) ∙ ap (node_at places) same)
+      apart_from j low n same = n (sym (is.placed j low) ∙ ap (node_at indexes) same)
 
-      at_last : node_at new_places last ≡ at
+      at_last : node_at new_indexes last ≡ at
       at_last = ap (λ ps. node_at ps last) off.replaced
-          ∙ get_or-set_same places last at 0 (slot_low end end_low)
+          ∙ get_or-set_same indexes last at 0 (slot_low end end_low)
 
-      at_other : (q : ℕ) → q ≢ last → node_at new_places q ≡ node_at places q
-      at_other q n = ap (λ ps. node_at ps q) off.replaced ∙ get_or-set_other places last q at 0 n
+      at_other : (q : ℕ) → q ≢ last → node_at new_indexes q ≡ node_at indexes q
+      at_other q n = ap (λ ps. node_at ps q) off.replaced ∙ get_or-set_other indexes last q at 0 n
 
-      listed_still : (q : ℕ) → q ≢ s → keyed_in (get t.held q) ≡ true → IsListedAt new_slots new_places q
+      listed_still : (q : ℕ) → q ≢ s → keyed_in (get t.held q) ≡ true → IsListedAt new_slots new_indexes q
       listed_still q apart is_keyed =
           let old = is.into q is_keyed in
-          let p : ℕ = node_at places q in
+          let p : ℕ = node_at indexes q in
           let beyond : p ≢ at = λ same. apart (sym old.1 ∙ ap (node_at slots) same ∙ at_is) in
           elim (cases_eq q last) [
             | inl e ↦
-                let was : p ≡ end = ap (node_at places) e ∙ is.placed end end_low in
-                let now : node_at new_places q ≡ at = ap (node_at new_places) e ∙ at_last in
+                let was : p ≡ end = ap (node_at indexes) e ∙ is.placed end end_low in
+                let now : node_at new_indexes q ≡ at = ap (node_at new_indexes) e ∙ at_last in
                 let low : at + 1 < length slots = omega (arith, at_low, beyond, was, old.0) in (
                   omega (arith, now, low, shorter),
                   ap (node_at new_slots) now ∙ off.moved low ∙ sym e,
                 )
             | inr n ↦
                 let inner : p ≢ end = λ same. n (sym old.1 ∙ ap (node_at slots) same) in
-                let now : node_at new_places q ≡ p = at_other q n in
+                let now : node_at new_indexes q ≡ p = at_other q n in
                 let low : p + 1 < length slots = omega (arith, old.0, inner) in (
                   omega (arith, now, low, shorter),
                   ap (node_at new_slots) now ∙ off.kept p beyond low ∙ old.1,
                 )
           ]
 
-      pub clear_listed : IsListed (with_entry t s None) count new_slots new_places capacity
+      pub clear_listed : IsListed (with_entry t s None) count new_slots new_indexes capacity
       clear_listed =
           let had : IsSome (get t.held s) = held_of (get t.held s) keyed in record {
             table = clear_table had;
             counted = is.counted ∙ sym (len_again t.held s None had);
             room = is.room;
-            size = ap length off.replaced ∙ length-set places last at ∙ is.size;
+            size = ap length off.replaced ∙ length-set indexes last at ∙ is.size;
             into = λ q. insert_cases t.held s
-                (λ x o. keyed_in o ≡ true → IsListedAt new_slots new_places x) None q
+                (λ x o. keyed_in o ≡ true → IsListedAt new_slots new_indexes x) None q
                 (λ e. absurd (false≢true e)) (listed_still q);
-            from = λ i low. place_cases (λ z. keyed_in (get (insert t.held s None) z) ≡ true) i low
+            from = λ i low. index_cases (λ z. keyed_in (get (insert t.held s None) z) ≡ true) i low
                 (λ e. beside None last (apart_from end end_low (λ q. omega (arith, q, e, low, shorter)))
                 ∙ is.from end end_low)
                 (λ n. let inside : i < length slots = omega (arith, low, shorter) in
                 beside None (node_at slots i) (apart_from i inside n) ∙ is.from i inside);
-            placed = λ i low. place_cases (λ z. node_at new_places z ≡ i) i low (λ e. at_last ∙ sym e)
+            placed = λ i low. index_cases (λ z. node_at new_indexes z ≡ i) i low (λ e. at_last ∙ sym e)
                 (λ n. let inside : i < length slots = omega (arith, low, shorter) in
                 at_other (node_at slots i)
-                (λ same. let e = same_place i end inside end_low same in omega (arith, e, low, shorter))
+                (λ same. let e = same_index i end inside end_low same in omega (arith, e, low, shorter))
                 ∙ is.placed i inside);
           }
 
@@ -256,31 +256,31 @@ module _ {t : WeakTable} {count : ℕ} {slots places : List ℕ} {capacity : ℕ
       -- with a count, and where there is room for one more held slot
       pub put_listed : keyed_in (get t.held s) ≡ false → (now : ℕ) → now ≡ len (insert t.held s (Some key))
           → len (insert t.held s (Some key)) ≤ room_of t
-          → IsListed (with_entry t s (Some key)) now longer (set places s (length slots)) capacity
+          → IsListed (with_entry t s (Some key)) now longer (set indexes s (length slots)) capacity
       put_listed none now counts fits = record {
         table = put_table fits;
         counted = counts;
         room = is.room;
-        size = length-set places s (length slots) ∙ is.size;
+        size = length-set indexes s (length slots) ∙ is.size;
         into = λ q. insert_cases t.held s
-            (λ x o. keyed_in o ≡ true → IsListedAt longer (set places s (length slots)) x) (Some key) q
+            (λ x o. keyed_in o ≡ true → IsListedAt longer (set indexes s (length slots)) x) (Some key) q
             (λ _. (omega (arith, here, long), ap (node_at longer) here ∙ end_is))
             (λ apart e. let old = is.into q e in let p = there q apart in (
               omega (arith, p, old.0, long),
-              ap (node_at longer) p ∙ get_or_append_left slots (s ∷ []) 0 (node_at places q) old.0 ∙ old.1,
+              ap (node_at longer) p ∙ get_or_append_left slots (s ∷ []) 0 (node_at indexes q) old.0 ∙ old.1,
             ));
         from = λ i low. listed_cases (λ z. keyed_in (get (insert t.held s (Some key)) z) ≡ true) i low
             (λ less. beside (Some key) (node_at slots i) (apart_old i less) ∙ is.from i less)
             (λ _. ap keyed_in (get_inserted t.held s (Some key)));
-        placed = λ i low. listed_cases (λ z. node_at (set places s (length slots)) z ≡ i) i low
+        placed = λ i low. listed_cases (λ z. node_at (set indexes s (length slots)) z ≡ i) i low
             (λ less. there (node_at slots i) (apart_old i less) ∙ is.placed i less) (λ e. here ∙ sym e);
       }
         where
-          here : node_at (set places s (length slots)) s ≡ length slots
-          here = get_or-set_same places s (length slots) 0 (omega (arith, within, is.size))
+          here : node_at (set indexes s (length slots)) s ≡ length slots
+          here = get_or-set_same indexes s (length slots) 0 (omega (arith, within, is.size))
 
-          there : (q : ℕ) → q ≢ s → node_at (set places s (length slots)) q ≡ node_at places q
-          there q apart = get_or-set_other places s q (length slots) 0 apart
+          there : (q : ℕ) → q ≢ s → node_at (set indexes s (length slots)) q ≡ node_at indexes q
+          there q apart = get_or-set_other indexes s q (length slots) 0 apart
 
           apart_old : (i : ℕ) → i < length slots → node_at slots i ≢ s
           apart_old i less same =
@@ -288,13 +288,13 @@ module _ {t : WeakTable} {count : ℕ} {slots places : List ℕ} {capacity : ℕ
 
       -- so it is where the slot was held, and where it was not
       pub put_idle : IsSome (get t.held s) → keyed_in (get t.held s) ≡ false
-          → IsListed (with_entry t s (Some key)) count longer (set places s (length slots)) capacity
+          → IsListed (with_entry t s (Some key)) count longer (set indexes s (length slots)) capacity
       put_idle had none =
           let same = len_again t.held s (Some key) had in
           put_listed none count (is.counted ∙ sym same) (omega (arith, is.table.fits, same))
 
       pub put_new : get t.held s ≡ None → CanTake seen s
-          → IsListed (with_entry t s (Some key)) (count + 1) longer (set places s (length slots)) capacity
+          → IsListed (with_entry t s (Some key)) (count + 1) longer (set indexes s (length slots)) capacity
       put_new none can =
           let room : len t.held < room_of t = can_room t s (subst (λ u. CanTake u s) (sym view) can) none in
           let more = len_new t.held s (Some key) none in
@@ -302,14 +302,14 @@ module _ {t : WeakTable} {count : ℕ} {slots places : List ℕ} {capacity : ℕ
           (omega (arith, room, more))
 
 -- there is room in the list for a slot that can be given a key
-module _ {t : WeakTable} {count : ℕ} {slots places : List ℕ} {capacity : ℕ}
-    (is : IsListed t count slots places capacity) (s : ℕ) {seen : WeakTable} (view : t ≡ seen) (key : Id)
+module _ {t : WeakTable} {count : ℕ} {slots indexes : List ℕ} {capacity : ℕ}
+    (is : IsListed t count slots indexes capacity) (s : ℕ) {seen : WeakTable} (view : t ≡ seen) (key : Id)
     (is_new : (other : ℕ) → HasKey seen key other → ⊥) (is_within : s < slots_of seen) where
   pub put_room : CanTake seen s → length slots < capacity
   put_room can = by (get t.held s) refl
     where
       bounded : {now : ℕ} → IsListed (with_entry t s (Some key)) now (slots ++ s ∷ [])
-          (set places s (length slots)) capacity → length slots < capacity
+          (set indexes s (length slots)) capacity → length slots < capacity
       bounded after =
           let long : length (slots ++ s ∷ []) ≡ length slots + 1 = length-append slots (s ∷ []) in
           omega (arith, few_listed after, after.table.fits, is.room, long)
@@ -321,17 +321,17 @@ module _ {t : WeakTable} {count : ℕ} {slots places : List ℕ} {capacity : ℕ
 -- under other names
 pub relisted : {t u : WeakTable} {count : ℕ} {a b c d : List ℕ} {m n : ℕ} → IsListed t count a c m → u ≡ t
     → b ≡ a → d ≡ c → n ≡ m → IsListed u count b d n
-relisted {t} {u} {count} {a} {b} {c} {d} {m} {n} is table slots places capacity =
+relisted {t} {u} {count} {a} {b} {c} {d} {m} {n} is table slots indexes capacity =
     subst (λ x. IsListed u count b d x) (sym capacity)
-    (subst (λ x. IsListed u count b x m) (sym places)
+    (subst (λ x. IsListed u count b x m) (sym indexes)
     (subst (λ x. IsListed u count x c m) (sym slots)
     (subst (λ x. IsListed x count a c m) (sym table) is)))
 
 -- a table of which no slot is held
-pub none_listed : (blocks capacity : ℕ) (places : List ℕ) → blocks ≤ BLOCKS → ROWS * (blocks / 2) ≤ capacity
-    → length places ≡ ROWS * (blocks + 1)
-    → IsListed (record { blocks = blocks; held = empty }) 0 [] places capacity
-none_listed blocks capacity places limit room size = record {
+pub none_listed : (blocks capacity : ℕ) (indexes : List ℕ) → blocks ≤ BLOCKS → ROWS * (blocks / 2) ≤ capacity
+    → length indexes ≡ ROWS * (blocks + 1)
+    → IsListed (record { blocks = blocks; held = empty }) 0 [] indexes capacity
+none_listed blocks capacity indexes limit room size = record {
   table = record {
     limit = limit;
     apart = λ key a b has _. absurd (none-some (Some key) (sym (get-empty nat_cmp a) ∙ has));
@@ -372,32 +372,32 @@ unkeyed_kept seg s (Some None) is = ap Some (none_none (is_none (live_at seg s).
 unkeyed_kept seg s (Some (Some k)) is = absurd (false≢true (sym is))
 
 -- a slot with a key that is still to be swept: it is among the first ones of the list
-pub record IsAhead (places : List ℕ) (left : ℕ) (old now : WeakTable) (s : ℕ) : Type 0 where
+pub record IsAhead (indexes : List ℕ) (left : ℕ) (old now : WeakTable) (s : ℕ) : Type 0 where
   pub same : get now.held s ≡ get old.held s
   pub keyed : keyed_in (get now.held s) ≡ true
-  pub low : node_at places s < left
+  pub low : node_at indexes s < left
 
--- all slots are swept but those at the first places of the list
-pub record IsSwept (seg : Table) (places : List ℕ) (left : ℕ) (old now : WeakTable) : Type 0 where
+-- all slots are swept but those at the first of the list
+pub record IsSwept (seg : Table) (indexes : List ℕ) (left : ℕ) (old now : WeakTable) : Type 0 where
   pub blocks : now.blocks ≡ old.blocks
   pub each : (s : ℕ) → (get now.held s ≡ option_map (kept_key seg s) (get old.held s))
-      ⊎ IsAhead places left old now s
+      ⊎ IsAhead indexes left old now s
 
-pub none_swept : (seg : Table) {old : WeakTable} {count : ℕ} {slots places : List ℕ} {capacity : ℕ}
-    → IsListed old count slots places capacity → IsSwept seg places (length slots) old old
-none_swept seg {old} {count} {slots} {places} listed = record {
+pub none_swept : (seg : Table) {old : WeakTable} {count : ℕ} {slots indexes : List ℕ} {capacity : ℕ}
+    → IsListed old count slots indexes capacity → IsSwept seg indexes (length slots) old old
+none_swept seg {old} {count} {slots} {indexes} listed = record {
   blocks = refl;
   each = λ s. by s (keyed_in (get old.held s)) refl;
 }
   where
     by : (s : ℕ) (b : Bool) → keyed_in (get old.held s) ≡ b
         → (get old.held s ≡ option_map (kept_key seg s) (get old.held s))
-        ⊎ IsAhead places (length slots) old old s
+        ⊎ IsAhead indexes (length slots) old old s
     by s true is = inr (record { same = refl; keyed = is; low = (listed.into s is).0 })
     by s false is = inl (unkeyed_kept seg s (get old.held s) is)
 
-module _ {seg : Table} {count : ℕ} {slots places : List ℕ} {capacity i : ℕ} {old now : WeakTable}
-    (is : IsSwept seg places (i + 1) old now) (listed : IsListed now count slots places capacity)
+module _ {seg : Table} {count : ℕ} {slots indexes : List ℕ} {capacity i : ℕ} {old now : WeakTable}
+    (is : IsSwept seg indexes (i + 1) old now) (listed : IsListed now count slots indexes capacity)
     (low : i < length slots) (slot : ℕ) (at : slot ≡ node_at slots i) where
   was_held : (s : ℕ) → IsSome (get now.held s) → IsSome (get old.held s)
   was_held s some =
@@ -409,14 +409,14 @@ module _ {seg : Table} {count : ℕ} {slots places : List ℕ} {capacity i : ℕ
   slot_keyed = ap (λ s. keyed_in (get now.held s)) at ∙ listed.from i low
 
   -- what is ahead is the slot, or before it
-  ahead_cases : (s : ℕ) → IsAhead places (i + 1) old now s → (s ≡ slot) ⊎ (node_at places s < i)
-  ahead_cases s ahead = elim (cases_eq (node_at places s) i) [
+  ahead_cases : (s : ℕ) → IsAhead indexes (i + 1) old now s → (s ≡ slot) ⊎ (node_at indexes s < i)
+  ahead_cases s ahead = elim (cases_eq (node_at indexes s) i) [
     | inl e ↦ inl (sym (listed.into s ahead.keyed).1 ∙ ap (node_at slots) e ∙ sym at)
     | inr n ↦ inr (let below = ahead.low in omega (arith, below, n))
   ]
 
   -- the next slot has a target
-  pub sweep_left : is_none (live_at seg slot).target ≡ false → IsSwept seg places i old now
+  pub sweep_left : is_none (live_at seg slot).target ≡ false → IsSwept seg indexes i old now
   sweep_left target = record {
     blocks = is.blocks;
     each = λ s. ⊎_elim (λ swept. inl swept) (λ ahead. ⊎_elim
@@ -427,23 +427,23 @@ module _ {seg : Table} {count : ℕ} {slots places : List ℕ} {capacity i : ℕ
   }
 
   -- the next slot has none, and its key is taken
-  module _ {next : WeakTable} {new_slots new_places : List ℕ}
-      (taken : IsTaken seg slot now next slots places new_slots new_places) where
-    still_low : (s : ℕ) → IsAhead places (i + 1) old now s → s ≢ slot → node_at new_places s < i
+  module _ {next : WeakTable} {new_slots new_indexes : List ℕ}
+      (taken : IsTaken seg slot now next slots indexes new_slots new_indexes) where
+    still_low : (s : ℕ) → IsAhead indexes (i + 1) old now s → s ≢ slot → node_at new_indexes s < i
     still_low s ahead apart =
-        let below : node_at places s < i =
+        let below : node_at indexes s < i =
         ⊎_elim (λ e. absurd (apart e)) (λ less. less) (ahead_cases s ahead) in
         let last : ℕ = node_at slots (length slots - 1) in
         let inner : s ≢ last = λ e.
-        let end : node_at places s ≡ length slots - 1 =
-        ap (node_at places) e ∙ listed.placed (length slots - 1) (omega (arith, low)) in
+        let end : node_at indexes s ≡ length slots - 1 =
+        ap (node_at indexes) e ∙ listed.placed (length slots - 1) (omega (arith, low)) in
         omega (arith, end, below, low) in
-        let same : node_at new_places s ≡ node_at places s =
+        let same : node_at new_indexes s ≡ node_at indexes s =
         ap (λ ps. node_at ps s) taken.lists.replaced
-        ∙ get_or-set_other places last s (node_at places slot) 0 inner in
+        ∙ get_or-set_other indexes last s (node_at indexes slot) 0 inner in
         omega (arith, same, below)
 
-    swept_entry : IsSwept seg new_places i old (with_entry now slot None)
+    swept_entry : IsSwept seg new_indexes i old (with_entry now slot None)
     swept_entry = record {
       blocks = is.blocks;
       each = λ s. elim (cases_eq s slot) [
@@ -460,16 +460,16 @@ module _ {seg : Table} {count : ℕ} {slots places : List ℕ} {capacity i : ℕ
       ];
     }
 
-    pub sweep_taken : IsSwept seg new_places i old next
-    sweep_taken = subst (IsSwept seg new_places i old) (sym taken.entries) swept_entry
+    pub sweep_taken : IsSwept seg new_indexes i old next
+    sweep_taken = subst (IsSwept seg new_indexes i old) (sym taken.entries) swept_entry
 
-    pub taken_listed : IsListed next count new_slots new_places capacity
-    taken_listed = subst (λ u. IsListed u count new_slots new_places capacity) (sym taken.entries)
+    pub taken_listed : IsListed next count new_slots new_indexes capacity
+    taken_listed = subst (λ u. IsListed u count new_slots new_indexes capacity) (sym taken.entries)
         (clear_listed listed slot slot_keyed taken.lists)
 
 -- all are swept
-pub all_swept : {seg : Table} {places : List ℕ} {left : ℕ} {old now : WeakTable}
-    → IsSwept seg places left old now → left ≤ 0 → (s : ℕ)
+pub all_swept : {seg : Table} {indexes : List ℕ} {left : ℕ} {old now : WeakTable}
+    → IsSwept seg indexes left old now → left ≤ 0 → (s : ℕ)
     → get now.held s ≡ option_map (kept_key seg s) (get old.held s)
 all_swept is none s =
     ⊎_elim (λ swept. swept) (λ ahead. let low = ahead.low in absurd (omega (arith, low, none))) (is.each s)

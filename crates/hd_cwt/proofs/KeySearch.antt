@@ -1,5 +1,5 @@
 -- The search for a key along the ring of its bucket.
-use Rattle.hd_cwt.proofs.Basics.{Bool, Contains, HasBucket, Id, IsBucket, IsWalk, List, LooksAt, None, Option, Some, [], ap, arith, bucket_in, bucket_of, by_place, cases_eq, cases_lt, entries, entries_in, entry_at, eq-eqb, false≢true, filter, first_in, get-by_place, get_or_past, inl, inr, is_in_bucket, later_in, length, length-map, map, mapped_in, member_cases, ne_eqb, node_at, none-some, not_in_none, pairs_cons, pairs_none, pairs_passing, passing_from, passing_in, refl, same_Some, subst, suc, sym, true, ℕ, ⊎_elim, ◌+◌, ◌<◌, ◌∙◌, ◌∷◌, ◌≡◌, ◌≢◌, ◌≤◌}
+use Rattle.hd_cwt.proofs.Basics.{Bool, Contains, HasBucket, Id, IsBucket, IsWalk, List, LooksAt, None, Option, Some, [], ap, arith, bucket_in, bucket_of, by_index, cases_eq, cases_lt, entries, entries_in, entry_at, eq-eqb, false≢true, filter, first_in, get-by_index, get_or_past, inl, inr, is_in_bucket, later_in, length, length-map, map, mapped_in, member_cases, ne_eqb, node_at, none-some, not_in_none, pairs_cons, pairs_none, pairs_passing, passing_from, passing_in, refl, same_Some, subst, suc, sym, true, ℕ, ⊎_elim, ◌+◌, ◌<◌, ◌∙◌, ◌∷◌, ◌≡◌, ◌≢◌, ◌≤◌}
 use Rattle.std.proofs.Common.{AllPairs, T}
 use Rattle.std.specs.FinMap.{entries_sorted, is_sorted}
 use Rattle.std.specs.FinMap.Entries.{below_all}
@@ -34,42 +34,42 @@ in_bucket b (Some k) is = elim (cases_eq (bucket_of k) b) [
 module _ (held : List (Option (Option Id))) (next : List ℕ) (end b : ℕ) (l : List ℕ)
     (is : IsBucket held next end b l) where
   -- a bucket's ring is not longer than the number of its entries
-  ring_short : length l ≤ entries_in (by_place held) b
+  ring_short : length l ≤ entries_in (by_index held) b
   ring_short =
       let test : ℕ × Option Id → Bool = λ (e : ℕ × Option Id). is_in_bucket b e.1 in
-      let found : List (ℕ × Option Id) = filter test (entries (by_place held)) in
+      let found : List (ℕ × Option Id) = filter test (entries (by_index held)) in
       let few : length l ≤ length (map (λ (e : ℕ × Option Id). e.0) found) =
       fewer l (map (λ (e : ℕ × Option Id). e.0) found) is.once (λ z h.
       let (k, of_key) = key_of (entry_at held z) b (is.from z h) in
       mapped_in (λ (e : ℕ × Option Id). e.0) found (z, Some k)
-      (passing_in test (entries (by_place held)) (z, Some k)
-      (entry_of (by_place held) z (Some k) (get-by_place held z ∙ of_key.0))
+      (passing_in test (entries (by_index held)) (z, Some k)
+      (entry_of (by_index held) z (Some k) (get-by_index held z ∙ of_key.0))
       (eq-eqb (bucket_of k) b of_key.1))) in
       let long : length (map (λ (e : ℕ × Option Id). e.0) found) ≡ length found =
       length-map found (λ (e : ℕ × Option Id). e.0) in
       omega arith
 
   -- and it has each of them
-  ring_long : entries_in (by_place held) b ≤ length l
+  ring_long : entries_in (by_index held) b ≤ length l
   ring_long =
       let test : ℕ × Option Id → Bool = λ (e : ℕ × Option Id). is_in_bucket b e.1 in
-      let all : List (ℕ × Option Id) = entries (by_place held) in
+      let all : List (ℕ × Option Id) = entries (by_index held) in
       let found : List (ℕ × Option Id) = filter test all in
       let apart : AllPairs (λ x y. x ≢ y) (map (λ (e : ℕ × Option Id). e.0) found) =
       pairs_mapped (λ e f. e.0 ≢ f.0) (λ x y. x ≢ y) (λ (e : ℕ × Option Id). e.0) found (λ x y h. h)
-      (pairs_passing test (λ e f. e.0 ≢ f.0) all (entries_apart all (entries_sorted (by_place held)))) in
+      (pairs_passing test (λ e f. e.0 ≢ f.0) all (entries_apart all (entries_sorted (by_index held)))) in
       let few : length (map (λ (e : ℕ × Option Id). e.0) found) ≤ length l =
       fewer (map (λ (e : ℕ × Option Id). e.0) found) l apart (λ z h.
       let (e, at) = mapped_from (λ (g : ℕ × Option Id). g.0) found z h in
       let (among, passes) = passing_from test all e at.0 in
       subst (Contains l) at.1 (is.into e.0
-      (ap bucket_in (sym (get-by_place held e.0) ∙ get_entry (by_place held) e.0 e.1 among)
+      (ap bucket_in (sym (get-by_index held e.0) ∙ get_entry (by_index held) e.0 e.1 among)
       ∙ in_bucket b e.1 passes))) in
       let long : length (map (λ (e : ℕ × Option Id). e.0) found) ≡ length found =
       length-map found (λ (e : ℕ × Option Id). e.0) in
       omega arith
 
-  pub ring_size : length l ≡ entries_in (by_place held) b
+  pub ring_size : length l ≡ entries_in (by_index held) b
   ring_size = omega (arith, ring_short, ring_long)
 
 -- the nodes from one on are those of a list, and then an end
@@ -90,7 +90,7 @@ pub record IsSearching (held : List (Option (Option Id))) (next : List ℕ) (end
   pub slots : (z : ℕ) → Contains left z → z < length held
   pub has : (z : ℕ) → entry_at held z ≡ Some (Some key) → Contains left z
   pub counted : old ≤ now
-  pub bound : now + length left ≡ old + entries_in (by_place held) (bucket_of key)
+  pub bound : now + length left ≡ old + entries_in (by_index held) (bucket_of key)
 
 -- a slot is the first node of a list that is ahead
 record IsNext (next : List ℕ) (at : ℕ) (l : List ℕ) (end : ℕ) : Type 0 where
@@ -139,7 +139,7 @@ module _ {held : List (Option (Option Id))} {next : List ℕ} {end : ℕ} {key :
         is.slots at (subst (λ l. Contains l at) (sym first.list_is)
         (subst (Contains (first.slot ∷ first.rest)) (sym first.at_is) (first_in first.slot first.rest)))
 
-    pub more : at ≢ end → now < old + entries_in (by_place held) (bucket_of key)
+    pub more : at ≢ end → now < old + entries_in (by_index held) (bucket_of key)
     more apart =
         let first : IsNext next at is.left end = next_of next at is.left end is.ahead apart in
         let long : length is.left ≡ suc (length first.rest) = ap length first.list_is in
@@ -164,17 +164,17 @@ module _ {held : List (Option (Option Id))} {next : List ℕ} {end : ℕ} {key :
 
     -- the entry that was looked at last is the one, or none was left
     pub looked_found : at ≢ end → (slot after : ℕ) → after ≡ now + 1
-        → LooksAt (Some slot) (entries_in (by_place held) (bucket_of key)) old after
+        → LooksAt (Some slot) (entries_in (by_index held) (bucket_of key)) old after
     looked_found apart slot after step =
         let low = more apart in (omega (arith, is.counted, step), omega (arith, low, step))
 
     pub looked_all : at ≡ end → length held ≤ end
-        → LooksAt {A = ℕ} None (entries_in (by_place held) (bucket_of key)) old now
+        → LooksAt {A = ℕ} None (entries_in (by_index held) (bucket_of key)) old now
     looked_all over high = by is.left is.ahead is.slots is.bound
       where
         by : (l : List ℕ) → IsAhead next at l end → ((y : ℕ) → Contains l y → y < length held)
-            → now + length l ≡ old + entries_in (by_place held) (bucket_of key)
-            → now ≡ old + entries_in (by_place held) (bucket_of key)
+            → now + length l ≡ old + entries_in (by_index held) (bucket_of key)
+            → now ≡ old + entries_in (by_index held) (bucket_of key)
         by [] ahead slots bound = omega (arith, bound)
         by (s ∷ ss) ahead slots bound =
             let below : s < length held = slots s (first_in s ss) in

@@ -1,11 +1,38 @@
--- What is always true of the fields of a weak table.
-use Rattle.std.specs.Prelude.{◌≡◌, ◌≢◌, ℕ, ◌+◌, ◌-◌, ◌*◌, ◌/◌, ◌%◌, ◌<◌, ◌≤◌, true, false, Bool, cond, List, length, slice_index_or, slice_set, is_none, Option, Some, None, Contains, AllPairs}
+-- What private clauses alone cite.
+use Rattle.std.specs.Prelude.{◌≡◌, ℕ, ◌<◌, List, [], ◌∷◌, length, slice_index_or, slice_set, ◌≢◌, ◌+◌, ◌-◌, ◌*◌, ◌/◌, ◌%◌, ◌≤◌, true, false, Bool, cond, is_none, Option, Some, None, Contains, AllPairs}
 use Rattle.std.specs.FinMap.{get, insert, len}
 use Rattle.std.specs.Int.{bit_at}
 use Rattle.hd_model.specs.{declared.data.Id.Id, declared.limits.TheConstants.BLOCKS, declared.limits.TheConstants.ROWS, Table.Table, Table.live_at}
 use Rattle.hd_cwt.specs.declared.entries.TheConstants.{BUCKETS}
-use Rattle.hd_cwt.specs.Rings.{node_at, IsWalk, IsRings}
 use Rattle.hd_cwt.specs.WeakTable.{WeakTable, bucket_of, room_of, slots_of, IsWeakTable}
+
+-- ---- rings of nodes, as lists of the next and of the previous node of each
+
+-- what a list of nodes has for a node
+abbrev pub node_at : List ℕ → ℕ → ℕ
+node_at nodes x = slice_index_or nodes x 0
+
+-- the next nodes, where two nodes exchanged theirs, and the previous ones
+abbrev pub exchanged : List ℕ → ℕ → ℕ → List ℕ
+exchanged next a b = slice_set (slice_set next a (node_at next b)) b (node_at next a)
+
+abbrev pub turned : List ℕ → List ℕ → ℕ → ℕ → List ℕ
+turned next previous a b = slice_set (slice_set previous (node_at next b) a) (node_at next a) b
+
+-- from a node on the next nodes are those of a list, and then an end
+abbrev pub IsWalk : List ℕ → ℕ → List ℕ → ℕ → Type 0
+IsWalk next x [] end = node_at next x ≡ end
+IsWalk next x (s ∷ ss) end = (node_at next x ≡ s) × IsWalk next s ss end
+
+-- next and previous are each other's inverse
+pub record IsRings (next previous : List ℕ) : Type 0 where
+  pub size : length previous ≡ length next
+  pub within : (x : ℕ) → x < length next → node_at next x < length next
+  pub back_within : (x : ℕ) → x < length next → node_at previous x < length next
+  pub ahead : (x : ℕ) → x < length next → node_at previous (node_at next x) ≡ x
+  pub behind : (x : ℕ) → x < length next → node_at next (node_at previous x) ≡ x
+
+-- ---- what is always true of the fields of a weak table
 
 -- whether a slot is held, and its key
 abbrev pub entry_at : List (Option (Option Id)) → ℕ → Option (Option Id)
@@ -66,42 +93,42 @@ keyed_in None = false
 keyed_in (Some None) = false
 keyed_in (Some (Some key)) = true
 
--- a slot is listed at its place
-abbrev pub IsListedAt : (slots places : List ℕ) (slot : ℕ) → Type 0
-IsListedAt slots places slot =
-    (node_at places slot < length slots) × (node_at slots (node_at places slot) ≡ slot)
+-- a slot is listed at its index
+abbrev pub IsListedAt : (slots indexes : List ℕ) (slot : ℕ) → Type 0
+IsListedAt slots indexes slot =
+    (node_at indexes slot < length slots) × (node_at slots (node_at indexes slot) ≡ slot)
 
--- the number of the held slots, and the list of those with a key, each of which has its place there
-pub record IsListed (t : WeakTable) (count : ℕ) (slots places : List ℕ) (capacity : ℕ) : Type 0 where
+-- the number of the held slots, and the list of those with a key, each of which has its index there
+pub record IsListed (t : WeakTable) (count : ℕ) (slots indexes : List ℕ) (capacity : ℕ) : Type 0 where
   pub table : IsWeakTable t
   pub counted : count ≡ len t.held
   pub room : room_of t ≤ capacity
-  pub size : length places ≡ slots_of t
-  pub into : (s : ℕ) → keyed_in (get t.held s) ≡ true → IsListedAt slots places s
+  pub size : length indexes ≡ slots_of t
+  pub into : (s : ℕ) → keyed_in (get t.held s) ≡ true → IsListedAt slots indexes s
   pub from : (i : ℕ) → i < length slots → keyed_in (get t.held (node_at slots i)) ≡ true
-  pub placed : (i : ℕ) → i < length slots → node_at places (node_at slots i) ≡ i
+  pub placed : (i : ℕ) → i < length slots → node_at indexes (node_at slots i) ≡ i
 
--- a slot was taken off the list, and the last one has come to its place
-pub record IsUnlisted (slots places new_slots new_places : List ℕ) (slot : ℕ) : Type 0 where
+-- a slot was taken off the list, and the last one has taken its index
+pub record IsUnlisted (slots indexes new_slots new_indexes : List ℕ) (slot : ℕ) : Type 0 where
   pub shorter : length new_slots + 1 ≡ length slots
   pub moved :
-      node_at places slot + 1 < length slots
-      → node_at new_slots (node_at places slot) ≡ node_at slots (length slots - 1)
+      node_at indexes slot + 1 < length slots
+      → node_at new_slots (node_at indexes slot) ≡ node_at slots (length slots - 1)
   pub kept :
-      (i : ℕ) → i ≢ node_at places slot → i + 1 < length slots → node_at new_slots i ≡ node_at slots i
-  pub replaced : new_places ≡ slice_set places (node_at slots (length slots - 1)) (node_at places slot)
+      (i : ℕ) → i ≢ node_at indexes slot → i + 1 < length slots → node_at new_slots i ≡ node_at slots i
+  pub replaced : new_indexes ≡ slice_set indexes (node_at slots (length slots - 1)) (node_at indexes slot)
 
 -- a slot with a key is swept: where its row has no target, its key is taken and it is listed no more
 pub record IsTaken (seg : Table) (slot : ℕ) (old new : WeakTable)
-    (slots places new_slots new_places : List ℕ) : Type 0 where
+    (slots indexes new_slots new_indexes : List ℕ) : Type 0 where
   pub null : is_none (live_at seg slot).target ≡ true
   pub entries : new ≡ record old { held = insert old.held slot None }
-  pub lists : IsUnlisted slots places new_slots new_places slot
+  pub lists : IsUnlisted slots indexes new_slots new_indexes slot
 
 -- a slot with a key is swept: where its row has a target, nothing changes
 pub record IsLeft (seg : Table) (slot : ℕ) (old new : WeakTable)
-    (slots places new_slots new_places : List ℕ) : Type 0 where
+    (slots indexes new_slots new_indexes : List ℕ) : Type 0 where
   pub target : is_none (live_at seg slot).target ≡ false
   pub entries : new ≡ old
   pub slots_are : new_slots ≡ slots
-  pub places_are : new_places ≡ places
+  pub indexes_are : new_indexes ≡ indexes

@@ -1,3 +1,2 @@
-pub mod Rings
 pub mod WeakTable
 pub mod Inside

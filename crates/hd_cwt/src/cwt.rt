@@ -5,7 +5,7 @@ ghost use Rattle.std.specs.FinMap.{get, len, contains_key};
 ghost use Rattle.hd_model.specs.Table.{live_at};
 ghost use Rattle.hd_cwt.specs.WeakTable.{CanTake, HasKey, IsIdle, IsIn, IsLeastIdle, IsWeakTable, LooksAt};
 ghost use Rattle.hd_cwt.specs.WeakTable.{bucket_of, entries_in, kept_key, slots_of};
-ghost use Rattle.hd_cwt.specs.Rings.{node_at};
+ghost use Rattle.hd_cwt.specs.Inside.{node_at};
 ghost use Rattle.hd_cwt.specs.Inside.{IsTaken, IsLeft};
 
 use crate::entries::Entries;
@@ -39,7 +39,7 @@ impl Model for Cwt {
 
     ghost view = { λ t. t.entries };
 
-    ghost invariant = { λ t. IsListed t.entries t.count t.keyed.slots.items t.keyed.places.items
+    ghost invariant = { λ t. IsListed t.entries t.count t.keyed.slots.items t.keyed.indexes.items
         (vec_capacity t.keyed.slots) };
 }
 
@@ -155,7 +155,7 @@ impl Cwt {
             option_map (kept_key seg.now slot) (get self.old.held slot) }
     {
         let mut left = self.keyed.slots.len();
-        // From the last on: where a slot is taken off, the one that comes to its place was seen.
+        // From the last on: where a slot is taken off, the one that takes its index was seen.
         while left > 0 {
             left -= 1;
             let slot = self.keyed.slots[left];
@@ -167,14 +167,14 @@ impl Cwt {
 // Takes out the key in a slot that has one, where its row has a null target.
 fn sweep_slot(entries: &mut Entries, keyed: &mut Keyed, seg: &Seg, slot: u32)
     requires held { IsSome (get entries.old.held slot) }
-    requires within { slot < length keyed.old.places.items }
-    requires listed { node_at keyed.old.places.items slot < length keyed.old.slots.items }
+    requires within { slot < length keyed.old.indexes.items }
+    requires listed { node_at keyed.old.indexes.items slot < length keyed.old.slots.items }
     requires last { let slots = keyed.old.slots.items in
-        node_at slots (length slots - 1) < length keyed.old.places.items }
-    ensures swept { let slots = keyed.old.slots.items in let places = keyed.old.places.items in
-        let left = keyed.new.slots.items in let moved = keyed.new.places.items in
-        IsTaken seg.now slot entries.old entries.new slots places left moved
-        ⊎ IsLeft seg.now slot entries.old entries.new slots places left moved }
+        node_at slots (length slots - 1) < length keyed.old.indexes.items }
+    ensures swept { let slots = keyed.old.slots.items in let indexes = keyed.old.indexes.items in
+        let left = keyed.new.slots.items in let moved = keyed.new.indexes.items in
+        IsTaken seg.now slot entries.old entries.new slots indexes left moved
+        ⊎ IsLeft seg.now slot entries.old entries.new slots indexes left moved }
     ensures capacity { vec_capacity keyed.new.slots ≡ vec_capacity keyed.old.slots }
 {
     if target_of(seg, slot).is_none() {

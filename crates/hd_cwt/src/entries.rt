@@ -3,7 +3,7 @@ ghost use Rattle.std.specs.Prelude.{◌≡◌, ◌≢◌, ℕ, ◌+◌, ◌*◌,
 ghost use Rattle.std.specs.Prelude.{slice_index_or, Some, None, IfOk, IfSome, IfNone, IsSome};
 ghost use Rattle.std.specs.FinMap as map;
 ghost use Rattle.std.specs.FinMap.{get};
-ghost use Rattle.hd_model.specs.Indexed.{by_place};
+ghost use Rattle.hd_model.specs.Indexed.{by_index};
 ghost use Rattle.hd_cwt.specs.WeakTable.{IsIdle, HasKey, LooksAt, bucket_of, entries_in, slots_of};
 ghost use Rattle.hd_cwt.specs.Inside.{HasBucket, entry_at, keyed_in};
 
@@ -31,14 +31,14 @@ pub(crate) struct Entries {
 }
 
 impl Model for Entries {
-    ghost use Rattle.hd_model.specs.Indexed.{by_place};
+    ghost use Rattle.hd_model.specs.Indexed.{by_index};
     ghost use Rattle.hd_cwt.specs.{WeakTable.WeakTable, WeakTable.weak_table_code, Inside.IsEntries};
 
     ghost Value = { WeakTable };
 
     ghost coded = { weak_table_code };
 
-    ghost view = { λ e. record { blocks = e.blocks; held = by_place e.held.items } };
+    ghost view = { λ e. record { blocks = e.blocks; held = by_index e.held.items } };
 
     ghost invariant = { λ e. IsEntries e.blocks e.held.items e.rings.next.items
         e.rings.previous.items e.idle.items e.first };
@@ -157,7 +157,7 @@ fn search<L: Ledger>(
     requires within { (length held.now ≤ end) × (end < length next.now) }
     ensures found { IfSome result (λ slot. entry_at held.now slot ≡ Some (Some key)) }
     ensures none { IfNone result ((slot : ℕ) → entry_at held.now slot ≡ Some (Some key) → ⊥) }
-    ensures steps { let many = entries_in (by_place held.now) (bucket_of key) in
+    ensures steps { let many = entries_in (by_index held.now) (bucket_of key) in
         LooksAt result many steps.old steps.new }
 {
     let mut at = next[end as usize];

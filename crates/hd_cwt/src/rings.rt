@@ -1,6 +1,6 @@
 // Rings of nodes: each node has a next and a previous one. A node alone is its own next.
 ghost use Rattle.std.specs.Prelude.{◌≡◌, ℕ, ◌<◌, length, IfOk};
-ghost use Rattle.hd_cwt.specs.Rings.{IsRings, exchanged, node_at, turned};
+ghost use Rattle.hd_cwt.specs.Inside.{IsRings, exchanged, node_at, turned};
 
 use hd_model::Memory;
 use std::alloc::Global;

@@ -11,11 +11,11 @@ pub use Rattle.std.specs.Prelude.{AllPairs, Contains, IsSome, MatchBool, filter,
 pub use Rattle.hd_ages.proofs.WalkProgress.{IsUnderway, all_past, all_to_come, begins, fewer_left, goes_on, past_else, row_due, row_live, row_of_kind, row_same, row_target}
 pub use Rattle.hd_ages.proofs.WalkSlots.{due_slots_list, slots_few}
 pub use Rattle.hd_ages.proofs.WalkWrites.{IsChanging, change_row, change_smaller, change_start, changed, changed_count, changed_steps}
-pub use Rattle.hd_ages.specs.Rows.{IsDueRow}
+pub use Rattle.hd_ages.proofs.WalkSlots.{IsDueRow}
 pub use Rattle.hd_ages.specs.Walk.{Ends, Gives, IsOn, clumps_to_come, due_slots, slots_to_come}
 pub use Rattle.hd_ages.specs.declared.due_rows.DueRows.{DueRows}
-pub use Rattle.hd_dep.specs.Rescan.{Gained, HasParts, IsFollowed, IsSpread, IsSpreadRow, OfVisited, RescanSteps, Spreads}
-pub use Rattle.hd_dep.specs.Waiting.{AreObjects, AreWaiting, HasJoined, IsGathered, IsVisited, IsWaitingEdge, Waits, target_of, waiting_row}
+pub use Rattle.hd_dep.specs.{Inside.Gained, Inside.HasParts, Inside.IsFollowed, Inside.IsSpread, Inside.IsSpreadRow, Inside.OfVisited, Inside.Spreads, Rescan.RescanSteps}
+pub use Rattle.hd_dep.specs.Inside.{AreObjects, AreWaiting, HasJoined, IsGathered, IsVisited, IsWaitingEdge, Waits, target_of, waiting_row}
 pub use Rattle.hd_dep.specs.declared.waiting.Waiting.{Waiting}
 pub use Rattle.hd_model.proofs.MarkReach.{undue_secondary, undue_target}
 pub use Rattle.hd_model.proofs.Members.{member_cases, not_in_none, pairs_cons, pairs_passing, passing_from, passing_in}

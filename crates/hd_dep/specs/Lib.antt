@@ -1,3 +1,3 @@
 pub mod Clearing
 pub mod Rescan
-pub mod Waiting
+pub mod Inside

@@ -5,8 +5,8 @@ ghost use Rattle.hd_model.specs.{declared.data.Addr.Addr, Heap.objects_of, Leads
 ghost use Rattle.hd_model.specs.declared.data.Kind.TheVariants as kind;
 ghost use Rattle.hd_model.specs.Visits.{MayVisit, MayVisitDue, visits_of};
 ghost use Rattle.hd_ages.specs.Clumps.{CoversTable};
-ghost use Rattle.hd_dep.specs.{Rescan.Spreads, Waiting.IsWaitingEdge, Waiting.Waits};
-ghost use Rattle.hd_dep.specs.Waiting.{AreObjects, HasJoined, IsGathered, IsVisited, target_of};
+ghost use Rattle.hd_dep.specs.Inside.{Spreads, IsWaitingEdge, Waits};
+ghost use Rattle.hd_dep.specs.Inside.{AreObjects, HasJoined, IsGathered, IsVisited, target_of};
 
 use crate::rescanning::parts;
 use crate::waiting::{Waiting, promote_for, sort};
@@ -91,13 +91,13 @@ pub fn follow<M: PromotionLog, L: Ledger>(
     }
     let start = marker.logged();
     index.rows.clear();
-    gather(seg, ages, &mut index.rows, marker, n, steps);
+    collect_waiting(seg, ages, &mut index.rows, marker, n, steps);
     sort(&mut index.rows);
     promote_since(&index.rows, marker, start);
 }
 
 /// One pass over the due clumps, which leaves the handles waiting whose targets are not promoted.
-fn gather<M: PromotionLog, L: Ledger>(
+fn collect_waiting<M: PromotionLog, L: Ledger>(
     seg: &Seg,
     ages: &AgeMap,
     waiting: &mut Vec<Waiting>,

@@ -4,7 +4,7 @@ ghost use Rattle.std.specs.FinMap.{get};
 ghost use Rattle.hd_model.specs.{declared.data.Addr.Addr, Heap.objects_of, Leads.IsClosed, Leads.IsClosure, Scene.IsField, Scene.is_object, Reach.IsEdge, Table.live_at, Table.row_at, Names.NamesObjects};
 ghost use Rattle.hd_model.specs.declared.data.Kind.TheVariants as kind;
 ghost use Rattle.hd_model.specs.Visits.{MayVisit, MayVisitDue, visits_of};
-ghost use Rattle.hd_dep.specs.Rescan.{HasParts, RescanSteps, Spreads, Gained, IsSpread, IsSpreadRow};
+ghost use Rattle.hd_dep.specs.{Inside.HasParts, Inside.Spreads, Inside.Gained, Inside.IsSpread, Inside.IsSpreadRow, Rescan.RescanSteps};
 
 use hd_ages::{AgeMap, DueRows};
 use hd_model::{Addr, Kind, Marker, Slot, Steps};

@@ -3,7 +3,7 @@ ghost use Rattle.std.specs.Prelude.{◌≡◌, ◌-◌, ◌<◌, ◌≤◌, ℕ,
 ghost use Rattle.std.specs.List.Sorted.{IsPermutation, IsNonDecreasingBy};
 ghost use Rattle.hd_model.specs.{Heap.objects_of, Leads.Grows, Scene.is_object, Scene.IsYoungField, declared.data.Addr.Addr as AddrValue};
 ghost use Rattle.hd_dep.specs.declared.waiting.Waiting.{Waiting as WaitingValue};
-ghost use Rattle.hd_dep.specs.Waiting.{AreObjects, Waits, target_of, waiting_row};
+ghost use Rattle.hd_dep.specs.Inside.{AreObjects, Waits, target_of, waiting_row};
 
 use hd_model::{Addr, PromotionLog};
 

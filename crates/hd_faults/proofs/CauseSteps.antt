@@ -1,4 +1,4 @@
--- The cause of words, step by step, and the place of the word at fault.
+-- The cause of words, step by step, and the position of the word at fault.
 use Rattle.hd_script.proofs.Basics.{List, None, Option, Some, [], ap, arith, cond, cond-false, cond-true, drop, drop_more, false, get_or, is_none, length, length-drop, length-map, option_map, refl, suc, sym, true, ℕ, ◌+◌, ◌<◌, ◌∙◌, ◌∷◌, ◌≡◌}
 use Rattle.std.specs.Prelude.{slice_get, slice_index_or}
 use Rattle.std.proofs.lemmas.Option.{slice_get-get_or}
@@ -65,7 +65,7 @@ goes_on number i operands d word words within right =
     ∙ cond-true (fits wanted word) (operand_cause (number + 1) (drop (i + 1) operands) words)
     (Some (cause.Operand number wanted)) right
 
--- ---- places
+-- ---- positions
 
 -- what is left from an index on says what stands there, and what follows
 module _ {A : Type 0} (xs : List A) (i : ℕ) (y : A) (ys : List A) (e : drop i xs ≡ y ∷ ys) where

@@ -8,7 +8,7 @@ use Rattle.hd_script.proofs.LineSplit.{first_line}
 use Rattle.hd_faults.specs.Causes.{cause_of}
 use Rattle.hd_faults.specs.Faults.{IsPlaced, IsPlacedIn, word_of}
 use Rattle.hd_faults.specs.Placed.{placed_words}
-use Rattle.hd_faults.specs.ScriptFaults.{FaultOf, IsFirstFault, IsLineFault, IsOneTooMany, count_after, is_at_fault}
+use Rattle.hd_faults.specs.{ScriptFaults.FaultOf, ScriptFaults.IsFirstFault, ScriptFaults.IsLineFault, ScriptFaults.is_at_fault, Inside.IsOneTooMany, Inside.count_after}
 use Rattle.hd_faults.specs.declared.fault.Cause.{Cause}
 use Rattle.hd_faults.specs.declared.fault.Cause.TheVariants as cause
 use Rattle.hd_faults.specs.declared.fault.LineFault.{LineFault}
@@ -37,10 +37,10 @@ reading_is rest line r is e = ap (λ (l : List ℕ). reading_of (words_of l)) is
 pub of_unread : (line : List ℕ) (found : Option LineFault)
     → option_map (λ fault. fault.cause) found ≡ cause_of (words_of line) → IfSome found (IsPlaced line)
     → IfSome found (IsLineFault line)
-of_unread line None e place = place
-of_unread line (Some fault) e place = record {
+of_unread line None e position = position
+of_unread line (Some fault) e position = record {
   cause = ap (λ x. unwrap_or x cause.TooMany) e;
-  place = place;
+  position = position;
 }
 
 pub is_found : (line : List ℕ) (found : Option LineFault)
@@ -61,7 +61,7 @@ of_read line None r read one = one
 of_read line (Some fault) r read one = record {
   cause = one.cause
       ∙ sym (no_cause (cause_of (words_of line)) (causes_decide_readings (words_of line) ∙ ap is_some read));
-  place = one.place;
+  position = one.position;
 }
 
 pub has_word : (line : List ℕ) (found : Option LineFault) (before : ℕ) → IfNone found (words_of line ≡ [])
@@ -83,11 +83,11 @@ is_fault_of line (Some fault) before at_fault has is = (at_fault, is)
 pub at_first : (line : List ℕ) (fault : LineFault) (column : ℕ) (word : List ℕ) (more : List (ℕ × List ℕ))
     → placed_words line ≡ (column, word) ∷ more → word_of fault.cause ≡ 0 → fault.command.now ≡ word
     → fault.column ≡ column → fault.word.now ≡ word → IsPlaced line fault
-at_first line fault column word more e first first_word place same =
+at_first line fault column word more e first first_word position same =
     subst (λ (words : List (ℕ × List ℕ)). IsPlacedIn words fault) (sym e)
     (record {
       command = ap Some (sym first_word);
-      word = ap (slice_get ((column, word) ∷ more)) first ∙ (λ i. Some (sym place i, sym same i));
+      word = ap (slice_get ((column, word) ∷ more)) first ∙ (λ i. Some (sym position i, sym same i));
     })
 
 -- ---- all lines

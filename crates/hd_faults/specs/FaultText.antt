@@ -76,14 +76,14 @@ hint_words None = []
 hint_words (Some name) = name_words name
 
 -- a line and a column
-abbrev pub place_words : ℕ → ℕ → List ℕ
-place_words number column =
+abbrev pub position_words : ℕ → ℕ → List ℕ
+position_words number column =
     codes "line " ++ decimal number ++ codes ", column " ++ decimal column ++ codes ": "
 
 -- the line, the column, the cause, and what may have been meant
 abbrev pub fault_text : ℕ → LineFault → List ℕ
 fault_text number fault =
-    place_words number fault.column ++ cause_words fault.cause fault.command.now fault.word.now
+    position_words number fault.column ++ cause_words fault.cause fault.command.now fault.word.now
     ++ hint_words (nearest fault.word.now (names_for fault.cause)) ++ codes "\n"
 
 -- why an input was not read, where no line is at fault

@@ -1,9 +1,9 @@
 pub mod Placed
 pub mod Forms
 pub mod Causes
-pub mod FormsSeen
 pub mod Faults
 pub mod Laws
 pub mod Hints
 pub mod FaultText
 pub mod ScriptFaults
+pub mod Inside

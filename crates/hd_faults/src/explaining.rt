@@ -63,7 +63,7 @@ fn push_line(
     ensures { IfOk result
         (λ _. text.new.items ≡ text.old.items ++ texts.fault_text number fault.now) }
 {
-    push_place(text, number, fault.column)?;
+    push_position(text, number, fault.column)?;
     push_cause(text, fault)?;
     push_hint(alloc, text, fault)?;
     push(text, "\n")?;
@@ -71,9 +71,9 @@ fn push_line(
 }
 
 // A line and a column.
-fn push_place(text: &mut Vec<u8>, number: u32, column: usize) -> Result<(), AllocError>
+fn push_position(text: &mut Vec<u8>, number: u32, column: usize) -> Result<(), AllocError>
     ensures { IfOk result
-        (λ _. text.new.items ≡ text.old.items ++ texts.place_words number column) }
+        (λ _. text.new.items ≡ text.old.items ++ texts.position_words number column) }
 {
     push(text, "line ")?;
     push_number(text, number as u64)?;

@@ -3,13 +3,13 @@ ghost use Rattle.std.specs.Prelude.{◌≡◌, ◌+◌, ◌≤◌, ◌∷◌, le
 ghost use Rattle.hd_model.specs.Grammar.{reading_of, words_of};
 ghost use Rattle.hd_faults.specs.Causes.{cause_of, is_other_count, operand_cause};
 ghost use Rattle.hd_faults.specs.Faults.{IsPlaced, IsPlacedIn};
-ghost use Rattle.hd_faults.specs.FormsSeen.{seen};
+ghost use Rattle.hd_faults.specs.Inside.{seen};
 ghost use Rattle.hd_faults.specs.declared.fault.Cause.TheVariants as causes;
 ghost use Rattle.hd_faults.specs.Placed.{bytes_of, words_from};
 
 use crate::forms::{Form, form_of};
 use crate::operand::fits;
-use crate::words::{Found, content, count_words, next_word, second_word};
+use crate::words::{WordAt, content, count_words, next_word, second_word};
 use hd_model::Operand;
 use hd_model::limits::MOST_BYTES;
 
@@ -51,7 +51,7 @@ pub fn fault_of_line(line: &[u8]) -> Option<LineFault<'_>>
     requires { length line.now ≤ MOST_BYTES }
     ensures cause { option_map (λ fault. fault.cause) result ≡ cause_of (words_of line.now) }
     ensures reading { is_none result ≡ is_some (reading_of (words_of line.now)) }
-    ensures place { IfSome result (IsPlaced line.now) }
+    ensures position { IfSome result (IsPlaced line.now) }
 {
     let Some(first) = next_word(content(line), 1) else {
         return None;
@@ -60,11 +60,11 @@ pub fn fault_of_line(line: &[u8]) -> Option<LineFault<'_>>
 }
 
 // Why a line with these words has no reading.
-fn fault_of_words<'a>(first: &Found<'a>) -> Option<LineFault<'a>>
+fn fault_of_words<'a>(first: &WordAt<'a>) -> Option<LineFault<'a>>
     requires { first.now.end + length first.now.rest.now ≤ MOST_BYTES + 1 }
     ensures cause { option_map (λ fault. fault.cause) result
         ≡ cause_of (first.now.word.now ∷ bytes_of (words_from first.now.end first.now.rest.now)) }
-    ensures place { IfSome result (IsPlacedIn
+    ensures position { IfSome result (IsPlacedIn
         ((first.now.column, first.now.word.now) ∷ words_from first.now.end first.now.rest.now)) }
 {
     let kind = second_word(first.rest, first.end);
@@ -79,7 +79,7 @@ fn fault_of_words<'a>(first: &Found<'a>) -> Option<LineFault<'a>>
 }
 
 /// A fault at the first word.
-pub(crate) fn command_fault<'a>(first: &Found<'a>, cause: Cause) -> LineFault<'a>
+pub(crate) fn command_fault<'a>(first: &WordAt<'a>, cause: Cause) -> LineFault<'a>
     ensures cause { result.cause ≡ cause }
     ensures command { result.command.now ≡ first.now.word.now }
     ensures column { result.column ≡ first.now.column }
@@ -112,11 +112,11 @@ fn is_other_count(form: Form, has: usize) -> bool
 }
 
 // The first operand that is at fault.
-fn operand_fault<'a>(first: &Found<'a>, operands: &[Operand]) -> Option<LineFault<'a>>
+fn operand_fault<'a>(first: &WordAt<'a>, operands: &[Operand]) -> Option<LineFault<'a>>
     requires { first.now.end + length first.now.rest.now ≤ MOST_BYTES + 1 }
     ensures cause { option_map (λ fault. fault.cause) result
         ≡ operand_cause 1 operands.now (bytes_of (words_from first.now.end first.now.rest.now)) }
-    ensures place { IfSome result (IsPlacedIn
+    ensures position { IfSome result (IsPlacedIn
         ((first.now.column, first.now.word.now) ∷ words_from first.now.end first.now.rest.now)) }
 {
     let mut rest = first.rest;

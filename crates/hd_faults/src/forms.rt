@@ -2,7 +2,7 @@
 ghost use Rattle.std.specs.Prelude.{◌≡◌, map, option_map};
 ghost use Rattle.hd_model.specs.Grammar.{look_up};
 ghost use Rattle.hd_faults.specs.Causes as causes;
-ghost use Rattle.hd_faults.specs.FormsSeen.{row_seen, seen};
+ghost use Rattle.hd_faults.specs.Inside.{row_seen, seen};
 
 use hd_model::Operand;
 use hd_model::Operand::{Fin, Handle, Kind, Number, Object, PlainKind, Strength};

@@ -3,7 +3,7 @@ ghost use Rattle.std.specs.Prelude.{◌≡◌, ◌+◌, ◌<◌, ◌≤◌, [], 
 ghost use Rattle.std.specs.List.{before_first};
 ghost use Rattle.hd_model.specs.Grammar.{first_fault, is_line_end, readings_of, words_of};
 ghost use Rattle.hd_script.specs.Said.{seen};
-ghost use Rattle.hd_faults.specs.ScriptFaults.{FaultOf, IsFirstFault, IsOneTooMany, count_after, is_at_fault};
+ghost use Rattle.hd_faults.specs.{ScriptFaults.FaultOf, ScriptFaults.IsFirstFault, ScriptFaults.is_at_fault, Inside.IsOneTooMany, Inside.count_after};
 
 use crate::fault::{Cause, LineFault, command_fault, fault_of_line};
 use crate::words::{content, next_word};

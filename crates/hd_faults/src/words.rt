@@ -10,7 +10,7 @@ use hd_model::limits::MOST_BYTES;
 
 /// A word of a line, its column, the column after it, and the bytes from there on.
 #[derive(Clone, Copy)]
-pub(crate) struct Found<'a> {
+pub(crate) struct WordAt<'a> {
     pub(crate) column: usize,
     pub(crate) word: &'a [u8],
     pub(crate) end: usize,
@@ -67,7 +67,7 @@ fn first_hash(line: &[u8]) -> Option<usize>
 }
 
 /// The first word of bytes that begin at a column.
-pub(crate) fn next_word(rest: &[u8], column: usize) -> Option<Found<'_>>
+pub(crate) fn next_word(rest: &[u8], column: usize) -> Option<WordAt<'_>>
     requires { column + length rest.now ≤ MOST_BYTES + 1 }
     ensures words { MatchOption result (words_from column rest.now ≡ [])
         (λ found. words_from column rest.now
@@ -81,7 +81,7 @@ pub(crate) fn next_word(rest: &[u8], column: usize) -> Option<Found<'_>>
     if len == 0 {
         return None;
     }
-    Some(Found {
+    Some(WordAt {
         column,
         word: &rest[..len],
         end: column + len,

@@ -7,7 +7,7 @@ pub use Rattle.std.proofs.lemmas.List.Sorted.{Contains-permutation, IsNonDecreas
 pub use Rattle.std.specs.FinMap.{get, insert, len}
 pub use Rattle.std.specs.List.Sorted.{IsNonDecreasingBy}
 pub use Rattle.std.specs.VecDeque.{deque_capacity}
-pub use Rattle.hd_final.specs.Joiners.{IsFinding, IsFound, places}
+pub use Rattle.hd_final.specs.Inside.{IsFinding, IsFound, addresses}
 pub use Rattle.hd_final.specs.Resurrection.{IsOut, Resurrects}
 pub use Rattle.hd_final.specs.Settling.{Unregisters, unregistered}
 pub use Rattle.hd_final.specs.declared.joiners.Joiner.{Joiner}

@@ -1,5 +1,5 @@
 -- The walk that finds who joins, one condemned object after another.
-use Rattle.hd_final.proofs.Basics.{Addr, AllPairs, Bool, Contains, Contains-append_left, Contains-get_or, Contains-push, Contains-push_cases, Heap, Id, IsFinding, IsFound, IsOut, Joiner, List, None, Object, Option, REGION, [], and_from, and_parts, ap, arith, both_ways, false, generation_in, get_or, has_object, id_at, inl, inr, is_condemned, is_in_use, is_some, le-leb, leb-true, len, length, length-map, length_push, map_push, mapped_from, not, not-true, not_from_false, not_in_none, object_at, object_in, placed_at, places, region_generation, same_address, subst, sym, true, zero, suc, ℕ, ⊎_elim, ◌&&◌, ◌*◌, ◌++◌, ◌+◌, ◌<◌, ◌∙◌, ◌∷◌, ◌≡◌, ◌≢◌, ◌≤◌, ◌⊎◌}
+use Rattle.hd_final.proofs.Basics.{Addr, AllPairs, Bool, Contains, Contains-append_left, Contains-get_or, Contains-push, Contains-push_cases, Heap, Id, IsFinding, IsFound, IsOut, Joiner, List, None, Object, Option, REGION, [], and_from, and_parts, ap, arith, both_ways, false, generation_in, get_or, has_object, id_at, inl, inr, is_condemned, is_in_use, is_some, le-leb, leb-true, len, length, length-map, length_push, map_push, mapped_from, not, not-true, not_from_false, not_in_none, object_at, object_in, placed_at, addresses, region_generation, same_address, subst, sym, true, zero, suc, ℕ, ⊎_elim, ◌&&◌, ◌*◌, ◌++◌, ◌+◌, ◌<◌, ◌∙◌, ◌∷◌, ◌≡◌, ◌≢◌, ◌≤◌, ◌⊎◌}
 use Rattle.std.proofs.{lemmas.Bool.cases_lt, lemmas.Option.same_Some, lemmas.List.Quantifiers.all_pairs_push}
 use Rattle.hd_heap.proofs.NextObjects.{IsNextFrom, end_later, generation_is, next_from, none_inside, none_left}
 use Rattle.hd_heap.specs.{Calls.IsFirstIn, Calls.IsFirstObject, Calls.IsNextRegion, Walks.end_in, declared.condemned.ObjectHeader.ObjectHeader}
@@ -91,41 +91,41 @@ module _ (h : Heap) (n : ℕ) (p : Addr → Bool) where
       before j k = let low = found.below j k in let from = next.from in omega (arith, low, from)
 
       -- one outside that is not after it was found, or it is this one
-      known : (a : Addr) → IsOut (object_at h) n p a → a.0 < at.0 + 1 → Contains (places js) a ⊎ (a ≡ at)
+      known : (a : Addr) → IsOut (object_at h) n p a → a.0 < at.0 + 1 → Contains (addresses js) a ⊎ (a ≡ at)
       known a out low =
           ⊎_elim (λ early. inl (found.all a out early))
           (λ from. let high = next.least a (out_condemned a out) from in
           inr (same_address a at (omega (arith, high, low))))
           (cases_lt a.0 bound)
 
-      differs : (a : Addr) → Contains (places js) a → a ≢ at
+      differs : (a : Addr) → Contains (addresses js) a → a ≢ at
       differs a k same =
           let (j, rest) = mapped_from (λ (j : Joiner). j.at) js a k in
           let low = before j rest.0 in
           let e : j.at.0 ≡ at.0 = ap (λ (b : Addr). b.0) (rest.1 ∙ same) in absurd (omega arith)
 
-      once_more : AllPairs (λ x y. x ≢ y) (places js ++ at ∷ [])
+      once_more : AllPairs (λ x y. x ≢ y) (addresses js ++ at ∷ [])
       once_more =
-          all_pairs_push (λ x y. x ≢ y) (places js) at found.once
-          (λ k d low. differs (get_or (places js) k d) (Contains-get_or (places js) k d low))
+          all_pairs_push (λ x y. x ≢ y) (addresses js) at found.once
+          (λ k d low. differs (get_or (addresses js) k d) (Contains-get_or (addresses js) k d low))
 
       -- there is room for one more
       pub found_room : length js < len h.objects
       found_room =
-          let few : length (places js ++ at ∷ []) ≤ len h.objects =
-          few_differ h (places js ++ at ∷ []) once_more
+          let few : length (addresses js ++ at ∷ []) ≤ len h.objects =
+          few_differ h (addresses js ++ at ∷ []) once_more
           (λ a k. ⊎_elim (λ early.
           let (j, rest) = mapped_from (λ (j : Joiner). j.at) js a early in
           subst (λ b. has_object h b ≡ true) rest.1 (ap is_some (found.outside j rest.0).is_stored))
           (λ same. subst (λ b. has_object h b ≡ true) same (and_parts _ _ next.member).0)
-          (Contains-push_cases (places js) at a k)) in
-          omega (arith, few, length_push (places js) at, length-map js (λ (j : Joiner). j.at))
+          (Contains-push_cases (addresses js) at a k)) in
+          omega (arith, few, length_push (addresses js) at, length-map js (λ (j : Joiner). j.at))
 
       pub found_more : (id : Id) → id ≡ id_at h at → is_out h p at ≡ true
           → IsFinding h n p (at.0 + 1) (js ++ record { id = id; at = at } ∷ [])
       found_more id identity out =
           let new : Joiner = record { id = id; at = at } in
-          let joined : places (js ++ new ∷ []) ≡ places js ++ at ∷ [] =
+          let joined : addresses (js ++ new ∷ []) ≡ addresses js ++ at ∷ [] =
           map_push (λ (j : Joiner). j.at) js new in
           record {
             once = subst (λ xs. AllPairs (λ x y. x ≢ y) xs) (sym joined) once_more;
@@ -140,9 +140,9 @@ module _ (h : Heap) (n : ℕ) (p : Addr → Bool) where
                 (λ same. let e = ap (λ (i : Joiner). i.at.0) same in omega (arith, e))
                 (Contains-push_cases js new j k);
             all = λ a is low. subst (λ xs. Contains xs a) (sym joined)
-                (⊎_elim (λ early. Contains-append_left (places js) (at ∷ []) a early)
-                (λ same. subst (λ b. Contains (places js ++ at ∷ []) b) (sym same)
-                (Contains-push (places js) at))
+                (⊎_elim (λ early. Contains-append_left (addresses js) (at ∷ []) a early)
+                (λ same. subst (λ b. Contains (addresses js ++ at ∷ []) b) (sym same)
+                (Contains-push (addresses js) at))
                 (known a is low));
           }
 

@@ -1,7 +1,7 @@
 pub mod Basics
 pub mod ObjectLookup
 pub mod QueueRelocate
-pub mod QueueSettle
+pub mod SettleSteps
 pub mod QueueJoin
 pub mod JoinerFind
 pub mod QueueRevive

@@ -1,18 +1,18 @@
 -- What is promoted grows by one member of a list after another.
-use Rattle.hd_final.proofs.Basics.{Addr, Bool, Contains, Contains-append_left, Contains-push, Contains-push_cases, Grows, Joiner, List, [], ap, append_assoc, get_or, grows_like, grows_on, inl, inr, length, map_more, places, subst, sym, take, ℕ, ⊎_elim, ◌++◌, ◌+◌, ◌<◌, ◌∙◌, ◌∷◌, ◌≡◌, ◌⊎◌}
+use Rattle.hd_final.proofs.Basics.{Addr, Bool, Contains, Contains-append_left, Contains-push, Contains-push_cases, Grows, Joiner, List, [], ap, append_assoc, get_or, grows_like, grows_on, inl, inr, length, map_more, addresses, subst, sym, take, ℕ, ⊎_elim, ◌++◌, ◌+◌, ◌<◌, ◌∙◌, ◌∷◌, ◌≡◌, ◌⊎◌}
 
-pub places_more : (js : List Joiner) (i : ℕ) (d : Joiner) → i < length js
-    → places (take (i + 1) js) ≡ places (take i js) ++ (get_or js i d).at ∷ []
-places_more js i d low = map_more (λ (j : Joiner). j.at) js i d low
+pub addresses_more : (js : List Joiner) (i : ℕ) (d : Joiner) → i < length js
+    → addresses (take (i + 1) js) ≡ addresses (take i js) ++ (get_or js i d).at ∷ []
+addresses_more js i d low = map_more (λ (j : Joiner). j.at) js i d low
 
 -- the queued addresses, with one more after them
 pub beyond : (queued start : List Addr) (js : List Joiner) (i : ℕ) (d : Joiner) → i < length js
-    → queued ≡ start ++ places (take i js)
-    → queued ++ (get_or js i d).at ∷ [] ≡ start ++ places (take (i + 1) js)
+    → queued ≡ start ++ addresses (take i js)
+    → queued ++ (get_or js i d).at ∷ [] ≡ start ++ addresses (take (i + 1) js)
 beyond queued start js i d low is =
     ap (λ xs. xs ++ (get_or js i d).at ∷ []) is
-    ∙ append_assoc start (places (take i js)) ((get_or js i d).at ∷ [])
-    ∙ ap (λ xs. start ++ xs) (sym (places_more js i d low))
+    ∙ append_assoc start (addresses (take i js)) ((get_or js i d).at ∷ [])
+    ∙ ap (λ xs. start ++ xs) (sym (addresses_more js i d low))
 
 module _ {N : Type 0} (E : N → N → Type 0) (done : List N) (x : N) (p q r : N → Bool) where
   pub grown_more : Grows E (λ a. Contains done a) p q → Grows E (λ a. a ≡ x) q r

@@ -1,5 +1,4 @@
 pub mod Queue
 pub mod Resurrection
 pub mod Settling
-pub mod Joiners
 pub mod Inside

@@ -7,7 +7,7 @@ ghost use Rattle.hd_model.specs.declared.limits.TheConstants.{REGION};
 ghost use Rattle.hd_model.specs.Heap.{Basis, has_object, is_in_use, objects_of, placed_at, region_generation};
 ghost use Rattle.hd_heap.specs.Sound.{IsSound};
 ghost use Rattle.hd_model.specs.{Leads.Grows, Scene.is_object, Scene.IsYoungField};
-ghost use Rattle.hd_final.specs.{declared.joiners.Joiner.Joiner as JoinerValue, Joiners.IsFinding, Joiners.IsFound, Joiners.places};
+ghost use Rattle.hd_final.specs.{declared.joiners.Joiner.Joiner as JoinerValue, Inside.IsFinding, Inside.IsFound, Inside.addresses};
 
 use hd_heap::Heap;
 use hd_model::{Addr, Id, Marker};
@@ -87,16 +87,16 @@ pub(crate) fn sort(joiners: &mut Vec<Joiner>)
 /// Promotes them, and queues them after the others.
 pub(crate) fn join<M: Marker>(joiners: &[Joiner], queued: &mut VecDeque<Addr>, marker: &mut M)
     requires settled { M.settled marker.old }
-    requires objects { (a : _) → Contains (places joiners.now) a →
+    requires objects { (a : _) → Contains (addresses joiners.now) a →
         is_object (objects_of (M.basis marker.old)) a ≡ true }
     requires room { deque_len queued.old + length joiners.now ≤ deque_capacity queued.old }
     ensures settled { M.settled marker.new }
     ensures basis { M.basis marker.new ≡ M.basis marker.old }
     ensures pinned { M.pinned marker.new ≡ M.pinned marker.old }
     ensures grows { let b = M.basis marker.old in
-        Grows (IsYoungField (objects_of b) b.condemned) (λ a. Contains (places joiners.now) a)
+        Grows (IsYoungField (objects_of b) b.condemned) (λ a. Contains (addresses joiners.now) a)
         (M.promoted marker.old) (M.promoted marker.new) }
-    ensures queued { queued.new.items ≡ queued.old.items ++ places joiners.now }
+    ensures queued { queued.new.items ≡ queued.old.items ++ addresses joiners.now }
     ensures capacity { deque_capacity queued.new ≡ deque_capacity queued.old }
 {
     for joiner in joiners {

@@ -114,7 +114,7 @@ impl Final {
         requires laid { F.laid forward.now }
         requires kept { (a : Addr) → Contains self.old.queued a → F.kept forward.now a ≡ true }
         ensures { self.new ≡ record self.old {
-          queued = map (F.place forward.now) self.old.queued;
+          queued = map (F.forwarding forward.now) self.old.queued;
         } }
     {
         for i in 0..self.queued.len() {

@@ -19,11 +19,11 @@ pub use Rattle.hd_custody.specs.Views.{Continues, Follows, Fresh, GrowsByBlocks,
 pub use Rattle.hd_custody.specs.declared.view.View.{View}
 pub use Rattle.hd_gate.specs.Alone.{FindsFullExactly, HasCalled, TrimsExactly}
 pub use Rattle.hd_slots.specs.Change.{MayNote, Offers, change_in, change_of, noted}
-pub use Rattle.hd_gate.specs.Idle.{IsIdle}
-pub use Rattle.hd_gate.specs.Opening.{AreNew, HasEnded, IsFirst, IsNew}
-pub use Rattle.hd_gate.specs.Shared.{AreAll, Begin, CallerView, Found, HadRoom, HasDone, HasParts, LookedFor, OwnMiss, OwnSteps, ReleasesOne, SearchView, SlotCalls, looks_with_gate}
+pub use Rattle.hd_gate.specs.Inside.{IsIdle}
+pub use Rattle.hd_gate.specs.Inside.{AreNew, HasEnded, IsFirst, IsNew}
+pub use Rattle.hd_gate.specs.Shared.{AreAll, Begin, CallerView, FoundJournal, HadRoom, HasDone, HasParts, LookedFor, OwnMiss, OwnSteps, ReleasesOne, SearchView, SlotCalls, looks_with_gate}
 pub use Rattle.hd_slots.specs.Tied.{IsTied, is_live}
-pub use Rattle.hd_gate.specs.Turns.{Looked, LooksWhere, ReleasesFreed, Stayed, Turned, caller_view_of, freed_in, search_of, with_grown, without_gathered}
+pub use Rattle.hd_gate.specs.{Inside.Looked, Inside.LooksWhere, Inside.ReleasesFreed, Inside.Stayed, Inside.Turned, Inside.freed_in, Inside.with_grown, Inside.without_gathered, Turns.caller_view_of, Turns.search_of}
 pub use Rattle.hd_slots.specs.declared.change.Change.{Change}
 pub use Rattle.hd_slots.specs.declared.change.Change.TheVariants.{Adds, Frees, GivesBack, Keeps, Takes}
 pub use Rattle.hd_model.proofs.ReadAfterWrite.{get_beside, get_inserted, get_left, get_removed}

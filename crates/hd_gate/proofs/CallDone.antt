@@ -1,9 +1,9 @@
 -- A call that was done, read with the rooms of its caller.
-use Rattle.hd_gate.proofs.Basics.{CallerView, Cmd, Found, HadRoom, HasDone, ℕ, ◌+◌, ◌≡◌}
+use Rattle.hd_gate.proofs.Basics.{CallerView, Cmd, FoundJournal, HadRoom, HasDone, ℕ, ◌+◌, ◌≡◌}
 use Rattle.hd_model.specs.declared.data.Reply.{Reply}
 
 module _ (old new : CallerView) (before after : ℕ) (command : Cmd) where
-  abbrev found_with : Found old → Found (record old { room = before })
+  abbrev found_with : FoundJournal old → FoundJournal (record old { room = before })
   found_with f = record {
     journal = f.journal;
     state = f.state;

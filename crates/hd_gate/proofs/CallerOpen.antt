@@ -67,14 +67,14 @@ module _ (s : Named) (rooms : List ℕ) (first : CallerView) (list all : List Ca
 
 module _ {W : Type 0} (begun v : View W) (numbers : Numbers) (begins : begun
     ≡ starting begun.room numbers) where
-  pub limits_are : (seats spared : ℕ) → IsFirst begun v seats spared → numbers_of v.limits ≡ numbers
-  limits_are seats spared first = ap (λ (x : View W). numbers_of x.limits) (first.view ∙ ap
+  pub limits_are : (seats rooms : ℕ) → IsFirst begun v seats rooms → numbers_of v.limits ≡ numbers
+  limits_are seats rooms first = ap (λ (x : View W). numbers_of x.limits) (first.view ∙ ap
       (λ (x : View W). record x { made = seats; room = v.room }) begins)
 
-  pub first_part : (seats spared : ℕ) → IsFirst begun v seats spared → v.part ≡ []
-  first_part seats spared first = ap (λ (x : View W). x.part) (first.view ∙ ap
+  pub first_part : (seats rooms : ℕ) → IsFirst begun v seats rooms → v.part ≡ []
+  first_part seats rooms first = ap (λ (x : View W). x.part) (first.view ∙ ap
       (λ (x : View W). record x { made = seats; room = v.room }) begins)
 
-  pub first_seen : (seats spared : ℕ) → IsFirst begun v seats spared → v.seen ≡ []
-  first_seen seats spared first = ap (λ (x : View W). x.seen) (first.view ∙ ap
+  pub first_seen : (seats rooms : ℕ) → IsFirst begun v seats rooms → v.seen ≡ []
+  first_seen seats rooms first = ap (λ (x : View W). x.seen) (first.view ∙ ap
       (λ (x : View W). record x { made = seats; room = v.room }) begins)

@@ -99,15 +99,15 @@ module _ (number : ℕ) (command : Cmd) (is_frees : change_of command ≡ Frees)
     limit : u.numbers.blocks ≤ BLOCKS
     limit = subst (λ (n : Numbers). n.blocks ≤ BLOCKS) (sym entered.sized) few
 
-    place : ROWS + (slot.0 - ROWS) ≡ slot.0
-    place = omega (arith, inside.0)
+    there : ROWS + (slot.0 - ROWS) ≡ slot.0
+    there = omega (arith, inside.0)
 
     held : left.held ≡ (slot.0, kind_number handle.kind + 1) ∷ []
     held =
         held_ends u w busy (slot.0 - ROWS) (omega (arith, inside.0, inside.1, limit)) idle.held
-        (ap (ghosts.live u) place ∙ live) (ap (ghosts.live w) place ∙ at.here)
-        (λ y apart. at.others y (λ is. apart (is ∙ sym place)))
-        ∙ ap (λ x. (x, ghosts.kind w (x / ROWS)) ∷ []) place
+        (ap (ghosts.live u) there ∙ live) (ap (ghosts.live w) there ∙ at.here)
+        (λ y apart. at.others y (λ is. apart (is ∙ sym there)))
+        ∙ ap (λ x. (x, ghosts.kind w (x / ROWS)) ∷ []) there
         ∙ ap (λ o. (slot.0, kind_word o) ∷ []) used'
 
     gone : without slot.0 left.held ≡ []

@@ -1,7 +1,6 @@
 pub mod Alone
 pub mod Shared
 pub mod Laws
-pub mod Idle
 pub mod Turns
 pub mod Lending
-pub mod Opening
+pub mod Inside

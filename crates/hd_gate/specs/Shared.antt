@@ -37,7 +37,7 @@ pub record IsCallerOf (s : Named) (p : CallerView) : Type 0 where
   pub table : p.table ≡ s.table
   pub numbers : p.numbers ≡ s.numbers
 
--- all callers of the shared world s, each at the place of its number
+-- all callers of the shared world s, each at the index of its number
 pub record AreAll (s : Named) (callers : List CallerView) : Type 0 where
   pub count : length callers ≡ s.numbers.callers
   pub each : (c : ℕ) (d : CallerView) → c < length callers → IsCallerOf s (slice_index_or callers c d)
@@ -140,7 +140,7 @@ SlotCalls Keeps with_gate before blocks old new e = new ≡ old
 
 -- what the caller found under the gate: the journal, which begins with all that the caller had seen, is a run
 -- of the machine to a state, and has as the caller's own part what that was as the call began
-pub record Found (old : CallerView) : Type 0 where
+pub record FoundJournal (old : CallerView) : Type 0 where
   pub journal : List Entry
   pub state : State
   pub run : Run old.numbers journal state
@@ -154,7 +154,7 @@ having_seen journal p = record p { seen = journal; gate_steps = p.gate_steps + 2
 -- out of memory: in the state that it found, whose journal it has seen now, the object of the command would
 -- fit into the heap
 pub record HadRoom (old new : CallerView) (command : Cmd) : Type 0 where
-  pub found : Found old
+  pub found : FoundJournal old
   pub seen : new.seen ≡ found.journal
   pub fits : FitsHeap old.numbers found.state command
 
@@ -163,7 +163,7 @@ pub record HadRoom (old new : CallerView) (command : Cmd) : Type 0 where
 -- journal that it found with that entry more. It took the gate once, and gave it back once.
 pub record HasDone (old new : CallerView) (command : Cmd) (answer : Reply) : Type 0 where
   pub entry : Entry
-  pub found : Found old
+  pub found : FoundJournal old
   pub after : State
   pub step : Step old.numbers found.state entry after
   pub caller_is : entry.caller ≡ old.number

@@ -33,7 +33,7 @@ impl Model for Alone {
 
 impl Alone {
     /// Begins with a world in its first state, whose table has `blocks` blocks. Where memory is
-    /// wanting, the world was dropped.
+    /// out, the world was dropped.
     pub fn open(alloc: Global, world: World, blocks: u32) -> Result<Alone, Memory>
         requires start { world.state ≡ start_of world.numbers }
         requires same { blocks ≡ world.numbers.blocks }

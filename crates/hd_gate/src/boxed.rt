@@ -40,7 +40,7 @@ impl Held for Boxed {
 }
 
 impl Boxed {
-    /// Where memory is wanting, the world was dropped.
+    /// Where memory runs out, the world was dropped.
     pub(crate) fn new(alloc: Global, world: World) -> Result<Boxed, Memory>
         ensures { IfOk result (λ b. b ≡ world) }
     {

@@ -22,7 +22,7 @@ pub struct Caller {
 impl Model for Caller {
     ghost use Rattle.std.specs.Prelude.{◌≤◌};
     ghost use Rattle.crossbeam_utils.specs.Padded.{padded_value};
-    ghost use Rattle.hd_gate.specs.{Shared.CallerView, Turns.caller_view_of, Idle.IsIdle};
+    ghost use Rattle.hd_gate.specs.{Shared.CallerView, Turns.caller_view_of, Inside.IsIdle};
 
     ghost Value = { CallerView };
 

@@ -3,7 +3,7 @@ ghost use Rattle.std.specs.Prelude.{◌≡◌, ℕ, ◌+◌, ◌<◌, ◌≤◌,
 ghost use Rattle.hd_model.specs.State.{Numbers};
 ghost use Rattle.hd_custody.specs.Views.{starting, numbers_of};
 ghost use Rattle.hd_gate.specs.Shared.{CallerView, AreAll, Begin};
-ghost use Rattle.hd_gate.specs.Opening.{AreNew, IsFirst, HasEnded};
+ghost use Rattle.hd_gate.specs.Inside.{AreNew, IsFirst, HasEnded};
 
 use crate::boxed::Boxed;
 use crate::callers::{Caller, Callers};

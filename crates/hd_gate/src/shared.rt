@@ -65,7 +65,7 @@ impl Closed {
 impl Shared {
     /// Shares a world in its first state, in which nothing was done and whose table has `blocks`
     /// blocks. Each of its callers gets its room: the number of commands that it may do. Where
-    /// memory is wanting, the world was dropped.
+    /// memory runs out, the world was dropped.
     pub fn open(
         alloc: Global,
         world: World,

@@ -5,7 +5,7 @@ ghost use Rattle.hd_custody.specs.Counts.{Has, HasAs};
 ghost use Rattle.hd_custody.specs.Views.{GrowsByBlocks, MayGrant, handle_block, extra_block};
 ghost use Rattle.hd_slots.specs.Change.{change_of};
 ghost use Rattle.hd_slots.specs.declared.change.Change.TheVariants.{Takes, Adds, Frees, GivesBack, Keeps};
-ghost use Rattle.hd_gate.specs.Turns.{MayTurn, Turned, Stayed, Looked, LooksWhere, with_grown, without_gathered, freed_in, ReleasesFreed};
+ghost use Rattle.hd_gate.specs.Inside.{MayTurn, Turned, Stayed, Looked, LooksWhere, with_grown, without_gathered, freed_in, ReleasesFreed};
 ghost use Rattle.hd_world.specs.{Stepped.Stepped, World.MayApply};
 
 use crate::boxed::Boxed;

@@ -11,15 +11,16 @@ pub use Rattle.std.specs.Prelude.{Contains, nat_le, nat_lt, option_map, sum_by, 
 pub use Rattle.hd_dep.specs.Clearing.{IsAllDetached, IsLostAt, detached}
 pub use Rattle.hd_final.specs.Resurrection.{IsOut, Resurrects}
 pub use Rattle.hd_final.specs.Settling.{Unregisters, unregistered}
-pub use Rattle.hd_gc.specs.Clearing.{Clears, marked_table}
+pub use Rattle.hd_gc.specs.Inside.{Clears, marked_table}
 pub use Rattle.hd_gc.specs.Collected.{Collected, LeavesPacked}
-pub use Rattle.hd_gc.specs.Growing.{Holds, IsOldField, Promotes}
-pub use Rattle.hd_gc.specs.MarkAndClear.{FoundSets, MarkedAndCleared, Reports}
-pub use Rattle.hd_gc.specs.Marking.{MayRevive, Resurrected, Resurrection, Traced}
-pub use Rattle.hd_gc.specs.Ready.{IsReady, Parts, basis_of, parts, scene_of}
-pub use Rattle.hd_gc.specs.RelocateAll.{IsRenamed, MayRelocate, NamesKept, RelocatedAll}
-pub use Rattle.hd_gc.specs.Steps.{collected_steps, marked_steps, task_visits}
-pub use Rattle.hd_gc.specs.declared.mark_and_clear.Found.{Found}
+pub use Rattle.hd_gc.specs.Inside.{Holds, IsOldField, MayPromote, Promotes}
+pub use Rattle.hd_gc.specs.Inside.{FoundSets, MarkedAndCleared, Reports}
+pub use Rattle.hd_gc.specs.Inside.{MayRevive, Resurrected, Resurrection, Traced}
+pub use Rattle.hd_gc.specs.{Ready.IsReady, Ready.Parts, Ready.parts, Ready.scene_of, Inside.basis_of}
+pub use Rattle.hd_gc.specs.Inside.{IsRenamed, NamesKept}
+pub use Rattle.hd_gc.specs.{Inside.cleared_steps, Inside.marked_steps, Inside.traced_steps, Steps.collected_steps, Steps.task_visits}
+pub use Rattle.hd_gc.specs.Inside.{IsTracing, basis_in, parts_in}
+pub use Rattle.hd_gc.specs.declared.phases.ClearedCounts.{ClearedCounts}
 pub use Rattle.hd_heap.specs.Calls.{IsExtent, IsNext, IsWalk, is_after, is_old_carded}
 pub use Rattle.hd_mark.specs.Marks.{IsSettledMarks, MarksOf, first_marks, pinned_in, promoted_in}
 pub use Rattle.hd_model.proofs.EdgeChains.{grows_like, grows_none, grows_on, leads_on}
@@ -51,7 +52,8 @@ pub use Rattle.hd_model.specs.declared.data.Addr.{Addr}
 pub use Rattle.hd_model.specs.declared.data.Kind.{Kind}
 pub use Rattle.hd_model.specs.declared.data.Report.{Report}
 pub use Rattle.hd_plan.specs.Commit.{IsSameShape, moved_object}
-pub use Rattle.hd_plan.specs.Plan.{HasNoEmptyRegion, IsLaid, PlanOf, StartsInRegion, kept_in, place_in, stays_in}
-pub use Rattle.hd_scan.specs.Tasks.{has_role, is_role, long_tasks, role_number, root_tasks, short_tasks, swept, takes, takes_any, task_kind}
+pub use Rattle.hd_plan.specs.Plan.{HasNoEmptyRegion, IsLaid, PlanOf, StartsInRegion, kept_in, forwarding_in, stays_in}
+pub use Rattle.hd_scan.specs.Tasks.{is_role, long_tasks, role_number, root_tasks, short_tasks, swept, takes, takes_any, task_kind}
+pub use Rattle.hd_scan.proofs.TaskRoles.{has_role}
 pub use Rattle.hd_scan.specs.declared.task.Task.{Task}
 pub use Rattle.hd_model.specs.declared.limits.TheConstants.{BLOCKS, CLUMP, CLUMPS, LEFT, OPEN, REGION, ROWS}

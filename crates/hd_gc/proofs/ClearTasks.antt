@@ -1,9 +1,9 @@
 -- The passes of several tasks that clear, one after another.
-use Rattle.hd_gc.proofs.Basics.{Clears, List, MarksOf, Table, Task, get_or, length, marked_table, refl, same_table_on, subst, sym, take, takes, takes_any, ℕ, ◌+◌, ◌<◌}
+use Rattle.hd_gc.proofs.Basics.{Clears, List, MarksOf, Table, Task, get_or, has_role, length, long, long_tasks, marked_table, refl, same_table_on, short, short_tasks, subst, sym, take, takes, takes_any, ℕ, ◌+◌, ◌<◌}
 use Rattle.hd_scan.specs.Passes.{ClearPass}
 use Rattle.hd_scan.specs.Whole.{WholeClear}
 use Rattle.hd_scan.proofs.TaskRoles.{short_cover, long_cover}
-use Rattle.hd_scan.proofs.TestedPasses.{clears_twice, taken_more}
+use Rattle.hd_scan.proofs.JoinedPasses.{clears_twice, taken_more}
 
 -- the pass of the next task of a list
 pub cleared_more : (ts : List Task) (i : ℕ) (d : Task) {old now next : Table} {m : MarksOf} {a b n : ℕ}
@@ -18,5 +18,11 @@ cleared_more ts i d {old} {now} {next} {m} {a} {b} l done pass whole =
       table = same_table_on old now next done.table pass.table;
     })
 
--- for `search`: the tasks of a role take what has the role
-pub ruleset roles_covered = (short_cover, long_cover)
+-- the tasks of a role clear what has the role
+pub short_cleared : {old new : Table} {m : MarksOf} {count : ℕ}
+    → Clears (takes_any short_tasks) old new m count → Clears (has_role short) old new m count
+short_cleared {old} {new} {m} {count} = subst (λ f. Clears f old new m count) short_cover
+
+pub long_cleared : {old new : Table} {m : MarksOf} {count : ℕ}
+    → Clears (takes_any long_tasks) old new m count → Clears (has_role long) old new m count
+long_cleared {old} {new} {m} {count} = subst (λ f. Clears f old new m count) long_cover

@@ -1,5 +1,5 @@
 -- Tables of which clearings took targets away.
-use Rattle.hd_gc.proofs.Basics.{Addr, Basis, Bool, Clears, Handle, IsReady, IsSameTable, List, MarksOf, MayVisitDue, None, Option, Parts, Some, Table, Task, [], ap, basis_of, cond, due_faded, fades_by, false, get_or, kind_number, length, promoted_in, row_at, slice_index_or, sum_by, sum_by_more, swept, sym, take, task_kind, task_visits, true, visits, visits_of, visits_same, ℕ, ◌+◌, ◌<◌, ◌∙◌, ◌≡◌}
+use Rattle.hd_gc.proofs.Basics.{Addr, Basis, Bool, Clears, Handle, IsReady, IsSameTable, List, MarksOf, MayVisitDue, None, Option, Parts, Some, Table, Task, [], ap, basis_of, cond, due_faded, fades_by, false, get_or, kind_number, length, promoted_in, row_at, slice_index_or, sum_by, sum_by_more, swept, sym, take, task_kind, task_visits, true, visits, visits_of, visits_same, ℕ, ◌+◌, ◌<◌, ◌∙◌, ◌≡◌, IsTracing}
 use Rattle.std.proofs.lemmas.Option.{none-some}
 
 still_target : {N : Type 0} (b : Bool) (o : Option N) (x : N) → cond b None o ≡ Some x → o ≡ Some x
@@ -23,6 +23,11 @@ cleared_due {f} {old} {new} {m} c =
     due_faded c.table
     (fades_by (row_at old) (row_at new) (swept true f (promoted_in m)) c.whole.swept
     (λ h x e. still_target _ h.target x e) (λ h x e. e))
+
+-- passes may still visit what is due once handles lost their targets
+pub still_tracing : {f : Handle Addr → Bool} {old new : Table} {m : MarksOf} {count : ℕ} {g : Basis}
+    {ages : List ℕ} → Clears f old new m count → IsTracing g old ages m → IsTracing g new ages m
+still_tracing c s = record { settled = s.settled; basis = s.basis; due = cleared_due c s.due }
 
 -- the same clumps are visited in a table of which only rows differ
 pub tasks_alike : {t u : Table} (ages : List ℕ) (n : ℕ) (tasks : List Task) → IsSameTable t u

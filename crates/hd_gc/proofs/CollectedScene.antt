@@ -1,5 +1,5 @@
 -- The scene that a collection leaves, by address: what was left, at its new addresses.
-use Rattle.hd_gc.proofs.Basics.{Addr, Basis, Bool, Collected, Collects, Counts, Found, Handle, HasIdentities, HasSoundAges, Heap, IsCondemned, IsPinned, IsReading, IsReady, IsSameTable, IsWhole, LEFT, LeavesPacked, MarkedAndCleared, None, OPEN, Object, Option, Parts, Placed, PlanOf, Queue, RelocatedAll, Report, Reports, Scene, Some, Table, Unregisters, all_kinds, ap, arith, cleared, collected_steps, cond, cond-true, counts_le, counts_named, counts_once, counts_where, drop, drop-append_seam, faded_ages, fades_cleared, false, get, has_object, held, holds, id_at, is_attaching, is_due, is_lost, is_object, is_some, kept_in, le_trans, left_by, len, length, length-map, loses, loses_by, map, moved_ages, moved_by_identity, moved_object, moved_whole, object_at, object_in, option_map, pinned_held, pins_hold, place_in, raised, reached_kept, refl, region_generation, region_of, rename_handle, rename_object, role, root_reached, row_at, same_table_on, scene_of, stays_in, subst, survivor, sym, true, true≢false, undue_in_place, unregistered, used_of, visits_alike, visits_over, ℕ, ◌&&◌, ◌*◌, ◌+◌, ◌/◌, ◌∙◌, ◌≡◌, ◌≤◌}
+use Rattle.hd_gc.proofs.Basics.{Addr, Basis, Bool, Collected, Collects, Counts, ClearedCounts, Handle, HasIdentities, HasSoundAges, Heap, IsCondemned, IsPinned, IsReading, IsReady, IsSameTable, IsWhole, LEFT, LeavesPacked, MarkedAndCleared, None, OPEN, Object, Option, Parts, Placed, PlanOf, Queue, Report, Reports, Scene, Some, Table, Unregisters, all_kinds, ap, arith, cleared, collected_steps, cond, cond-true, counts_le, counts_named, counts_once, counts_where, drop, drop-append_seam, faded_ages, fades_cleared, false, get, has_object, held, holds, id_at, is_attaching, is_due, is_lost, is_object, is_some, kept_in, le_trans, left_by, len, length, length-map, loses, loses_by, map, moved_ages, moved_by_identity, moved_object, moved_whole, object_at, object_in, option_map, pinned_held, pins_hold, forwarding_in, raised, reached_kept, refl, region_generation, region_of, rename_handle, rename_object, role, root_reached, row_at, same_table_on, scene_of, stays_in, subst, survivor, sym, true, true≢false, undue_in_place, unregistered, used_of, visits_alike, visits_over, ℕ, ◌&&◌, ◌*◌, ◌+◌, ◌/◌, ◌∙◌, ◌≡◌, ◌≤◌, marked_steps}
 use Rattle.std.proofs.Math.Bool.{and-false, and-true}
 use Rattle.hd_model.specs.{declared.data.Id.Id, Compact.IsCompact}
 use Rattle.hd_model.proofs.{RenamedPins.pins_renamed, IdleCollection.cleared_same, RenamedReach.is_object_read, PinnedTargets.counts_objects, PinnedTargets.pinned_count}
@@ -7,26 +7,42 @@ use Rattle.hd_model.specs.Heap.{id_in}
 use Rattle.hd_final.proofs.QueueRevive.{one_identity}
 use Rattle.hd_plan.specs.PackedRegions.{IsPacked}
 use Rattle.hd_gc.proofs.{LostRegistrations.same_used, LostRegistrations.same_full, KeptScene.goes_by, KeptScene.left_kept}
+use Rattle.hd_model.specs.Ages.{grown}
+use Rattle.hd_plan.specs.Commit.{Commits}
+use Rattle.hd_gc.specs.Inside.{IsRenamed}
+
+-- the registrations of those that joined last are gone, objects are at their new addresses, all references in
+-- visited slots, in the queue and in the roots are to these, and ages are raised
+pub record RelocatedAll (p q : Parts) (plan : PlanOf) (joined n before after : ℕ) : Type 0 where
+  pub middle : Heap
+  pub unregisters : Unregisters (drop joined p.queue.queued) p.heap middle
+  pub commits : Commits plan middle q.heap
+  pub rows : IsRenamed p.ages n (forwarding_in plan) (row_at p.table) (row_at q.table)
+  pub table : IsSameTable p.table q.table
+  pub queue : q.queue ≡ record p.queue { queued = map (forwarding_in plan) p.queue.queued }
+  pub named : q.roots ≡ map (option_map (forwarding_in plan)) p.roots
+  pub aged : q.ages ≡ grown n p.ages
+  pub steps : after ≡ before + visits_over p.table p.ages n all_kinds
 
 -- an object that was resurrected loses its registration before it moves
 registered_by : (resurrected : Bool) → Option (Object Addr) → Option (Object Addr)
 registered_by true o = option_map unregistered o
 registered_by false o = o
 
-moved_survivor : (place : Addr → Addr) (n : ℕ) (resurrected : Bool) (v : Option (Object Addr))
-    → option_map (moved_object place n) (registered_by resurrected v)
-    ≡ option_map (rename_object place) (option_map (survivor n resurrected) v)
+moved_survivor : (forwarding : Addr → Addr) (n : ℕ) (resurrected : Bool) (v : Option (Object Addr))
+    → option_map (moved_object forwarding n) (registered_by resurrected v)
+    ≡ option_map (rename_object forwarding) (option_map (survivor n resurrected) v)
 unfolding registered_by
-moved_survivor place n true None = refl
-moved_survivor place n true (Some o) =
-    λ i. Some (record (moved_object place n o) { registered = sym (and-false o.registered) i })
-moved_survivor place n false None = refl
-moved_survivor place n false (Some o) =
-    λ i. Some (record (moved_object place n o) { registered = sym (and-true o.registered) i })
+moved_survivor forwarding n true None = refl
+moved_survivor forwarding n true (Some o) =
+    λ i. Some (record (moved_object forwarding n o) { registered = sym (and-false o.registered) i })
+moved_survivor forwarding n false None = refl
+moved_survivor forwarding n false (Some o) =
+    λ i. Some (record (moved_object forwarding n o) { registered = sym (and-true o.registered) i })
 
-module _ {A Z : Parts} {t2 : Table} {q2 : Queue} {n : ℕ} {plan : PlanOf} {found : Found} {report : Report}
-    {joined s0 s1 s2 : ℕ} (ready : IsReady A)
-    (sf : MarkedAndCleared A (record A { table = t2; queue = q2 }) n plan found s0 s1)
+module _ {A Z : Parts} {t2 : Table} {q2 : Queue} {n : ℕ} {plan : PlanOf} {found : ClearedCounts}
+    {report : Report} {joined s1 s2 : ℕ} (ready : IsReady A)
+    (sf : MarkedAndCleared A (record A { table = t2; queue = q2 }) n plan found)
     (rp : Reports plan found report)
     (sh : RelocatedAll (record A { table = t2; queue = q2 }) Z plan joined n s1 s2)
     (joined_is : joined ≡ length A.queue.queued) where
@@ -40,7 +56,7 @@ module _ {A Z : Parts} {t2 : Table} {q2 : Queue} {n : ℕ} {plan : PlanOf} {foun
   Left = left_by n sf.sets.decision S
 
   abbrev Place : Addr → Addr
-  Place = place_in plan
+  Place = forwarding_in plan
 
   abbrev Rank : Addr → ℕ
   Rank x = (id_at A.heap x).0
@@ -272,11 +288,11 @@ module _ {A Z : Parts} {t2 : Table} {q2 : Queue} {n : ℕ} {plan : PlanOf} {foun
   moving_steps : s2 ≡ s1 + visits_over A.table A.ages n all_kinds
   moving_steps = sh.steps ∙ ap (λ v. s1 + v) (visits_alike A.table t2 A.ages n all_kinds sf.table)
 
-  steps_after : s2 ≡ collected_steps A.table A.ages n s0
-  steps_after = omega (arith, sf.steps, moving_steps)
+  steps_after : (s0 : ℕ) → s1 ≡ marked_steps A.table A.ages n s0 → s2 ≡ collected_steps A.table A.ages n s0
+  steps_after s0 marked = omega (arith, marked, moving_steps)
 
-  pub collected : Collected A Z n report s0 s2
-  collected = record {
+  pub collected : (s0 : ℕ) → s1 ≡ marked_steps A.table A.ages n s0 → Collected A Z n report s0 s2
+  collected s0 marked = record {
     collects = collects;
     ready = ready_after;
     pinned = λ x p. stays x (pinned_kept x p) (sf.pinned x p);
@@ -287,7 +303,7 @@ module _ {A Z : Parts} {t2 : Table} {q2 : Queue} {n : ℕ} {plan : PlanOf} {foun
     limit = sh.commits.limit ∙ ap (λ (g : Heap). g.limit) unregisters.same;
     table = table_after;
     room = room_after;
-    steps = steps_after;
+    steps = steps_after s0 marked;
     packed = packed_after;
     compact = compact_after;
   }

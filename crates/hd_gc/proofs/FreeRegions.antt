@@ -1,9 +1,9 @@
 -- Free regions are nothing to a collection.
 use Rattle.hd_gc.proofs.Basics.{Collected, Heap, IsReady, List, Parts, Report, subst, sym, ℕ, ◌≡◌}
 
-ready_with : {p : Parts} (spare : List ℕ) → IsReady p
-    → IsReady (record p { heap = record p.heap { spare = spare } })
-ready_with spare r = record {
+ready_with : {p : Parts} (free : List ℕ) → IsReady p
+    → IsReady (record p { heap = record p.heap { free = free } })
+ready_with free r = record {
   whole = r.whole;
   identities = r.identities;
   ages_sound = r.ages_sound;
@@ -15,13 +15,13 @@ ready_with spare r = record {
   room = r.room;
 }
 
-pub ready_spared : {p : Parts} {k : Heap} → k ≡ record p.heap { spare = k.spare } → IsReady p
+pub ready_with_free : {p : Parts} {k : Heap} → k ≡ record p.heap { free = k.free } → IsReady p
     → IsReady (record p { heap = k })
-ready_spared {p} {k} same r =
-    subst (λ (g : Heap). IsReady (record p { heap = g })) (sym same) (ready_with k.spare r)
+ready_with_free {p} {k} same r =
+    subst (λ (g : Heap). IsReady (record p { heap = g })) (sym same) (ready_with k.free r)
 
-collected_with : {p q : Parts} {spare : List ℕ} {n : ℕ} {report : Report} {a b : ℕ}
-    → Collected (record p { heap = record p.heap { spare = spare } }) q n report a b
+collected_with : {p q : Parts} {free : List ℕ} {n : ℕ} {report : Report} {a b : ℕ}
+    → Collected (record p { heap = record p.heap { free = free } }) q n report a b
     → Collected p q n report a b
 collected_with c = record {
   collects = c.collects;
@@ -50,9 +50,9 @@ collected_with c = record {
   compact = c.compact;
 }
 
-pub collected_spared : {p q : Parts} {k : Heap} {n : ℕ} {report : Report} {a b : ℕ}
-    → k ≡ record p.heap { spare = k.spare } → Collected (record p { heap = k }) q n report a b
+pub collected_with_free : {p q : Parts} {k : Heap} {n : ℕ} {report : Report} {a b : ℕ}
+    → k ≡ record p.heap { free = k.free } → Collected (record p { heap = k }) q n report a b
     → Collected p q n report a b
-collected_spared {p} {q} {k} {n} {report} {a} {b} same c =
-    collected_with {spare = k.spare}
+collected_with_free {p} {q} {k} {n} {report} {a} {b} same c =
+    collected_with {free = k.free}
     (subst (λ (g : Heap). Collected (record p { heap = g }) q n report a b) same c)

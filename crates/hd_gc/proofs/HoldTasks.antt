@@ -2,7 +2,7 @@
 use Rattle.hd_gc.proofs.Basics.{Addr, Basis, Bool, Handle, Holds, IsHeld, IsPinned, IsSettledMarks, IsYoungField, List, MarksOf, Rows, Table, Task, get_or, grows_like, has_role, holds, inl, inr, length, marked_table, objects_of, pins_hold, promoted_in, refl, role, root_tasks, row_at, subst, sym, take, takes, takes_any, ℕ, ⊎_elim, ◌+◌, ◌<◌, ◌∙◌, ◌≡◌}
 use Rattle.hd_scan.specs.Whole.{IsTargetOf, IsPinTargetOf, WholeRoots}
 use Rattle.hd_scan.proofs.TaskRoles.{roots_cover}
-use Rattle.hd_scan.proofs.TestedPasses.{roots_twice, taken_more}
+use Rattle.hd_scan.proofs.JoinedPasses.{roots_twice, taken_more}
 use Rattle.hd_gc.proofs.HandleRoles.{same_role, is_same_role}
 
 -- passes have promoted the targets of what passes a test, from marks on

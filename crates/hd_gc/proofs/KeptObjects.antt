@@ -1,5 +1,5 @@
 -- What is resurrected and kept, by what is reached and by the rows that the clearing of short handles left.
-use Rattle.hd_gc.proofs.Basics.{Bool, Contains, Counts, Decides, Handle, IsAttached, IsEdge, IsKept, IsOut, IsReached, IsToBeFinalized, List, Objects, Resurrection, Role, Rows, Scene, Some, [], ap, attaches, cases_Bool, counts_like, decides_kept, false, has_role, inl, inr, is_role, leads_like, mapped_value, option_map, refl, role, short, swept, sym, true, true≢false, ℕ, ⊎_elim, ◌∙◌, ◌≡◌}
+use Rattle.hd_gc.proofs.Basics.{Bool, Contains, Counts, Decides, Handle, IsAttached, IsEdge, IsKept, IsOut, IsReached, IsToBeFinalized, List, Objects, Resurrection, Role, Rows, Scene, Some, ap, attaches, cases_Bool, counts_like, decides_kept, false, has_role, inl, inr, is_role, leads_like, mapped_value, option_map, refl, role, short, swept, sym, true, true≢false, ℕ, ⊎_elim, ◌∙◌, ◌≡◌}
 use Rattle.hd_gc.proofs.HandleRoles.{other_stays}
 
 -- dependent handles whose rows stay
@@ -68,7 +68,7 @@ module _ {N : Type 0} (s : Scene N) (n : ℕ) (reach : N → Bool)
   module _ {rows : Rows N}
       (short_rows : (slot : ℕ) → rows slot ≡ option_map (swept true (has_role short) reach) (s.handle slot))
       {rank : N → ℕ} {kept : N → Bool} {after : List N}
-      (v : Resurrection rank (record s { handle = rows; named = [] }) n reach kept after) where
+      (v : Resurrection rank (record s { handle = rows }) n reach kept after) where
     pub kept_decides : (x : N) → Decides (kept x) (IsKept s n x)
     kept_decides =
         decides_kept s n kept (λ x r. v.keeps x ((reach_is x).1 r))

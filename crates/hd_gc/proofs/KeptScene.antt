@@ -1,10 +1,10 @@
 -- The scene that a collection leaves in place, by what was found: what it references is kept.
-use Rattle.hd_gc.proofs.Basics.{Addr, Basis, CLUMPS, Contains, Counts, Found, GoesBy, IsCondemned, IsReady, IsRemoved, IsSurviving, IsWhole, LosesAs, MarkedAndCleared, MayRelocate, Parts, PlanOf, Queue, Report, Reports, Scene, Table, ap, attaches, counts_like, false, id_at, is_object, kept_in, left_by, left_from, long, object_at, objects_of, scene_of, short, subst, survivor, sym, true, whole_in_place, ℕ, ◌*◌, ◌∙◌, ◌≡◌}
+use Rattle.hd_gc.proofs.Basics.{Addr, Basis, CLUMPS, Contains, Counts, ClearedCounts, GoesBy, IsCondemned, IsReady, IsRemoved, IsSurviving, IsWhole, LosesAs, MarkedAndCleared, NamesKept, Parts, PlanOf, Queue, Report, Reports, Scene, Some, Table, ap, attaches, counts_like, false, id_at, is_object, kept_in, left_by, left_from, length, long, object_at, objects_of, row_at, scene_of, short, subst, survivor, sym, true, whole_in_place, ℕ, ◌*◌, ◌∙◌, ◌≡◌, has_object}
 use Rattle.hd_model.proofs.MapEntries.{some_value}
 
-module _ {A : Parts} {t2 : Table} {q2 : Queue} {n : ℕ} {plan : PlanOf} {found : Found} {report : Report}
-    {s0 s1 : ℕ} (ready : IsReady A)
-    (sf : MarkedAndCleared A (record A { table = t2; queue = q2 }) n plan found s0 s1)
+module _ {A : Parts} {t2 : Table} {q2 : Queue} {n : ℕ} {plan : PlanOf} {found : ClearedCounts}
+    {report : Report} (ready : IsReady A)
+    (sf : MarkedAndCleared A (record A { table = t2; queue = q2 }) n plan found)
     (rp : Reports plan found report) where
   abbrev S : Scene Addr
   S = scene_of A
@@ -61,22 +61,23 @@ module _ {A : Parts} {t2 : Table} {q2 : Queue} {n : ℕ} {plan : PlanOf} {found 
       sf.plan_kept x
       ∙ (left_from (sf.sets.kept x) (survivor n (sf.sets.resurrected x)) (object_at A.heap x) o at).0
 
-  -- so the plan may be carried out
-  pub may_relocate : MayRelocate (record A { table = t2; queue = q2 }) plan
-  may_relocate = record {
-    laid = sf.laid;
-    heap = ap (λ (g : Basis). g.heap) sf.basis;
-    cards = ready.cards_sound;
-    clumps = ready.clumps ∙ ap (λ b. CLUMPS * b) (sym sf.table.blocks);
-    rows = record {
-      targets = λ slot g x is e. left_kept x (whole_left.targets slot g x (sym (sf.rows slot) ∙ is) e);
-      secondaries = λ slot g x is e.
-          left_kept x (whole_left.secondaries slot g x (sym (sf.rows slot) ∙ is) e);
-    };
-    queued = kept;
-    objects = λ x is. sf.keeping.objects x (kept x is);
-    roots = λ x names. left_kept x (whole_left.named x names);
+  -- so is what the rows, the queue and the roots reference
+  pub clumps_left : length A.ages ≡ CLUMPS * t2.blocks
+  clumps_left = ready.clumps ∙ ap (λ b. CLUMPS * b) (sym sf.table.blocks)
+
+  pub rows_kept : NamesKept (kept_in plan) (row_at t2)
+  rows_kept = record {
+    targets = λ slot g x is e. left_kept x (whole_left.targets slot g x (sym (sf.rows slot) ∙ is) e);
+    secondaries = λ slot g x is e.
+        left_kept x (whole_left.secondaries slot g x (sym (sf.rows slot) ∙ is) e);
   }
-    where
-      kept : (x : Addr) → Contains q2.queued x → kept_in plan x ≡ true
-      kept x is = left_kept x (whole_left.queue x (subst (λ (p : Queue). Contains p.queued x) sf.queue is))
+
+  pub queue_kept : (x : Addr) → Contains q2.queued x → kept_in plan x ≡ true
+  queue_kept x is =
+      left_kept x (whole_left.queue x (subst (λ (p : Queue). Contains p.queued x) sf.queue is))
+
+  pub queue_objects : (x : Addr) → Contains q2.queued x → has_object A.heap x ≡ true
+  queue_objects x is = sf.keeping.objects x (queue_kept x is)
+
+  pub roots_kept : (x : Addr) → Contains A.roots (Some x) → kept_in plan x ≡ true
+  roots_kept x names = left_kept x (whole_left.named x names)

@@ -1,6 +1,6 @@
 -- A heap that lost registrations is the same to all but those who ask for them.
 use Rattle.hd_gc.proofs.Basics.{Addr, Contains, HasNoEmptyRegion, HasSoundCards, Heap, IsSameShape, List, None, Object, Option, Placed, Some, StartsInRegion, Unregisters, [], ap, arith, card_of, cells_of, false, fields_at, fields_in, generation_at, generation_in, get, is_carded, is_in_use, length, object_at, object_in, option_map, placed_at, refl, region_generation, region_of, subst, sym, used_of, ℕ, ◌+◌, ◌<◌, ◌∙◌, ◌≡◌, ◌≤◌}
-use Rattle.hd_final.proofs.QueueSettle.{same_by, settled_has}
+use Rattle.hd_final.proofs.SettleSteps.{same_by, settled_has}
 use Rattle.hd_model.proofs.Sums.{share, sum-le}
 use Rattle.std.specs.FinSet as set
 
@@ -46,7 +46,7 @@ module _ {xs : List Addr} {h k : Heap} (u : Unregisters xs h k) where
     fields = λ a. sym (fields_placed k a) ∙ still_fields a ∙ fields_placed h a;
     ids = u.ids;
     regions = ap (λ (g : Heap). g.regions) u.same;
-    spare = ap (λ (g : Heap). g.spare) u.same;
+    free = ap (λ (g : Heap). g.free) u.same;
   }
 
   pub same_cards : HasSoundCards (object_at h) (is_carded h) → HasSoundCards (object_at k) (is_carded k)

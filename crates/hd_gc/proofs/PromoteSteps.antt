@@ -1,5 +1,22 @@
 -- Marks that promote from one set after another, and from the members of a list one by one.
-use Rattle.hd_gc.proofs.Basics.{Addr, Basis, Contains, Contains-append_left, Contains-push, Contains-push_cases, Grows, IsSettledMarks, IsYoungField, List, MarksOf, Promotes, [], ap, get_or, grows_like, grows_none, grows_on, length, objects_of, promoted_in, refl, subst, sym, take, take-length, take_more, ℕ, ⊎_elim, ◌++◌, ◌+◌, ◌<◌, ◌∙◌, ◌∷◌, ◌≡◌, ◌⊎◌}
+use Rattle.hd_gc.proofs.Basics.{Addr, Basis, Contains, Contains-append_left, Contains-push, Contains-push_cases, Grows, IsSettledMarks, IsTracing, IsYoungField, List, MarksOf, MayPromote, Promotes, Table, [], ap, due_again, get_or, grows_like, grows_none, grows_on, is_object, length, objects_of, promoted_in, refl, subst, sym, take, take-length, take_more, true, ℕ, ⊎_elim, ◌++◌, ◌+◌, ◌<◌, ◌∙◌, ◌∷◌, ◌≡◌, ◌⊎◌}
+
+-- settled marks may promote what is in a set of objects of their heap
+pub may_promote : {S : Addr → Type 0} {g : Basis} {m : MarksOf} → IsSettledMarks m → m.basis ≡ g
+    → ((x : Addr) → S x → is_object (objects_of g) x ≡ true) → MayPromote S m
+may_promote {S} {g} {m} settled basis objects = record {
+  settled = settled;
+  objects = subst (λ (f : Basis). (x : Addr) → S x → is_object (objects_of f) x ≡ true) (sym basis) objects;
+}
+
+-- more is promoted or pinned
+pub tracing_on : {g : Basis} {t : Table} {ages : List ℕ} {m k : MarksOf} → IsTracing g t ages m
+    → IsSettledMarks k → k.basis ≡ m.basis → IsTracing g t ages k
+tracing_on s settled basis = record {
+  settled = settled;
+  basis = basis ∙ s.basis;
+  due = due_again basis refl s.due;
+}
 
 pub promotes_none : (S : Addr → Type 0) (m : MarksOf) → IsSettledMarks m → ((x : Addr) → S x → ⊥)
     → Promotes S m m

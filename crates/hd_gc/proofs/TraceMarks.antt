@@ -1,9 +1,8 @@
 -- The marking from first marks: what it promotes is what is reached.
-use Rattle.hd_gc.proofs.Basics.{Addr, Basis, Contains, Grows, Holds, IsClosed, IsClosure, IsCondemned, IsEdge, IsField, IsHeld, IsOldField, IsPinned, IsReady, IsSettled, IsSettledMarks, IsYoungField, MarksOf, MayRevive, Parts, Promotes, Some, Traced, ap, arith, basis_of, first_marks, generation_at, inl, inr, is_carded, lt-ltb, ltb-true, nat_lt, object_at, objects_of, older, or_cases, or_left, pinned_in, promoted_in, root_object, root_tasks, row_at, scene_of, settled_closed, subst, sym, task_visits, true, true≢false, visits_of, ℕ, ⊎_elim, ◌+◌, ◌<◌, ◌||◌, ◌↔◌, ◌∙◌, ◌≡◌, ◌⊎◌}
+use Rattle.hd_gc.proofs.Basics.{Addr, Basis, Contains, Grows, Holds, IsClosed, IsClosure, IsCondemned, IsEdge, IsField, IsHeld, IsOldField, IsPinned, IsReady, IsSettled, IsSettledMarks, IsYoungField, MarksOf, MayRevive, Parts, Promotes, Some, Traced, ap, arith, basis_of, first_marks, generation_at, inl, inr, is_carded, lt-ltb, ltb-true, nat_lt, object_at, objects_of, older, or_cases, or_left, pinned_in, promoted_in, root_object, row_at, scene_of, settled_closed, subst, sym, true, true≢false, ℕ, ⊎_elim, ◌<◌, ◌||◌, ◌↔◌, ◌∙◌, ◌≡◌, ◌⊎◌}
 use Rattle.std.specs.{FinSet.contains-empty, Ordering.nat_cmp}
 use Rattle.hd_gc.proofs.{CardWalk.carded_older, CardWalk.carded_by, MarkParts.Starts, MarkParts.traced, PromoteSteps.Edge, PromoteSteps.grows_after, PromoteSteps.promotes_on}
 use Rattle.std.specs.FinSet as set
-use Rattle.hd_model.specs.declared.data.Kind.TheVariants as kind
 
 -- settled marks over an equal basis
 pub settled_over : (g : Basis) (m : MarksOf) → m.basis ≡ g → IsSettledMarks m
@@ -70,14 +69,10 @@ module _ {A : Parts} {n : ℕ} {m0 m1 m2 m3 m4 : MarksOf} (first : m0 ≡ first_
       subst (λ (g : Basis). (x : Addr) → IsCondemned (objects_of g) g.condemned x
       → (pinned_in m3 x ≡ true) ↔ ((pinned_in m2 x ≡ true) ⊎ IsPinned (row_at A.table) x)) basis2 c.pins
 
-  pub traced_marks : {before between after : ℕ} {m5 : MarksOf} → IsSettledMarks m5
-      → m5.basis ≡ m4.basis → pinned_in m5 ≡ pinned_in m4
+  pub traced_marks : {m5 : MarksOf} → pinned_in m5 ≡ pinned_in m4
       → IsClosure (IsEdge (objects_of m4.basis) (row_at A.table)) (promoted_in m4) (promoted_in m5)
-      → between ≡ before + task_visits A.table A.ages n root_tasks
-      → after ≡ between + visits_of A.table A.ages n kind.Dependent → Traced A n m5 before after
-  traced_marks {before} {between} {after} {m5} settled basis pinned closure held followed = record {
-    settled = settled;
-    basis = basis ∙ basis4;
+      → Traced A n m5
+  traced_marks {m5} pinned closure = record {
     reach_is =
         traced (scene_of A) n (IsOldField A.heap n) (promoted_in (first_marks A.heap n)) (promoted_in m4)
         (promoted_in m5) first_older
@@ -90,17 +85,17 @@ module _ {A : Parts} {n : ℕ} {m0 m1 m2 m3 m4 : MarksOf} (first : m0 ≡ first_
           ((pins_over x young).0 (ap (λ p. p x) (sym d.pinned) ∙ ap (λ p. p x) (sym pinned) ∙ e)),
       λ p. ap (λ q. q x) pinned ∙ ap (λ q. q x) d.pinned ∙ (pins_over x young).1 (inr p),
     );
-    steps = followed ∙ ap (λ k. k + visits_of A.table A.ages n kind.Dependent) held;
   }
 
 -- what is promoted stays closed under all fields, as more is promoted
-pub still_closed : {p : Parts} {n rows : ℕ} {m k : MarksOf} → MayRevive p n m rows → k.basis ≡ m.basis
-    → IsSettledMarks k → ((x : Addr) → promoted_in m x ≡ true → promoted_in k x ≡ true)
+pub still_closed : {p : Parts} {n : ℕ} {m k : MarksOf} → MayRevive p m → m.basis ≡ basis_of p n
+    → IsSettledMarks m → k.basis ≡ m.basis → IsSettledMarks k
+    → ((x : Addr) → promoted_in m x ≡ true → promoted_in k x ≡ true)
     → IsClosed (IsField (objects_of k.basis)) (promoted_in k)
-still_closed {p} {n} {rows} {m} {k} may basis settled keeps =
-    let over : k.basis ≡ basis_of p n = basis ∙ may.basis in
+still_closed {p} {n} {m} {k} may first before basis settled keeps =
+    let over : k.basis ≡ basis_of p n = basis ∙ first in
     subst (λ (g : Basis). IsClosed (IsField (objects_of g)) (promoted_in k)) (sym over)
     (settled_closed (object_at p.heap) n (promoted_in k) (is_carded p.heap)
     (settled_over (basis_of p n) k over settled) may.cards
     (λ x y above carded field. keeps y (may.edges x y
-    ((settled_over (basis_of p n) m may.basis may.settled).older x above) (inl field))))
+    ((settled_over (basis_of p n) m first before).older x above) (inl field))))

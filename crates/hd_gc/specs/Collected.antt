@@ -16,7 +16,7 @@ pub record LeavesPacked (h h2 : Heap) (t : Table) (n : ℕ) : Type 0 where
 
 -- whatever reads the state before and after by identity sees a collection of n with the report; the state is
 -- ready for another one; an object that a handle pins keeps its address; cards are set exactly where they are
--- needed; the objects take no more words than before; the regions in use are packed, and after a collection
+-- needed; the objects take no more cells than before; the regions in use are packed, and after a collection
 -- of the oldest generation the heap is compact
 pub record Collected (p q : Parts) (n : ℕ) (report : Report) (before after : ℕ) : Type 0 where
   pub collects :

@@ -2,7 +2,7 @@
 use Rattle.std.specs.Prelude.{◌≡◌, ℕ, ◌*◌, ◌≤◌, List, Option, length}
 use Rattle.std.specs.FinMap.{len}
 use Rattle.hd_model.specs.{declared.data.Addr.Addr, declared.limits.TheConstants.CLUMPS, Scene.Scene, Scene.IsWhole, Ages.HasSoundAges, Ages.HasSoundCards}
-use Rattle.hd_model.specs.Heap.{Heap, Basis, object_at, is_carded, HasIdentities}
+use Rattle.hd_model.specs.Heap.{Heap, object_at, is_carded, HasIdentities}
 use Rattle.hd_model.specs.Table.{Table, Queue, row_at}
 use Rattle.hd_plan.specs.Plan.{HasNoEmptyRegion}
 
@@ -26,10 +26,6 @@ scene_of p = record {
   named = p.roots;
   queue = p.queue.queued;
 }
-
--- what the marks of a collection of generation n are of
-abbrev pub basis_of : Parts → ℕ → Basis
-basis_of p n = record { heap = p.heap; condemned = n }
 
 -- each reference is to an object, no two objects have one identity, ages and cards rule out what may be
 -- skipped, each region in use has an object, there is an age for each clump, and the queue has room for all

@@ -13,11 +13,6 @@ abbrev pub all_task_visits : Table → List ℕ → ℕ → ℕ
 all_task_visits t ages n =
     task_visits t ages n root_tasks + task_visits t ages n short_tasks + task_visits t ages n long_tasks
 
--- the steps up to the plan: each task makes a pass, and dependent handles have three: two that follow them,
--- and the clearing
-abbrev pub marked_steps : Table → List ℕ → ℕ → ℕ → ℕ
-marked_steps t ages n before = before + all_task_visits t ages n + 3 * visits_of t ages n kind.Dependent
-
 -- the steps of the whole collection: the relocation goes over the handles of every kind once more
 abbrev pub collected_steps : Table → List ℕ → ℕ → ℕ → ℕ
 collected_steps t ages n before =

@@ -1,17 +1,17 @@
 // A whole collection.
 ghost use Rattle.std.specs.Prelude.{◌≡◌, ◌≤◌, true, MatchResult};
-ghost use Rattle.hd_gc.specs.{Ready.IsReady, Ready.parts, Collected.Collected, MarkAndClear.Reports};
+ghost use Rattle.hd_gc.specs.{Ready.IsReady, Ready.parts, Collected.Collected, Inside.Reports};
 ghost use Rattle.hd_model.specs.{Counting.Counts, Heap.objects_of, Scene.IsCondemned};
 ghost use Rattle.hd_plan.specs.Plan.{IsLaid, kept_in};
 
-use crate::mark_and_clear::{Found, mark_and_clear};
-use crate::moving::relocate_all;
+use crate::moving::{relocate_roots, relocate_rows};
+use crate::phases::{ClearedCounts, Context};
 use hd_ages::AgeMap;
 use hd_final::Final;
 use hd_heap::Heap;
 use hd_model::limits::OLDEST;
 use hd_model::{Addr, Memory, Report, Steps};
-use hd_plan::Plan;
+use hd_plan::{Plan, commit};
 use hd_seg::Seg;
 use std::alloc::Global;
 use std::sync::ledger::Ledger;
@@ -40,20 +40,34 @@ pub fn collect<L: Ledger>(
     ensures { MatchResult result
         (λ report. Collected (parts heap.old seg.old ages.old fin.old roots.old)
         (parts heap.new seg.new ages.new fin.new roots.new) n report steps.old steps.new)
-        (λ _. (heap.new ≡ record heap.old { spare = heap.new.spare }) × (seg.new ≡ seg.old)
+        (λ _. (heap.new ≡ record heap.old { free = heap.new.free }) × (seg.new ≡ seg.old)
         × (ages.new ≡ ages.old) × (fin.new ≡ fin.old) × (roots.new ≡ roots.old)
         × (steps.new ≡ steps.old)) }
 {
     let mut plan = Plan::take(alloc, heap, n)?;
     let joined = fin.len();
-    let found = mark_and_clear(alloc, heap, seg, ages, fin, roots, &mut plan, n, steps)?;
+    let context = Context {
+        alloc,
+        heap,
+        ages,
+        roots,
+        condemned: n,
+    };
+    let found = context.mark_and_clear(seg, fin, &mut plan, steps)?;
     let report = report(&plan, found);
-    relocate_all(heap, seg, ages, fin, roots, &mut plan, joined, n, steps);
+
+    // Those that joined the queue are no longer registered.
+    fin.settle(heap, joined);
+    relocate_rows(seg, ages, &plan, n, steps);
+    fin.relocate(&plan);
+    relocate_roots(roots, &plan);
+    commit(heap, &mut plan);
+    ages.grow_all(n);
     Ok(report)
 }
 
 // The report of what a plan keeps and does not, and of what was found.
-fn report(plan: &Plan, found: Found) -> Report
+fn report(plan: &Plan, found: ClearedCounts) -> Report
     requires laid { IsLaid plan.now }
     requires kept { let of = plan.now.basis in
         Counts (λ x. IsCondemned (objects_of of) of.condemned x × (kept_in plan.now x ≡ true))

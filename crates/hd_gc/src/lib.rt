@@ -2,14 +2,15 @@
 //! the dependent handles of what is not, queues the objects that are to be finalized, and moves
 //! what is kept, after CoreCLR's collector.
 //!
-//! All memory is taken before the first change. What no step looks at was ruled out by the ages of
-//! clumps and by cards.
+//! A `Tracer` has all memory that the marking takes, before the first change. Its marking makes it
+//! `Marked`, whose clearing lays the plan by which objects move. What no step looks at was ruled
+//! out by the ages of clumps and by cards.
 #![tactic(auto)]
 
 mod clearing;
 mod collection;
-mod mark_and_clear;
 mod marking;
 mod moving;
+mod phases;
 
 pub use collection::collect;

@@ -1,21 +1,19 @@
 // What is promoted and pinned: all that is reached.
 ghost use Rattle.std.specs.Prelude.{◌≡◌, ◌+◌, ◌*◌, ◌≤◌, true, Some, Contains};
-ghost use Rattle.std.specs.Option.{ForSome};
 ghost use Rattle.hd_model.specs.declared.data.Kind.TheVariants as kind;
-ghost use Rattle.hd_model.specs.Scene.{is_object, fields_at, IsField};
-ghost use Rattle.hd_model.specs.Heap.{has_object, object_at, objects_of};
-ghost use Rattle.hd_model.specs.{Table.row_at, Visits.MayVisitDue, Visits.visits_of};
-ghost use Rattle.hd_mark.specs.Marks.{IsSettledMarks, first_marks};
+ghost use Rattle.hd_model.specs.declared.limits.TheConstants.{CLUMP};
+ghost use Rattle.hd_model.specs.{Heap.has_object, Heap.object_at, Scene.IsField, Table.row_at, Visits.visits_of};
+ghost use Rattle.hd_mark.specs.Marks.{first_marks};
 ghost use Rattle.hd_scan.specs.Tasks.{root_tasks};
-ghost use Rattle.hd_gc.specs.{Ready.IsReady, Ready.parts, Marking.Traced, Steps.task_visits};
-ghost use Rattle.hd_gc.specs.Growing.{Promotes, IsOldField, Holds};
+ghost use Rattle.hd_gc.specs.{Ready.IsReady, Steps.task_visits, Inside.Traced, Inside.traced_steps};
+ghost use Rattle.hd_gc.specs.Inside.{MayPromote, Promotes, IsOldField, Holds};
+ghost use Rattle.hd_gc.specs.Inside.{IsTracing, basis_in, parts_in};
 
-use hd_ages::AgeMap;
-use hd_dep::{DependentIndex, follow};
+use crate::phases::{Context, Marked, Tracer};
+use hd_dep::follow;
 use hd_final::Final;
 use hd_heap::Heap;
 use hd_mark::Marks;
-use hd_model::limits::CLUMP;
 use hd_model::{Addr, Marker, Steps};
 use hd_scan::{Task, promote};
 use hd_seg::Seg;
@@ -23,8 +21,7 @@ use std::sync::ledger::Ledger;
 
 // Promotes what a reference names, if it is not null.
 fn promote_named(at: Option<Addr>, marks: &mut Marks)
-    requires settled { IsSettledMarks marks.old }
-    requires object { ForSome at (λ x. is_object (objects_of marks.old.basis) x ≡ true) }
+    requires { MayPromote (λ x. at ≡ Some x) marks.old }
     ensures { Promotes (λ x. at ≡ Some x) marks.old marks.new }
 {
     if let Some(at) = at {
@@ -34,9 +31,7 @@ fn promote_named(at: Option<Addr>, marks: &mut Marks)
 
 // Promotes what the roots reference.
 fn promote_roots(roots: &[Option<Addr>], marks: &mut Marks)
-    requires settled { IsSettledMarks marks.old }
-    requires objects { (x : Addr) → Contains roots.now (Some x) →
-        is_object (objects_of marks.old.basis) x ≡ true }
+    requires { MayPromote (λ x. Contains roots.now (Some x)) marks.old }
     ensures { Promotes (λ x. Contains roots.now (Some x)) marks.old marks.new }
 {
     for root in roots {
@@ -46,9 +41,7 @@ fn promote_roots(roots: &[Option<Addr>], marks: &mut Marks)
 
 // Promotes what is queued for finalization.
 fn promote_queue(fin: &Final, marks: &mut Marks)
-    requires settled { IsSettledMarks marks.old }
-    requires objects { (x : Addr) → Contains fin.now.queued x →
-        is_object (objects_of marks.old.basis) x ≡ true }
+    requires { MayPromote (λ x. Contains fin.now.queued x) marks.old }
     ensures { Promotes (λ x. Contains fin.now.queued x) marks.old marks.new }
 {
     for i in 0..fin.len() {
@@ -57,24 +50,21 @@ fn promote_queue(fin: &Final, marks: &mut Marks)
 }
 
 // Promotes the targets of the handles that hold them, and pins those of the handles that pin.
-fn promote_held<L: Ledger>(seg: &Seg, ages: &AgeMap, marks: &mut Marks, n: u8, steps: &mut Steps<L>)
-    requires settled { IsSettledMarks marks.old }
-    requires due { MayVisitDue marks.old.basis seg.now ages.now n }
+fn promote_held<L: Ledger>(seg: &Seg, context: Context<'_>, marks: &mut Marks, steps: &mut Steps<L>)
+    requires { IsTracing (basis_in context) seg.now context.ages.now marks.old }
     ensures holds { Holds (row_at seg.now) marks.old marks.new }
-    ensures steps { steps.new ≡ steps.old + task_visits seg.now ages.now n root_tasks }
+    ensures steps { steps.new ≡ steps.old
+        + task_visits seg.now context.entry.ages.now context.entry.condemned root_tasks }
 {
     for task in Task::ROOTS {
-        let _ = promote(seg, ages, task, marks, n, steps);
+        let _ = promote(seg, context.ages, task, marks, context.condemned, steps);
     }
 }
 
 // Promotes what an object references.
 fn promote_fields(heap: &Heap, at: Addr, marks: &mut Marks)
-    requires settled { IsSettledMarks marks.old }
-    requires heap { marks.old.basis.heap ≡ heap.now }
     requires object { has_object heap.now at ≡ true }
-    requires objects { (y : Addr) → IsField (object_at heap.now) at y →
-        has_object heap.now y ≡ true }
+    requires fields { MayPromote (λ y. IsField (object_at heap.now) at y) marks.old }
     ensures { Promotes (λ y. IsField (object_at heap.now) at y) marks.old marks.new }
 {
     for i in 0..heap.fields(at) {
@@ -84,10 +74,7 @@ fn promote_fields(heap: &Heap, at: Addr, marks: &mut Marks)
 
 // Promotes what the older objects in set cards reference. No other one references a younger one.
 fn promote_carded(heap: &Heap, marks: &mut Marks, n: u8)
-    requires settled { IsSettledMarks marks.old }
-    requires heap { marks.old.basis.heap ≡ heap.now }
-    requires objects { (x y : Addr) → IsField (object_at heap.now) x y →
-        has_object heap.now y ≡ true }
+    requires { MayPromote (IsOldField heap.now n) marks.old }
     ensures { Promotes (IsOldField heap.now n) marks.old marks.new }
 {
     let mut after = None;
@@ -97,29 +84,39 @@ fn promote_carded(heap: &Heap, marks: &mut Marks, n: u8)
     }
 }
 
-/// Promotes all that is reached, from marks that have nothing yet.
-pub(crate) fn trace<L: Ledger>(
-    heap: &Heap,
-    seg: &Seg,
-    ages: &AgeMap,
-    fin: &Final,
-    roots: &[Option<Addr>],
-    marks: &mut Marks,
-    index: &mut DependentIndex,
-    n: u8,
-    steps: &mut Steps<L>,
-)
-    requires first { marks.old ≡ first_marks heap.now n }
-    requires settled { IsSettledMarks marks.old }
-    requires ready { IsReady (parts heap.now seg.now ages.now fin.now roots.now) }
-    requires handles { CLUMP * visits_of seg.now ages.now n kind.Dependent ≤ index.old }
-    ensures handles { index.new ≡ index.old }
-    ensures traced { Traced (parts heap.now seg.now ages.now fin.now roots.now) n marks.new
-        steps.old steps.new }
-{
-    promote_roots(roots, marks);
-    promote_queue(fin, marks);
-    promote_held(seg, ages, marks, n, steps);
-    promote_carded(heap, marks, n);
-    follow(seg, ages, index, marks, n, steps);
+impl<'c> Tracer<'c> {
+    /// Promotes all that is reached.
+    pub(crate) fn trace<L: Ledger>(self, seg: &Seg, fin: &Final, steps: &mut Steps<L>) -> Marked<'c>
+        requires first { self.marks ≡ first_marks self.context.heap.now self.context.condemned }
+        requires tracing { IsTracing (basis_in self.context) seg.now self.context.ages.now
+            self.marks }
+        requires ready { IsReady (parts_in self.context seg.now fin.now) }
+        requires room { CLUMP * visits_of seg.now self.context.ages.now self.context.condemned
+            kind.Dependent ≤ self.index }
+        ensures context { result.context ≡ self.entry.context }
+        ensures room { result.index ≡ self.entry.index }
+        ensures tracing { let c = result.context in
+            IsTracing (basis_in c) seg.now c.ages.now result.marks }
+        ensures traced { let c = result.context in
+            Traced (parts_in c seg.now fin.now) c.condemned result.marks }
+        ensures steps { let c = self.entry.context in
+            steps.new ≡ traced_steps seg.now c.ages.now c.condemned steps.old }
+    {
+        let Tracer {
+            context,
+            mut marks,
+            mut index,
+        } = self;
+        promote_roots(context.roots, &mut marks);
+        promote_queue(fin, &mut marks);
+        promote_held(seg, context, &mut marks, steps);
+        let n = context.condemned;
+        promote_carded(context.heap, &mut marks, n);
+        follow(seg, context.ages, &mut index, &mut marks, n, steps);
+        Marked {
+            context,
+            marks,
+            index,
+        }
+    }
 }

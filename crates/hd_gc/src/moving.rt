@@ -1,27 +1,30 @@
-// The moving of what is kept, and the update of all references.
+// The update of references to what moves.
 ghost use Rattle.std.specs.Prelude.{◌≡◌, ◌+◌, ◌*◌, true, Some, length, map, option_map, Contains};
 ghost use Rattle.std.specs.Option.{ForSome};
 ghost use Rattle.hd_model.specs.{Table.row_at, Kinds.all_kinds, Visits.IsSameTable, Visits.visits_over};
-ghost use Rattle.hd_plan.specs.Plan.{IsLaid, kept_in, place_in};
-ghost use Rattle.hd_gc.specs.RelocateAll.{NamesKept, IsRenamed, MayRelocate, RelocatedAll};
-ghost use Rattle.hd_gc.specs.Ready.{parts};
+ghost use Rattle.hd_plan.specs.Plan.{IsLaid, kept_in, forwarding_in};
+ghost use Rattle.hd_gc.specs.Inside.{NamesKept, IsRenamed};
 
 use hd_ages::AgeMap;
-use hd_final::Final;
-use hd_heap::Heap;
 use hd_model::limits::CLUMPS;
 use hd_model::{Addr, Forward, Kind, Steps};
-use hd_plan::{Plan, commit};
+use hd_plan::Plan;
 use hd_scan::relocate;
 use hd_seg::Seg;
 use std::sync::ledger::Ledger;
 
-// Gives the rows of every kind the new addresses, in the clumps that are visited.
-fn relocate_rows<L: Ledger>(seg: &mut Seg, ages: &AgeMap, plan: &Plan, n: u8, steps: &mut Steps<L>)
+/// Gives the rows of every kind the new addresses, in the clumps that are visited.
+pub(crate) fn relocate_rows<L: Ledger>(
+    seg: &mut Seg,
+    ages: &AgeMap,
+    plan: &Plan,
+    n: u8,
+    steps: &mut Steps<L>,
+)
     requires laid { IsLaid plan.now }
     requires names { NamesKept (kept_in plan.now) (row_at seg.old) }
     requires clumps { length ages.now ≡ CLUMPS * seg.old.blocks }
-    ensures rows { IsRenamed ages.now n (place_in plan.now) (row_at seg.old) (row_at seg.new) }
+    ensures rows { IsRenamed ages.now n (forwarding_in plan.now) (row_at seg.old) (row_at seg.new) }
     ensures table { IsSameTable seg.old seg.new }
     ensures steps { steps.new ≡ steps.old + visits_over seg.old ages.now n all_kinds }
 {
@@ -34,7 +37,7 @@ fn relocate_rows<L: Ledger>(seg: &mut Seg, ages: &AgeMap, plan: &Plan, n: u8, st
 fn moved(root: Option<Addr>, plan: &Plan) -> Option<Addr>
     requires laid { IsLaid plan.now }
     requires kept { ForSome root (λ x. kept_in plan.now x ≡ true) }
-    ensures { result ≡ option_map (place_in plan.now) root }
+    ensures { result ≡ option_map (forwarding_in plan.now) root }
 {
     match root {
         Some(at) => Some(plan.moved(at)),
@@ -42,39 +45,13 @@ fn moved(root: Option<Addr>, plan: &Plan) -> Option<Addr>
     }
 }
 
-// Gives the roots the new addresses.
-fn relocate_roots(roots: &mut [Option<Addr>], plan: &Plan)
+/// Gives the roots the new addresses.
+pub(crate) fn relocate_roots(roots: &mut [Option<Addr>], plan: &Plan)
     requires laid { IsLaid plan.now }
     requires kept { (x : Addr) → Contains roots.old (Some x) → kept_in plan.now x ≡ true }
-    ensures { roots.new ≡ map (option_map (place_in plan.now)) roots.old }
+    ensures { roots.new ≡ map (option_map (forwarding_in plan.now)) roots.old }
 {
     for root in roots.iter_mut() {
         *root = moved(*root, plan);
     }
-}
-
-/// Moves the objects that a plan keeps, updates all references to them, and raises the ages. Those
-/// from position `joined` of the queue on are no longer registered.
-pub(crate) fn relocate_all<L: Ledger>(
-    heap: &mut Heap,
-    seg: &mut Seg,
-    ages: &mut AgeMap,
-    fin: &mut Final,
-    roots: &mut [Option<Addr>],
-    plan: &mut Plan,
-    joined: u32,
-    n: u8,
-    steps: &mut Steps<L>,
-)
-    requires { MayRelocate (parts heap.old seg.old ages.old fin.old roots.old) plan.old }
-    ensures plan { plan.new ≡ plan.old }
-    ensures relocated_all { RelocatedAll (parts heap.old seg.old ages.old fin.old roots.old)
-        (parts heap.new seg.new ages.new fin.new roots.new) plan.old joined n steps.old steps.new }
-{
-    fin.settle(heap, joined);
-    relocate_rows(seg, ages, plan, n, steps);
-    fin.relocate(plan);
-    relocate_roots(roots, plan);
-    commit(heap, plan);
-    ages.grow_all(n);
 }

@@ -1,11 +1,5 @@
 pub mod TextRows
-pub mod FollowSteps
-pub mod MarkSteps
-pub mod LinkSteps
 pub mod GraphTexts
 pub mod Pieces
 pub mod KeptMarks
-pub mod PictureNumbers
-pub mod SeenStates
-pub mod StateEdges
 pub mod StateMarks

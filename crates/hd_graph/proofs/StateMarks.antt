@@ -1,14 +1,17 @@
 -- What is kept of what is seen of a state is what a collection of all generations keeps of the state.
-use Rattle.std.proofs.Common.{Bool, Contains, Decides, List, Some, ap, arith, false, is_some, length, not, refl, subst, sym, true, true≢false, ℕ, ⊎_elim, ◌<◌, ◌∙◌, ◌≡◌, inl, inr}
+use Rattle.std.proofs.Common.{Bool, Contains, Decides, List, None, Option, Some, ap, arith, false, inl, inr, is_some, not, refl, subst, sym, true, true≢false, ℕ, ⊎_elim, ◌<◌, ◌∙◌, ◌≡◌}
 use Rattle.std.specs.FinMap.{get}
-use Rattle.std.specs.Prelude.{map, option_map, slice_get, slice_index_or}
+use Rattle.std.specs.Prelude.{flat_map, map}
 use Rattle.std.proofs.lemmas.Bool.Decides.{same_from_decides}
-use Rattle.std.proofs.lemmas.List.{length-map}
-use Rattle.std.proofs.lemmas.Option.{get_or_from_slice_get, same_Some, slice_get-map, slice_get_within}
+use Rattle.std.proofs.lemmas.List.Elements.{Contains-append_cases, Contains-append_left, Contains-append_right}
+use Rattle.std.proofs.lemmas.Option.{same_Some}
 use Rattle.hd_model.proofs.EdgeChains.{leads_on}
+use Rattle.hd_model.proofs.Members.{joined_from, joined_in, mapped_from, mapped_in}
 use Rattle.hd_model.proofs.Reports.{kept_since}
-use Rattle.hd_model.proofs.SceneCollection.{edge_object, reached_kept, reached_object, root_object, still_object}
+use Rattle.hd_model.proofs.SceneCollection.{reached_kept, still_object}
 use Rattle.hd_model.proofs.UseChains.{Edge, chain_led, led_chain, reached_use, resurrected_to_be_finalized, to_be_finalized_resurrected, use_reached}
+use Rattle.hd_model.proofs.WholeScenes.{whole_scene}
+use Rattle.hd_model.specs.Anchors.{AnchorOf, by_handle, in_queue, in_static}
 use Rattle.hd_model.specs.Collect.{CollectsState}
 use Rattle.hd_model.specs.declared.data.Report.{Report}
 use Rattle.hd_model.specs.declared.data.Id.{Id}
@@ -16,17 +19,19 @@ use Rattle.hd_model.specs.declared.limits.TheConstants.{OLDEST}
 use Rattle.hd_model.specs.InUse.{IsGarbage, IsResurrected}
 use Rattle.hd_model.specs.Leads.{Leads}
 use Rattle.hd_model.specs.Reach as scene
-use Rattle.hd_model.specs.Reach.{IsToBeFinalized}
-use Rattle.hd_model.specs.Scene.{scene_of}
+use Rattle.hd_model.specs.Reach.{IsToBeFinalized, held, named as by_name, older, queued}
+use Rattle.hd_model.specs.Scene.{IsWhole, generation_in, joined, scene_of}
 use Rattle.hd_model.specs.State.{Object, State}
-use Rattle.hd_seen.specs.Seen.{ObjectSeen, Picture, object_shown, picture}
+use Rattle.hd_seen.specs.Seen.{ObjectSeen, Picture, object_shown, picture, view_seen}
 use Rattle.hd_seen.specs.declared.SeenObject.{SeenObject}
 use Rattle.hd_seen.specs.declared.Snapshot.{Snapshot}
-use Rattle.hd_graph.specs.Kept.{AreKept, IsEdge, IsKept, IsReached, IsRegistered, ids_of, registered_of}
+use Rattle.hd_links.specs.Graph.{LeadsOn, named}
+use Rattle.hd_links.specs.Shown.{IsPictureOf}
+use Rattle.hd_links.proofs.Members.{flat_from, flat_in, numbers_from, numbers_in}
+use Rattle.hd_links.proofs.SeenStates.{object_of, object_seen_of}
+use Rattle.hd_links.proofs.StateEdges.{anchor_from, anchor_seen, edge_from, edge_seen}
+use Rattle.hd_graph.specs.Kept.{AreKept, IsKept, IsReached, IsRegistered, IsRoot, row_numbers}
 use Rattle.hd_graph.specs.Laws.{AllStayAsMarked, GreyIsRemoved, StaysAsMarked}
-use Rattle.hd_graph.proofs.KeptMarks.{inside}
-use Rattle.hd_graph.proofs.SeenStates.{Shows, count, element, node_of, number, number_is, object_of, of_number, same_node}
-use Rattle.hd_graph.proofs.StateEdges.{edge_from, edge_seen, root_from, root_seen, whole}
 
 -- what is kept and not marked is not so, and an object that is garbage is not kept
 module _ (s : State) (x : Id) (object : is_some (get s.objects x.0) ≡ true) where
@@ -59,135 +64,118 @@ module _ (s : State) (x : Id) (object : is_some (get s.objects x.0) ≡ true) wh
   )
   garbage_by false is = (λ _. lost_garbage (λ h. true≢false (sym (is.1 h))), λ _. refl)
 
-module _ {seen : Snapshot} {s : State} (p : Shows seen s) where
-  abbrev nodes : ℕ
-  nodes = length (ids_of seen)
-
-  abbrev id_of : ℕ → Id
-  id_of i = of_number (number p i)
+module _ (seen : Snapshot) (s : State) (p : IsPictureOf (view_seen seen) s) where
+  whole : IsWhole (scene_of s)
+  whole = whole_scene p.numbers s p.well_formed
 
   -- ---- chains
 
-  up : {i j : ℕ} → Leads (IsEdge seen) i j → Leads (Edge s) (id_of i) (id_of j)
+  up : {x y : ℕ} → Leads (LeadsOn seen) x y → Leads (Edge s) (named x) (named y)
   up Leads.here = Leads.here
-  up (Leads.more {y = y} {z = z} chain edge) =
-      Leads.more (up chain) (edge_from p (number p y) (number p z) edge.2)
+  up (Leads.more {y = y} {z = z} chain edge) = Leads.more (up chain) (edge_from seen s p y z edge)
 
-  abbrev Down : ℕ → Id → Type 0
-  Down i y = (j : ℕ) × (j < nodes) × (id_of j ≡ y) × Leads (IsEdge seen) i j
+  down : {x y : Id} → Leads (Edge s) x y → Leads (LeadsOn seen) x.0 y.0
+  down Leads.here = Leads.here
+  down (Leads.more {y = y} {z = z} chain edge) = Leads.more (down chain) (edge_seen seen s p y.0 z.0 edge)
 
-  down : {x y : Id} → Leads (Edge s) x y → (i : ℕ) → i < nodes → id_of i ≡ x → Down i y
-  down Leads.here i low same = (i, low, same, Leads.here)
-  down (Leads.more {y = y} {z = z} chain edge) i low same =
-      let before = down chain i low same in
-      let to = node_of p z (edge_object OLDEST (scene_of s) (whole p) y z edge) in
-      let step = edge_seen p (number p before.0) (number p to.0)
-      (subst (λ v. Edge s v (id_of to.0)) (sym before.2) (subst (λ v. Edge s y v) (sym to.2) edge)) in
-      (to.0, to.1, to.2, Leads.more before.3 (before.1, to.1, step))
+  -- ---- roots
 
-  same : (i j : ℕ) → i < nodes → j < nodes → id_of i ≡ id_of j → i ≡ j
-  same i j low high e = same_node p i j low high (ap (λ (x : Id). x.0) e)
+  registers_are : seen.registers.items ≡ s.registers
+  registers_are = ap (λ (q : Picture). q.registers) p.shows
 
-  -- a chain to a node, from a start that has one
-  from_start : (r : Id) (i : ℕ) → is_some (get s.objects r.0) ≡ true → i < nodes → Leads (Edge s) r (id_of i)
-      → (k : ℕ) × (k < nodes) × (id_of k ≡ r) × Leads (IsEdge seen) k i
-  from_start r i some low chain =
-      let at = node_of p r some in
-      let to = down chain at.0 at.1 at.2 in (
-        at.0,
-        at.1,
-        at.2,
-        subst (λ j. Leads (IsEdge seen) at.0 j) (same to.0 i to.1 low to.2) to.3,
-      )
+  anchor_root : (x : ℕ) → AnchorOf s (named x) → scene.IsRoot (scene_of s) OLDEST (named x)
+  anchor_root x (in_static has) =
+      by_name (Contains-append_right (joined s.registers) s.statics (Some (named x)) has)
+  anchor_root x (in_queue has) = queued has
+  anchor_root x (by_handle row) = held row
 
-  -- ---- what is reached
+  root_up : (x : ℕ) → IsRoot seen x → scene.IsRoot (scene_of s) OLDEST (named x)
+  root_up x =
+      ⊎_elim (λ anchor. anchor_root x (anchor_from seen s p x anchor))
+      (λ has.
+      let row = flat_from row_numbers seen.registers.items x has in
+      by_name (Contains-append_left (joined s.registers) s.statics (Some (named x))
+      (joined_in s.registers row.0 (Some (named x))
+      (subst (λ (l : List (List (Option Id))). Contains l row.0) registers_are row.1)
+      (numbers_from row.0 x row.2))))
 
-  reached_up : (i : ℕ) → IsReached seen i → scene.IsReached (scene_of s) OLDEST (id_of i)
-  reached_up i h = (id_of h.0, (root_from p (number p h.0) h.1.0.1, up h.1.1))
+  register_down : (x : ℕ) → Contains (joined s.registers) (Some (named x))
+      → Contains (flat_map row_numbers seen.registers.items) x
+  register_down x has =
+      let (row, rest) = joined_from s.registers (Some (named x)) has in
+      flat_in row_numbers seen.registers.items row x
+      (subst (λ (l : List (List (Option Id))). Contains l row) (sym registers_are) rest.0)
+      (numbers_in row x rest.1)
 
-  reached_down : (i : ℕ) → i < nodes → scene.IsReached (scene_of s) OLDEST (id_of i) → IsReached seen i
-  reached_down i low h =
-      let at = from_start h.0 i (root_object OLDEST (scene_of s) (whole p) h.0 h.1.0) low h.1.1 in
-      let root = root_seen p (number p at.0)
-      (subst (λ (x : Id). scene.IsRoot (scene_of s) OLDEST x) (sym at.2) h.1.0) in
-      (at.0, ((at.1, root), at.3))
+  -- none is older than the oldest generation
+  none_older : (x : ℕ) (b : Option (Object Id)) → get s.objects x ≡ b → OLDEST < generation_in b → ⊥
+  none_older x None is above = omega (arith, above)
+  none_older x (Some b) is above =
+      let most = p.well_formed.objects.generations x b is in omega (arith, above, most)
 
-  -- ---- what is registered
+  root_down : (x : ℕ) → scene.IsRoot (scene_of s) OLDEST (named x) → IsRoot seen x
+  root_down x (by_name has) =
+      ⊎_elim (λ register. inr (register_down x register))
+      (λ static. inl (anchor_seen seen s p x (in_static static)))
+      (Contains-append_cases (joined s.registers) s.statics (Some (named x)) has)
+  root_down x (queued has) = inl (anchor_seen seen s p x (in_queue has))
+  root_down x (held row) = inl (anchor_seen seen s p x (by_handle row))
+  root_down x (older above) = absurd (none_older x (get s.objects x) refl above)
 
-  registered_is : (i : ℕ) (o : SeenObject) → slice_get seen.objects.items i ≡ Some o
-      → slice_index_or (registered_of seen.objects.items) i false ≡ o.registered
-  registered_is i o at =
-      get_or_from_slice_get (registered_of seen.objects.items) i o.registered false
-      (slice_get-map (λ (q : SeenObject). q.registered) seen.objects.items i
-      ∙ ap (option_map (λ (q : SeenObject). q.registered)) at)
+  -- ---- what is reached, registered and kept
 
-  stored : (i : ℕ) (o : SeenObject) → Contains seen.objects.items o → slice_get seen.objects.items i ≡ Some o
-      → get s.objects (number p i) ≡ Some (object_shown o).object
-  stored i o has at = ap (get s.objects) (number_is p i o at) ∙ object_of p o has
+  reached_up : (x : ℕ) → IsReached seen x → scene.IsReached (scene_of s) OLDEST (named x)
+  reached_up x h = (named h.0, (root_up h.0 h.1.0, up h.1.1))
 
-  lost_up : (i : ℕ) → i < nodes → IsRegistered seen i → (IsReached seen i → ⊥)
-      → IsToBeFinalized (scene_of s) OLDEST (id_of i)
-  lost_up i low is lost =
-      let (o, has, at) = element p i low in
-      let there = stored i o has at in
-      record {
-        object = (object_shown o).object;
+  reached_down : (x : ℕ) → scene.IsReached (scene_of s) OLDEST (named x) → IsReached seen x
+  reached_down x h = (h.0.0, (root_down h.0.0 h.1.0, down h.1.1))
+
+  lost_up : (x : ℕ) → IsRegistered seen x → (IsReached seen x → ⊥)
+      → IsToBeFinalized (scene_of s) OLDEST (named x)
+  lost_up x r lost =
+      let there = ap (get s.objects) (sym r.is) ∙ object_of seen s p r.object r.among in record {
+        object = (object_shown r.object).object;
         is_stored = there;
-        registered = sym (registered_is i o at) ∙ is;
-        young = p.well_formed.objects.generations (number p i) (object_shown o).object there;
-        lost = λ reached. lost (reached_down i low reached);
+        registered = r.registered;
+        young = p.well_formed.objects.generations x (object_shown r.object).object there;
+        lost = λ reached. lost (reached_down x reached);
       }
 
-  lost_down : (i : ℕ) → i < nodes → IsToBeFinalized (scene_of s) OLDEST (id_of i)
-      → IsRegistered seen i × (IsReached seen i → ⊥)
-  lost_down i low v =
-      let (o, has, at) = element p i low in
-      let is : (object_shown o).object ≡ v.object =
-      same_Some (object_shown o).object v.object (sym (stored i o has at) ∙ v.is_stored) in (
-        registered_is i o at ∙ ap (λ (b : Object Id). b.registered) is ∙ v.registered,
-        λ reached. v.lost (reached_up i reached),
+  lost_down : (x : ℕ) → IsToBeFinalized (scene_of s) OLDEST (named x)
+      → IsRegistered seen x × (IsReached seen x → ⊥)
+  lost_down x v =
+      let o = object_seen_of seen s p x v.object v.is_stored in
+      let is : (object_shown o.0).object ≡ v.object =
+      same_Some (object_shown o.0).object v.object
+      (sym (object_of seen s p o.0 o.1) ∙ ap (get s.objects) o.2 ∙ v.is_stored) in (
+        record {
+          object = o.0;
+          among = o.1;
+          is = o.2;
+          registered = ap (λ (b : Object Id). b.registered) is ∙ v.registered;
+        },
+        λ reached. v.lost (reached_up x reached),
       )
 
-  -- ---- what is kept
-
-  registered_low : (i : ℕ) → IsRegistered seen i → i < nodes
-  registered_low i is =
-      let low = inside (registered_of seen.objects.items) i is in
-      omega (
-        arith,
-        low,
-        count p,
-        length-map seen.objects.items (λ (o : SeenObject). o.registered),
-      )
-
-  kept_up : (i : ℕ) → IsKept seen i → scene.IsKept (scene_of s) OLDEST (id_of i)
-  kept_up i h = (
-    id_of h.0,
+  kept_up : (x : ℕ) → IsKept seen x → scene.IsKept (scene_of s) OLDEST (named x)
+  kept_up x h = (
+    named h.0,
     (
-      ⊎_elim (λ reached. inl (reached_up h.0 reached))
-          (λ lost. inr (lost_up h.0 (registered_low h.0 lost.0) lost.0 lost.1)) h.1.0,
+      ⊎_elim (λ reached. inl (reached_up h.0 reached)) (λ lost. inr (lost_up h.0 lost.0 lost.1)) h.1.0,
       up h.1.1,
     ),
   )
 
-  kept_down : (i : ℕ) → i < nodes → scene.IsKept (scene_of s) OLDEST (id_of i) → IsKept seen i
-  kept_down i low h =
-      let object : is_some (get s.objects h.0.0) ≡ true =
-      ⊎_elim (λ reached. reached_object OLDEST (scene_of s) (whole p) h.0 reached)
-      (λ (v : IsToBeFinalized (scene_of s) OLDEST h.0). ap is_some v.is_stored) h.1.0 in
-      let at = from_start h.0 i object low h.1.1 in (
-        at.0,
-        (
-          ⊎_elim
-              (λ reached. inl (reached_down at.0 at.1
-              (subst (λ (x : Id). scene.IsReached (scene_of s) OLDEST x) (sym at.2) reached)))
-              (λ lost. inr (lost_down at.0 at.1
-              (subst (λ (x : Id). IsToBeFinalized (scene_of s) OLDEST x) (sym at.2) lost))) h.1.0,
-          at.3,
-        ),
-      )
+  kept_down : (x : ℕ) → scene.IsKept (scene_of s) OLDEST (named x) → IsKept seen x
+  kept_down x h = (
+    h.0.0,
+    (
+      ⊎_elim (λ reached. inl (reached_down h.0.0 reached)) (λ lost. inr (lost_down h.0.0 lost)) h.1.0,
+      down h.1.1,
+    ),
+  )
 
-  -- ---- marks
+  -- ---- tests
 
   stays : (x : Id) (marked : Bool) → Decides marked (scene.IsKept (scene_of s) OLDEST x) → (t : State)
       (r : Report) → CollectsState OLDEST s t r → is_some (get t.objects x.0) ≡ marked
@@ -195,81 +183,51 @@ module _ {seen : Snapshot} {s : State} (p : Shows seen s) where
       let c = did.scene in
       let there : Decides (is_some (get t.objects x.0)) (scene.IsKept (scene_of s) OLDEST x) = (
         λ some. (c.kept_is x).0
-            (kept_since (λ (y : Id). y.0) OLDEST (scene_of s) (scene_of t) r (whole p) c x some),
-        λ h. still_object (λ (y : Id). y.0) OLDEST (scene_of s) (scene_of t) r (whole p) c x ((c.kept_is x).1
-            h),
+            (kept_since (λ (y : Id). y.0) OLDEST (scene_of s) (scene_of t) r whole c x some),
+        λ h. still_object (λ (y : Id). y.0) OLDEST (scene_of s) (scene_of t) r whole c x ((c.kept_is x).1 h),
       ) in
       same_from_decides (is_some (get t.objects x.0)) marked there is
+
+  one : (o : SeenObject) → Contains seen.objects.items o → (marked : Bool)
+      → Decides marked (IsKept seen o.id.0) → StaysAsMarked s o.id marked
+  one o has marked is =
+      let decided : Decides marked (scene.IsKept (scene_of s) OLDEST o.id) =
+      (λ so. kept_up o.id.0 (is.0 so), λ h. is.1 (kept_down o.id.0 h)) in
+      let object : is_some (get s.objects o.id.0) ≡ true = ap is_some (object_of seen s p o has) in record {
+        kept = decided;
+        garbage = garbage_by s o.id object marked decided;
+        stays = stays o.id marked decided;
+      }
 
   abbrev shown_objects : List ObjectSeen
   shown_objects = (picture p.numbers s p.ages p.heap p.table).objects
 
   shown_are : map object_shown seen.objects.items ≡ shown_objects
-  shown_are = ap (λ (q : Picture). q.objects) p.is
+  shown_are = ap (λ (q : Picture). q.objects) p.shows
 
-  long : length seen.objects.items ≡ length shown_objects
-  long = sym (length-map seen.objects.items object_shown) ∙ ap length shown_are
+  pub marked_as_state : (kept : ℕ → Bool) → AreKept seen kept → AllStayAsMarked s shown_objects kept
+  marked_as_state kept are q has =
+      let o = mapped_from object_shown seen.objects.items q
+      (subst (λ (l : List ObjectSeen). Contains l q) (sym shown_are) has) in
+      subst (λ (z : ObjectSeen). StaysAsMarked s z.id (kept z.id.0)) o.1.1
+      (one o.0 o.1.0 (kept o.0.id.0) (are o.0 o.1.0))
 
-  -- the object of a node, as it is seen
-  object_at : (i : ℕ) (o : SeenObject) → slice_get seen.objects.items i ≡ Some o
-      → slice_get shown_objects i ≡ Some (object_shown o)
-  object_at i o at =
-      ap (λ (l : List ObjectSeen). slice_get l i) (sym shown_are)
-      ∙ slice_get-map object_shown seen.objects.items i ∙ ap (option_map object_shown) at
-
-  one : (i : ℕ) (q : ObjectSeen) (marked : Bool) → slice_get shown_objects i ≡ Some q
-      → ((marked ≡ true → IsKept seen i) × (IsKept seen i → marked ≡ true)) → StaysAsMarked s q.id marked
-  one i q marked at is =
-      let low : i < nodes =
-      let below = slice_get_within shown_objects i q at in omega (arith, below, long, count p) in
-      let (o, has, here) = element p i low in
-      let same_q : object_shown o ≡ q =
-      same_Some (object_shown o) q (sym (object_at i o here) ∙ at) in
-      let key : id_of i ≡ q.id =
-      ap of_number (number_is p i o here) ∙ ap (λ (z : ObjectSeen). z.id) same_q in
-      let decided : Decides marked (scene.IsKept (scene_of s) OLDEST q.id) =
-      subst (λ x. Decides marked (scene.IsKept (scene_of s) OLDEST x)) key (
-        λ so. kept_up i (is.0 so),
-        λ h. is.1 (kept_down i low h),
-      ) in
-      let object : is_some (get s.objects q.id.0) ≡ true =
-      subst (λ (x : Id). is_some (get s.objects x.0) ≡ true) key (ap is_some (stored i o has here)) in
-      record {
-        kept = decided;
-        garbage = garbage_by s q.id object marked decided;
-        stays = stays q.id marked decided;
-      }
-
-  pub marked_as_state : (marks : List Bool) → AreKept seen marks → AllStayAsMarked s shown_objects marks
-  marked_as_state marks are = record {
-    count = are.count ∙ long;
-    each = λ i q at.
-        one i q (slice_index_or marks i false) at
-        (let below = slice_get_within shown_objects i q at in
-        are.each i (omega (arith, below, long, are.count)));
-  }
-
-  pub state_as_marked : (marks : List Bool) → AllStayAsMarked s shown_objects marks → AreKept seen marks
-  state_as_marked marks all = record {
-    count = all.count ∙ sym long;
-    each = λ i below.
-        let low : i < nodes = omega (arith, below, all.count, long, count p) in
-        let (o, has, here) = element p i low in
-        let is = (all.each i (object_shown o) (object_at i o here)).kept in
-        let key : id_of i ≡ o.id = ap of_number (number_is p i o here) in (
-          λ so. kept_down i low (subst (λ x. scene.IsKept (scene_of s) OLDEST x) (sym key) (is.0 so)),
-          λ h. is.1 (subst (λ x. scene.IsKept (scene_of s) OLDEST x) key (kept_up i h)),
-        );
-  }
+  pub state_as_marked : (kept : ℕ → Bool) → AllStayAsMarked s shown_objects kept → AreKept seen kept
+  state_as_marked kept all o has =
+      let is = (all (object_shown o) (subst (λ (l : List ObjectSeen). Contains l (object_shown o)) shown_are
+      (mapped_in object_shown seen.objects.items o has))).kept in (
+        λ so. kept_down o.id.0 (is.0 so),
+        λ h. is.1 (kept_up o.id.0 h),
+      )
 
 pub grey_is_removed : GreyIsRemoved
-grey_is_removed seen n s ages h t marks well_formed is =
-    let p : Shows seen s = record {
+grey_is_removed seen n s ages h t kept well_formed shows =
+    let p : IsPictureOf (view_seen seen) s = record {
       numbers = n;
       ages = ages;
       heap = h;
       table = t;
       well_formed = well_formed;
-      is = is;
+      shows = shows;
     } in
-    (marked_as_state p marks, state_as_marked p marks)
+    (marked_as_state seen s p kept, state_as_marked seen s p kept)

@@ -1,7 +1,7 @@
 -- What `graph` writes of a state, in DOT: a node for each object, handle, entry and root, and an edge for
 -- each
 -- reference.
-use Rattle.std.specs.Prelude.{ℕ, ◌/◌, Bool, false, cond, not, List, [], ◌++◌, flat_map, codes, decimal, slice_index_or, Option, Some, None, is_some}
+use Rattle.std.specs.Prelude.{ℕ, ◌/◌, Bool, cond, not, List, [], ◌++◌, flat_map, codes, decimal, Option, Some, None, is_some}
 use Rattle.std.specs.List.{enumerate_from}
 use Rattle.hd_model.specs.declared.data.Id.{Id}
 use Rattle.hd_model.specs.declared.data.Slot.{Slot}
@@ -9,12 +9,12 @@ use Rattle.hd_model.specs.declared.limits.TheConstants.{REGION}
 use Rattle.hd_model.specs.CommandText.{kind_name}
 use Rattle.hd_model.specs.State.{secondary_of}
 use Rattle.hd_model.specs.Text.{identity_text}
-use Rattle.hd_seen.specs.Seen.{Picture, ObjectSeen, object_shown}
+use Rattle.hd_seen.specs.Seen.{Picture, ObjectSeen}
 use Rattle.hd_seen.specs.declared.SeenEntry.{SeenEntry}
 use Rattle.hd_seen.specs.declared.SeenHandle.{SeenHandle}
-use Rattle.hd_seen.specs.declared.SeenObject.{SeenObject}
 use Rattle.hd_seen.specs.declared.SeenRegion.{SeenRegion}
-use Rattle.hd_graph.specs.Marks.{cells_of, is_pinned, extra_again, role_seen, style_of}
+use Rattle.hd_links.specs.Links.{extra_again}
+use Rattle.hd_graph.specs.Marks.{cells_of, is_pinned, role_seen, style_of}
 use Rattle.hd_graph.specs.declared.dot.Node.{Node}
 use Rattle.hd_graph.specs.declared.dot.Node.TheVariants as node
 use Rattle.hd_graph.specs.declared.dot.Reason.{Reason}
@@ -101,17 +101,10 @@ abbrev pub object_text : Clusters → Bool → Bool → ObjectSeen → List ℕ
 object_text clusters pinned kept o =
     cluster_begin clusters o ++ object_node pinned kept o ++ cluster_end clusters ++ fields_text o
 
--- all objects, where these marks say which are kept
-abbrev pub objects_text : Clusters → Picture → List Bool → List ℕ
+-- all objects, where a test of identities says which are kept
+abbrev pub objects_text : Clusters → Picture → (ℕ → Bool) → List ℕ
 objects_text clusters p kept =
-    flat_map (λ (e : ℕ × ObjectSeen).
-    object_text clusters (is_pinned p e.1.id.0) (slice_index_or kept e.0 false) e.1)
-    (enumerate_from 0 p.objects)
-
--- an object as it is stored, by its index, where marks say which are pinned and which are kept
-abbrev pub marked_text : Clusters → List Bool → List Bool → ℕ × SeenObject → List ℕ
-marked_text clusters pinned kept e =
-    object_text clusters (slice_index_or pinned e.0 false) (slice_index_or kept e.0 false) (object_shown e.1)
+    flat_map (λ (o : ObjectSeen). object_text clusters (is_pinned p o.id.0) (kept o.id.0) o) p.objects
 
 -- the clusters with their labels
 abbrev pub generation_label : ℕ → List ℕ
@@ -153,7 +146,7 @@ entry_text e =
     ++ edge_to (node.Slot e.slot) (why.Target style.Dotted) e.key
     ++ attached_edge (why.Entry e.slot) e.key e.value
 
--- a static, a place in the queue or a register that references an object
+-- a static, a position in the queue or a register that references an object
 abbrev pub root_text : Node → Option Id → List ℕ
 root_text n None = []
 root_text n (Some x) = codes "  " ++ node_name n ++ codes " [shape=plaintext];\n" ++ edge_text n why.Root x
@@ -180,7 +173,7 @@ roots_text p =
     flat_map static_text (enumerate_from 0 p.statics) ++ flat_map queue_text (enumerate_from 1 p.queue)
     ++ flat_map registers_text (enumerate_from 0 p.registers)
 
-abbrev pub graph_text : Clusters → Picture → List Bool → List ℕ
+abbrev pub graph_text : Clusters → Picture → (ℕ → Bool) → List ℕ
 graph_text clusters p kept =
     graph_head ++ labels_text clusters p.regions ++ objects_text clusters p kept ++ flat_map handle_text
     p.handles ++ flat_map entry_text p.entries ++ roots_text p ++ codes "}\n"

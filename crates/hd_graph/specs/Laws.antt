@@ -1,5 +1,5 @@
 -- What is so of what is seen of each state.
-use Rattle.std.specs.Prelude.{◌≡◌, ◌↔◌, ℕ, not, Bool, false, List, length, slice_get, slice_index_or, Some, is_some, Decides}
+use Rattle.std.specs.Prelude.{◌≡◌, ◌↔◌, ℕ, not, Bool, List, is_some, Contains, Decides}
 use Rattle.std.specs.FinMap.{get}
 use Rattle.hd_model.specs.Collect.{CollectsState}
 use Rattle.hd_model.specs.declared.data.Id.{Id}
@@ -14,8 +14,8 @@ use Rattle.hd_model.specs.WellFormed.{IsWellFormed}
 use Rattle.hd_model.specs.declared.limits.TheConstants.{OLDEST}
 use Rattle.hd_seen.specs.Seen.{ObjectSeen, picture, view_seen}
 use Rattle.hd_seen.specs.declared.Snapshot.{Snapshot}
-use Rattle.hd_graph.specs.Kept.{AreKept, ids_of}
-use Rattle.hd_graph.specs.Marks.{Rises}
+use Rattle.hd_links.specs.Graph.{Rises, ids_of}
+use Rattle.hd_graph.specs.Kept.{AreKept}
 
 -- its objects come by rising identity
 abbrev pub PicturesRise : Type 0
@@ -30,16 +30,15 @@ pub record StaysAsMarked (s : State) (x : Id) (marked : Bool) : Type 0 where
   pub garbage : Decides (not marked) (IsGarbage OLDEST s x)
   pub stays : (t : State) (r : Report) → CollectsState OLDEST s t r → is_some (get t.objects x.0) ≡ marked
 
--- each object has a mark, and it is so of each
-pub record AllStayAsMarked (s : State) (objects : List ObjectSeen) (marks : List Bool) : Type 0 where
-  pub count : length marks ≡ length objects
-  pub each : (i : ℕ) (o : ObjectSeen) → slice_get objects i ≡ Some o
-      → StaysAsMarked s o.id (slice_index_or marks i false)
+-- so it is of each object, by a test of identities
+abbrev pub AllStayAsMarked : State → List ObjectSeen → (ℕ → Bool) → Type 0
+AllStayAsMarked s objects kept =
+    (o : ObjectSeen) → Contains objects o → StaysAsMarked s o.id (kept o.id.0)
 
--- grey is exactly what a collection of all generations removes: the marks of what is seen are those of the
--- state
+-- grey is exactly what a collection of all generations removes: what is kept of what is seen is what is kept
+-- of the state
 abbrev pub GreyIsRemoved : Type 0
 GreyIsRemoved =
-    (seen : Snapshot) (n : Numbers) (s : State) (ages : List ℕ) (h : Heap) (t : Table) (marks : List Bool)
+    (seen : Snapshot) (n : Numbers) (s : State) (ages : List ℕ) (h : Heap) (t : Table) (kept : ℕ → Bool)
     → IsWellFormed n s → view_seen seen ≡ picture n s ages h t
-    → AreKept seen marks ↔ AllStayAsMarked s (picture n s ages h t).objects marks
+    → AreKept seen kept ↔ AllStayAsMarked s (picture n s ages h t).objects kept

@@ -1,5 +1,5 @@
 pub mod Graph
 pub mod Kept
 pub mod Laws
-pub mod Follow
 pub mod Marks
+pub mod Inside

@@ -7,7 +7,7 @@ ghost use Rattle.hd_graph.specs.Graph.{slot_label, slot_text, style_word};
 use crate::text::{push, push_identity, push_number, push_small};
 use hd_model::{Id, Memory, Slot};
 
-/// A node: an object, a slot, or a static, a place in the queue from 1 on, or a register of a
+/// A node: an object, a slot, or a static, a position in the queue from 1 on, or a register of a
 /// caller,
 /// each by its number.
 #[derive(Clone, Copy)]
@@ -76,7 +76,7 @@ pub(crate) fn push_name(text: &mut Vec<u8>, node: Node) -> Result<(), Memory>
         Node::Object(id) => push_object_name(text, id),
         Node::Slot(slot) => push_around(text, "\"slot ", u64::from(slot.0), "\""),
         Node::Static(k) => push_around(text, "\"static ", k as u64, "\""),
-        Node::Queued(place) => push_around(text, "\"queue ", place as u64, "\""),
+        Node::Queued(index) => push_around(text, "\"queue ", index as u64, "\""),
         Node::Register(caller, number) => push_register_name(text, caller, number),
     }
 }

@@ -2,7 +2,6 @@
 ghost use Rattle.hd_graph.specs.Laws.{GreyIsRemoved, PicturesRise};
 
 /// What is seen of a state has its objects by rising identity, as `push_graph` requires.
-#[tactic(auto, using(crate::proofs::PictureNumbers::pictures_rise))]
 pub fn pictures_rise()
     ensures { PicturesRise }
 {}

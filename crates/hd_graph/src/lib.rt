@@ -1,32 +1,35 @@
 //! The objects and handles of a state as a graph, in the language of Graphviz.
 #![tactic(auto)]
 
-ghost use Rattle.std.specs.Prelude.{◌≡◌, ◌++◌, Bool, List, codes, flat_map, length, IfOk};
-ghost use Rattle.std.specs.List.{enumerate_from, list_any};
+ghost use Rattle.std.specs.Prelude.{◌≡◌, ◌++◌, ℕ, Bool, codes, flat_map, nat_eq, IfOk};
+ghost use Rattle.std.specs.HashSet.{contains};
 ghost use Rattle.hd_seen.specs.Seen.{view_seen};
+ghost use Rattle.hd_links.specs.Graph.{Rises, ids_of};
+ghost use Rattle.hd_links.specs.Pins.{is_pinned_by};
 ghost use Rattle.hd_graph.specs.Graph.{entry_text, graph_head, graph_text, handle_text};
-ghost use Rattle.hd_graph.specs.Graph.{labels_text, marked_text, roots_text};
-ghost use Rattle.hd_graph.specs.Kept.{AreKept, ids_of};
-ghost use Rattle.hd_graph.specs.Marks.{AreMarks, Rises, is_pinned_by};
+ghost use Rattle.hd_graph.specs.{Graph.labels_text, Graph.roots_text, Inside.tested_text};
+ghost use Rattle.hd_graph.specs.Kept.{AreKept};
+ghost use Rattle.hd_walk.specs.Trail.{is_found};
 
 mod dot;
-mod follow;
 mod kept;
 mod laws;
-mod marks;
 mod objects;
+mod roles;
 mod rows;
 mod text;
 
-use crate::kept::{kept_marks, pinned_marks};
+use crate::kept::kept_of;
 pub use crate::laws::{grey_is_removed, pictures_rise};
-use crate::marks::numbers_of;
 use crate::objects::{push_labels, push_objects};
 use crate::rows::{push_entries, push_handles, push_queue, push_registers, push_statics};
 use crate::text::push;
+use hd_links::pinned_objects;
 use hd_model::Memory;
 use hd_seen::Snapshot;
-use std::alloc::{AllocError, Global};
+use hd_walk::Trail;
+use std::alloc::Global;
+use std::collections::HashSet;
 
 /// By what the objects of a graph stand together.
 #[derive(Clone, Copy, Debug, PartialEq, Eq)]
@@ -36,25 +39,25 @@ pub enum Clusters {
     Region,
 }
 
-// A mark for each object: whether a handle pins it, and whether a collection would keep it.
+// What is asked of each object: whether a handle pins it, and whether a collection would keep it.
 #[derive(Drop)]
 struct Looks {
-    pinned: Vec<bool>,
-    kept: Vec<bool>,
+    pinned: HashSet<u64>,
+    kept: Trail,
 }
 
-// The marks of all objects.
-fn marks_of(alloc: Global, seen: &Snapshot) -> Result<Looks, AllocError>
+// What is asked of the objects of a snapshot.
+fn looks_of(alloc: Global, seen: &Snapshot) -> Result<Looks, Memory>
     requires { Rises (ids_of seen.now) }
-    ensures count { IfOk result (λ marks. length marks.pinned.items ≡ length (ids_of seen.now)) }
-    ensures pinned { IfOk result (λ marks. AreMarks (ids_of seen.now)
-        (λ x. list_any (is_pinned_by x) seen.now.handles.items) marks.pinned.items) }
-    ensures kept { IfOk result (λ marks. AreKept seen.now marks.kept.items) }
+    ensures pinned { IfOk result (λ looks. (x : ℕ) → contains nat_eq looks.pinned x
+        ≡ is_pinned_by seen.now.handles.items x) }
+    ensures kept { IfOk result (λ looks. AreKept seen.now (is_found looks.kept)) }
 {
-    let ids = numbers_of(alloc, &seen.objects)?;
-    let pinned = pinned_marks(alloc, &ids, seen)?;
-    let kept = kept_marks(alloc, &ids, seen)?;
-    Ok(Looks { pinned, kept })
+    let pinned = pinned_objects(alloc, &seen.handles)?;
+    match kept_of(alloc, seen) {
+        Ok(kept) => Ok(Looks { pinned, kept }),
+        Err(_) => Err(Memory),
+    }
 }
 
 // Appends the roots.
@@ -79,25 +82,23 @@ fn push_others(text: &mut Vec<u8>, seen: &Snapshot) -> Result<(), Memory>
     push(text, "}\n")
 }
 
-// Appends the graph, where the marks are these.
-fn push_marked(
+// Appends the graph, where objects look like this.
+fn push_looked(
     text: &mut Vec<u8>,
     seen: &Snapshot,
     clusters: Clusters,
-    marks: &Looks,
+    looks: &Looks,
 ) -> Result<(), Memory>
-    requires pinned { length marks.now.pinned.items ≡ length seen.now.objects.items }
-    requires kept { length marks.now.kept.items ≡ length seen.now.objects.items }
     ensures { IfOk result (λ _. text.new.items ≡ text.old.items
         ++ graph_head ++ labels_text clusters seen.now.regions.items
-        ++ flat_map (marked_text clusters marks.now.pinned.items marks.now.kept.items)
-        (enumerate_from 0 seen.now.objects.items)
+        ++ flat_map (tested_text clusters (contains nat_eq looks.now.pinned)
+        (is_found looks.now.kept)) seen.now.objects.items
         ++ flat_map handle_text seen.now.handles.items ++ flat_map entry_text seen.now.entries.items
         ++ roots_text (view_seen seen.now) ++ codes "}\n") }
 {
     push(text, "digraph heap {\n  rankdir=LR;\n  node [shape=box];\n")?;
     push_labels(text, clusters, &seen.regions)?;
-    push_objects(text, clusters, &marks.pinned, &marks.kept, &seen.objects)?;
+    push_objects(text, clusters, &looks.pinned, &looks.kept, &seen.objects)?;
     push_others(text, seen)
 }
 
@@ -113,11 +114,9 @@ pub fn push_graph(
     clusters: Clusters,
 ) -> Result<(), Memory>
     requires { Rises (ids_of seen.now) }
-    ensures { IfOk result (λ _. (kept : List Bool) × AreKept seen.now kept
+    ensures { IfOk result (λ _. (kept : ℕ → Bool) × AreKept seen.now kept
         × (text.new.items ≡ text.old.items ++ graph_text clusters (view_seen seen.now) kept)) }
 {
-    match marks_of(alloc, seen) {
-        Ok(marks) => push_marked(text, seen, clusters, &marks),
-        Err(_) => Err(Memory),
-    }
+    let looks = looks_of(alloc, seen)?;
+    push_looked(text, seen, clusters, &looks)
 }

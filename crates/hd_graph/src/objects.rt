@@ -1,12 +1,14 @@
 // Objects and clusters of a graph.
-ghost use Rattle.std.specs.Prelude.{◌≡◌, ◌++◌, [], codes, cond, decimal, length, flat_map, IfOk};
+ghost use Rattle.std.specs.Prelude.{◌≡◌, ◌++◌, [], codes, cond, decimal, flat_map, nat_eq, IfOk};
+ghost use Rattle.std.specs.HashSet.{contains};
 ghost use Rattle.std.specs.List.{enumerate_from};
 ghost use Rattle.hd_seen.specs.Seen.{object_shown};
 ghost use Rattle.hd_graph.specs.Graph.{cluster_begin, cluster_end, fields_text, generation_label};
 ghost use Rattle.hd_graph.specs.Graph.{label_text};
-ghost use Rattle.hd_graph.specs.Graph.{field_edge, labels_text, marked_text, object_node};
-ghost use Rattle.hd_graph.specs.Graph.{object_text, region_label};
+ghost use Rattle.hd_graph.specs.Graph.{field_edge, labels_text, object_node, object_text};
+ghost use Rattle.hd_graph.specs.{Graph.region_label, Inside.tested_text};
 ghost use Rattle.hd_graph.specs.Marks.{cells_of};
+ghost use Rattle.hd_walk.specs.Trail.{is_found};
 
 use crate::Clusters;
 use crate::dot::{Node, Reason, push_edge_to, push_name};
@@ -14,6 +16,8 @@ use crate::text::{push, push_identity, push_number, push_small, push_tiny};
 use hd_model::limits::{HEADER, REGION};
 use hd_model::{Id, Memory};
 use hd_seen::{SeenObject, SeenRegion};
+use hd_walk::Trail;
+use std::collections::HashSet;
 
 // Appends the label of the cluster of a generation.
 fn push_generation(text: &mut Vec<u8>, generation: u64) -> Result<(), Memory>
@@ -191,21 +195,34 @@ fn push_object(
     push_fields(text, object.id, &object.fields)
 }
 
-/// Appends all objects, where the marks say which are pinned and which are kept.
+/// Appends all objects, where sets say which are pinned and which are kept.
 pub(crate) fn push_objects(
     text: &mut Vec<u8>,
     clusters: Clusters,
-    pinned: &[bool],
-    kept: &[bool],
+    pinned: &HashSet<u64>,
+    kept: &Trail,
     objects: &[SeenObject],
 ) -> Result<(), Memory>
-    requires pinned { length pinned.now ≡ length objects.now }
-    requires kept { length kept.now ≡ length objects.now }
-    ensures { IfOk result (λ _. text.new.items ≡ text.old.items
-        ++ flat_map (marked_text clusters pinned.now kept.now) (enumerate_from 0 objects.now)) }
+    ensures { IfOk result (λ _. text.new.items ≡ text.old.items ++ flat_map (tested_text clusters
+        (contains nat_eq pinned.now) (is_found kept.now)) objects.now) }
 {
-    for i in 0..objects.len() {
-        push_object(text, clusters, pinned[i], kept[i], &objects[i])?;
+    for object in objects {
+        push_looked(text, clusters, pinned, kept, object)?;
     }
     Ok(())
+}
+
+// Appends an object.
+fn push_looked(
+    text: &mut Vec<u8>,
+    clusters: Clusters,
+    pinned: &HashSet<u64>,
+    kept: &Trail,
+    object: &SeenObject,
+) -> Result<(), Memory>
+    ensures { IfOk result (λ _. text.new.items ≡ text.old.items ++ tested_text clusters
+        (contains nat_eq pinned.now) (is_found kept.now) object.now) }
+{
+    let id = object.id.0;
+    push_object(text, clusters, pinned.contains(&id), kept.has(id), object)
 }

@@ -6,10 +6,10 @@ ghost use Rattle.hd_graph.specs.Graph.{registers_text};
 ghost use Rattle.hd_graph.specs.Graph.{static_text};
 
 use crate::dot::{Node, Reason, Style, push_attached, push_edge_to, push_root, push_slot};
-use crate::marks::{secondary, style};
+use crate::roles::{secondary, style};
 use hd_model::{Id, Memory};
 use hd_print::kind_name;
-use hd_seen::{PLACES, SeenEntry, SeenHandle};
+use hd_seen::{INDEXES, SeenEntry, SeenHandle};
 
 // Appends a handle.
 fn push_handle(text: &mut Vec<u8>, handle: &SeenHandle) -> Result<(), Memory>
@@ -19,7 +19,7 @@ fn push_handle(text: &mut Vec<u8>, handle: &SeenHandle) -> Result<(), Memory>
     let reason = Reason::Target(style(handle));
     push_edge_to(text, Node::Slot(handle.slot), reason, handle.target)?;
     let reason = Reason::Dependent(handle.slot);
-    push_attached(text, reason, handle.target, secondary(handle.extra))
+    push_attached(text, reason, handle.target, secondary(handle))
 }
 
 /// Appends all handles.
@@ -100,7 +100,7 @@ fn push_row(text: &mut Vec<u8>, caller: usize, row: &[Option<Id>]) -> Result<(),
 /// Appends the registers that reference objects.
 pub(crate) fn push_registers(
     text: &mut Vec<u8>,
-    registers: &[[Option<Id>; PLACES]],
+    registers: &[[Option<Id>; INDEXES]],
 ) -> Result<(), Memory>
     ensures { IfOk result (λ _. text.new.items ≡ text.old.items
         ++ flat_map registers_text (enumerate_from 0 registers.now)) }

@@ -22,7 +22,7 @@ none_in_empty k is = both_ways _ (ap is_some (map.get-empty {X = Object} nat_cmp
 -- a region with an object is in use
 pub held_by_object : (a : Area) → IsArea a → (k : ℕ) → IsObject (contents a) k → a.held ≡ true
 held_by_object a is k there = true_from_ne_false a.held (λ free.
-    none_in_empty k (subst (λ (r : Contents). IsObject r k) (is.spare free) there))
+    none_in_empty k (subst (λ (r : Contents). IsObject r k) (is.free free) there))
 
 -- nothing is at the allocation pointer
 pub none_at_fill : (a : Area) → IsArea a → map.get (contents a).objects (contents a).fill ≡ None
@@ -59,7 +59,7 @@ area_inserted {a} k o {r} {live} is held put laid lives counts fill =
                 ∙ still_some (contents a).objects k o was.at was.object;
             in_card = was.in_card;
           };
-      spare = λ free. absurd (both_ways a.held free held);
+      free = λ free. absurd (both_ways a.held free held);
     }
 
 -- an object is written
@@ -118,7 +118,7 @@ area_empty b free laid few card_count =
       generation = few;
       card_count = card_count;
       cards = λ card set. absurd (both_ways _ (free.cards card) set);
-      spare = λ _. free.contents_are;
+      free = λ _. free.contents_are;
     }
 
 -- an object's size is taken
@@ -191,7 +191,7 @@ area_taken {a} {at} {cells} {r} {cards} card is there removed laid size marks be
                 in_card = was.in_card;
               }
         ];
-        spare = λ free. absurd (both_ways _ free (held_by_object a is at there));
+        free = λ free. absurd (both_ways _ free (held_by_object a is at there));
       },
       record {
         card = card;

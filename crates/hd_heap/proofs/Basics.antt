@@ -11,13 +11,13 @@ pub use Rattle.std.specs.Prelude.{Contains, Err, IfSome, MatchOption, Ok, OnOk, 
 pub use Rattle.hd_cells.specs.Headers.{IsEnd, IsHeader, IsHeaderFrom}
 pub use Rattle.hd_cells.specs.Object.{Object, new_object as new_region_object, no_object, size_of, with_field, with_value}
 pub use Rattle.hd_cells.specs.Region.{Contents, IsFirstFrom, IsLaidOut, IsObject, empty_region, fields_at, object_at, with_object as region_with_object, with_put as region_with_put, without_object}
-pub use Rattle.hd_heap.specs.Areas.{BeginsIn, IsArea, address, area_at, card_in, cards_in, contents, heap_of, objects_in, placed_in, placed_of, region_in, regions_in}
+pub use Rattle.hd_heap.specs.{Inside.BeginsIn, Inside.IsArea, Inside.area_at, Areas.address, Areas.card_in, Areas.cards_in, Areas.contents, Areas.heap_of, Areas.objects_in, Areas.placed_in, Areas.placed_of, Areas.region_in, Areas.regions_in}
 pub use Rattle.hd_heap.specs.Calls.{AreFull, HasAmount, HasCondemned, IsExtent, IsFirstIn, IsFirstObject, IsMade, IsNext, IsRemoved, IsWalk, NamesBelow, empty_heap, forwarded, is_after, is_condemned, new_object, with_card, with_copy, with_fresh, with_generation, with_moved, with_object, with_put, without_region}
-pub use Rattle.hd_heap.specs.Forwarding.{MayForward, region_forwarded, stored_place}
-pub use Rattle.hd_heap.specs.Kept.{IsKept, IsSpare}
-pub use Rattle.hd_heap.specs.Places.{flagged, from_one, places_of}
+pub use Rattle.hd_heap.specs.Inside.{MayForward, region_forwarded, stored_forwarding}
+pub use Rattle.hd_heap.specs.Inside.{IsKept, IsFreeRegion}
+pub use Rattle.hd_heap.specs.Indexes.{flagged, from_one, indexes_of}
 pub use Rattle.hd_heap.specs.Sound.{IsSound, StartsIn}
-pub use Rattle.hd_heap.specs.Steps.{AreOthersFull, HasFlags, HasPart, HasRoom, IsExtentBelow, IsFirstAt, IsFirstSince, IsFreed, IsLeastBetween, IsLeastFrom, IsObjectOf, IsRoom, IsTaken, area_put, area_written, is_below, is_wanted, region_with_part, registers, wants, with_contents, with_part}
+pub use Rattle.hd_heap.specs.Inside.{AreOthersFull, HasFlags, HasPart, HasRoom, IsFirstAt, IsFirstSince, IsFreed, IsLeastBetween, IsLeastFrom, IsObjectOf, IsRoom, IsTaken, area_put, area_written, is_below, is_wanted, region_with_part, registers, wants, with_contents, with_part}
 pub use Rattle.hd_heap.specs.declared.area.Area.{Area}
 pub use Rattle.hd_heap.specs.declared.area.Part.{Part}
 pub use Rattle.hd_heap.specs.declared.area.Wanted.{Wanted}
@@ -25,7 +25,7 @@ pub use Rattle.hd_heap.specs.declared.area.Wanted.TheVariants.{Any, Carded}
 pub use Rattle.hd_heap.specs.declared.condemned.ObjectHeader.{ObjectHeader}
 pub use Rattle.hd_heap.specs.declared.condemned.Extent.{Extent}
 pub use Rattle.hd_model.proofs.MapEntries.{found_first, found_later, get_entry, keys_apart, none_from}
-pub use Rattle.hd_model.proofs.IndexedItems.{find-numbered_below, get-by_place}
+pub use Rattle.hd_model.proofs.IndexedItems.{find-numbered_below, get-by_index}
 pub use Rattle.hd_model.proofs.Members.{first_in, later_in, mapped_from, mapped_in, member_cases, not_in_none, pairs_append, pairs_cons, pairs_mapped, pairs_none}
 pub use Rattle.hd_model.proofs.ReadAfterWrite.{get_beside, get_inserted, get_left, get_removed, insert_cases, len_again, len_less, len_new, removal_cases, remove_cases, still_some, write_cases}
 pub use Rattle.hd_model.proofs.Sums.{share, sum-at, sum-insert, sum-many, sum-taken}
@@ -38,7 +38,7 @@ pub use Rattle.hd_model.specs.Counting.{Counts}
 pub use Rattle.hd_model.proofs.PropertyCounts.{counts_like, counts_none}
 pub use Rattle.hd_model.proofs.MapBuild.{in_keys}
 pub use Rattle.hd_cells.specs.declared.region.Header.{Header}
-pub use Rattle.hd_heap.specs.Walks.{IsWalkIn, WalkOf, end_in}
+pub use Rattle.hd_heap.specs.{Inside.IsWalkIn, Walks.WalkOf, Walks.end_in}
 pub use Rattle.std.proofs.lemmas.Grind.{get_or_default_zero}
 pub use Rattle.std.proofs.lemmas.List.Edits.{map_over_more}
 pub use Rattle.hd_heap.specs.declared.area.Part.TheVariants.{Field, Registered, Value}
@@ -46,11 +46,11 @@ pub use Rattle.std.proofs.Math.Seq.{take-append_seam, take-length}
 pub use Rattle.std.specs.List.{list_any}
 pub use Rattle.hd_heap.specs.declared.moves.Move.{Move}
 pub use Rattle.hd_heap.specs.Moves.{move_at}
-pub use Rattle.hd_heap.specs.Runs.{AreLaidOut, ArePut, ArePutBetween, IsRun, MayPutRun, MayRun, area_run, goes_with, object_of}
+pub use Rattle.hd_heap.specs.{Inside.AreLaidOut, Inside.ArePut, Inside.ArePutBetween, Inside.MayPutRun, Inside.area_run, Inside.object_of, Runs.IsRun, Runs.MayRun, Runs.goes_with}
 pub use Rattle.std.proofs.Math.Bool.{and-false, and-true}
-pub use Rattle.hd_model.specs.Indexed.{by_place, numbered}
+pub use Rattle.hd_model.specs.Indexed.{by_index, numbered}
 pub use Rattle.hd_model.proofs.MemberWeights.{sum_ones}
 pub use Rattle.std.specs.Bool.{Decides}
-unfoldable pub use Rattle.hd_heap.specs.Places.{table, tables}
+unfoldable pub use Rattle.hd_heap.specs.Indexes.{table, tables}
 unfoldable pub use Rattle.hd_model.specs.Heap.{card_of, region_of}
-unfoldable pub use Rattle.hd_heap.specs.Runs.{cells_run, put_run, run_copied}
+unfoldable pub use Rattle.hd_heap.specs.{Inside.cells_run, Inside.put_run, Runs.run_copied}

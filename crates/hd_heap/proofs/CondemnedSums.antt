@@ -1,6 +1,16 @@
 -- Lemmas on how much is condemned, region by region.
-use Rattle.hd_heap.proofs.Basics.{Addr, Area, Bool, Contains, Contains-append_cases, Contains-append_left, Contains-append_right, Counts, Extent, HEADER, HasAmount, HasCondemned, Heap, IsExtent, IsExtentBelow, IsObject, IsSound, List, Object, REGION, REGIONS, [], and_parts, ap, arith, cases_eq, cases_lt, cells_of, contents, counts_like, counts_none, entries, entries_sorted, first_in, get, get_entry, has_object, in_keys, inl, inr, is_condemned, is_some, keys, keys_apart, later_in, len-entries, length-append, length-map, map, mapped_from, mapped_in, member_cases, not_in_none, option_map, pairs_append, pairs_cons, pairs_mapped, pairs_none, placed_at, placed_of, refl, region_of, size_of, subst, sum-many, sum_by, sum_by-append, sum_by-cons, sym, true, unwrap_or, ℕ, ◌%◌, ◌*◌, ◌++◌, ◌+◌, ◌/◌, ◌<◌, ◌∙◌, ◌∷◌, ◌≡◌, ◌≢◌, ◌≤◌}
-use Rattle.hd_heap.proofs.{HeapValues.no_placed, HeapValues.same_address, RegionReads.IsPlace, RegionReads.IsHeap, RegionReads.read_in, RegionSums.cells_placed, RegionWalk.condemned_in, RegionWalk.condemned_there, RegionWalk.placed, WantedObjects.object_below}
+use Rattle.hd_heap.proofs.Basics.{Addr, Area, Bool, Contains, Contains-append_cases, Contains-append_left, Contains-append_right, Counts, Extent, HEADER, HasAmount, HasCondemned, Heap, IsExtent, IsObject, IsSound, List, Object, REGION, REGIONS, [], and_parts, ap, arith, cases_eq, cases_lt, cells_of, contents, counts_like, counts_none, entries, entries_sorted, first_in, get, get_entry, has_object, in_keys, inl, inr, is_condemned, is_some, keys, keys_apart, later_in, len-entries, length-append, length-map, map, mapped_from, mapped_in, member_cases, not_in_none, option_map, pairs_append, pairs_cons, pairs_mapped, pairs_none, placed_at, placed_of, refl, region_of, size_of, subst, sum-many, sum_by, sum_by-append, sum_by-cons, sym, true, unwrap_or, ℕ, ◌%◌, ◌*◌, ◌++◌, ◌+◌, ◌/◌, ◌<◌, ◌∙◌, ◌∷◌, ◌≡◌, ◌≢◌, ◌≤◌}
+use Rattle.hd_heap.proofs.{HeapValues.no_placed, HeapValues.same_address, RegionReads.IsIndex, RegionReads.IsHeap, RegionReads.read_in, RegionSums.cells_placed, RegionWalk.condemned_in, RegionWalk.condemned_there, RegionWalk.placed, WantedObjects.object_below}
+
+-- what is condemned in the regions below a number, and a number above those of all; region 0 has none
+pub record IsExtentBelow (h : Heap) (n r : ℕ) (e : Extent) : Type 0 where
+  pub objects : HasAmount h (λ a. (is_condemned h n a ≡ true) × (region_of a < r)) e.objects e.cells
+  pub regions : Counts (λ q. HasCondemned h n q × (q < r)) e.regions
+  pub above : (a : Addr) → has_object h a ≡ true → region_of a < e.end
+  pub small : e.end ≤ REGIONS
+  pub fewer : e.regions < r
+  pub cells : e.cells + REGION ≤ r * REGION
+  pub few : e.objects ≤ e.cells
 
 -- ---- amounts
 
@@ -37,10 +47,10 @@ sum_keys {A} name w f (e ∷ es) same =
 
 -- ---- one region
 
-module _ {areas : List Area} {spares : List ℕ} {limit capacity cells objects holds : ℕ}
+module _ {areas : List Area} {numbers : List ℕ} {limit capacity cells objects holds : ℕ}
     {notes : ℕ × Bool × Bool} {h : Heap}
-    (heap : IsHeap areas spares limit capacity (cells, objects, holds) notes h) {r k : ℕ} {a : Area}
-    (p : IsPlace areas r k a) where
+    (heap : IsHeap areas numbers limit capacity (cells, objects, holds) notes h) {r k : ℕ} {a : Area}
+    (p : IsIndex areas r k a) where
   abbrev name : ℕ → Addr
   name j = record { 0 = r * REGION + j }
 

@@ -3,14 +3,14 @@ use Rattle.hd_heap.proofs.Basics.{Addr, Area, Bool, Contents, HEADER, Header, He
 use Rattle.hd_heap.proofs.{Areas.object_there, HeapValues.no_placed, RegionReads.IsHeap, RegionReads.IsHeldAt, RegionReads.has-get, RegionReads.is_some_map, RegionReads.read_in}
 
 -- a walk begins
-pub walk_begins : {areas : List Area} {spares : List ℕ} {limit capacity cells objects holds : ℕ}
+pub walk_begins : {areas : List Area} {numbers : List ℕ} {limit capacity cells objects holds : ℕ}
     {notes : ℕ × Bool × Bool} {h : Heap}
-    → IsHeap areas spares limit capacity (cells, objects, holds) notes h → {r k : ℕ} {a : Area}
+    → IsHeap areas numbers limit capacity (cells, objects, holds) notes h → {r k : ℕ} {a : Area}
     → IsHeldAt areas h r k a → (s : Contents) → s ≡ contents a → IsWalkIn h r 0 s
 walk_begins {h = h} heap {r} at s is = subst (IsWalkIn h r 0) (sym is) (record {
   held = at.there;
-  number = omega (arith, at.place.number, at.place.within, heap.kept.few);
-  reads = read_in heap at.place;
+  number = omega (arith, at.index.number, at.index.within, heap.kept.few);
+  reads = read_in heap at.index;
   laid_out = at.area.laid_out;
   ends = inl refl;
 })

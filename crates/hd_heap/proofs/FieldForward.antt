@@ -1,5 +1,5 @@
 -- Lemmas on the fields of an object, of which the first ones have their forwarding addresses.
-use Rattle.hd_heap.proofs.Basics.{Addr, Bool, Contains, Contains-get_or, Contents, Heap, IsField, IsObject, List, MayForward, None, Object, Option, Some, [], address, ap, arith, drop, fields_at, fields_at_heap, first_in, forwarded, get_inserted, get_or, get_or_default_zero, is_some, later_in, length, map, map_over_more, mapped_in, nat_cmp, no_object, object_at, object_at_heap, option_map, placed_of, refl, region_forwarded, region_with_object, region_with_put, set, size_of, stored_place, subst, suc, sym, take, true, unwrap_or, with_field, zero, ℕ, ◌++◌, ◌+◌, ◌<◌, ◌∙◌, ◌∷◌, ◌≡◌, ◌≢◌, ◌≤◌}
+use Rattle.hd_heap.proofs.Basics.{Addr, Bool, Contains, Contains-get_or, Contents, Heap, IsField, IsObject, List, MayForward, None, Object, Option, Some, [], address, ap, arith, drop, fields_at, fields_at_heap, first_in, forwarded, get_inserted, get_or, get_or_default_zero, is_some, later_in, length, map, map_over_more, mapped_in, nat_cmp, no_object, object_at, object_at_heap, option_map, placed_of, refl, region_forwarded, region_with_object, region_with_put, set, size_of, stored_forwarding, subst, suc, sym, take, true, unwrap_or, with_field, zero, ℕ, ◌++◌, ◌+◌, ◌<◌, ◌∙◌, ◌∷◌, ◌≡◌, ◌≢◌, ◌≤◌}
 use Rattle.hd_heap.proofs.{Areas.object_there, HeapValues.put_same, HeapValues.put_twice, RegionReads.address_is}
 use Rattle.std.specs.FinMap as fin
 
@@ -121,20 +121,22 @@ field_kept kept fields may i n below is some =
     may n (subst (λ (x : ℕ). Contains fields x) (sym is) (Contains-get_or fields i 0 below)) some
 
 -- what the heap's users see of an object with forwarding addresses
-fields_forwarded : (place : Addr → Addr) (fields : List ℕ)
-    → ((n : ℕ) → Contains fields n → n ≢ 0 → (place (record { 0 = n })).0 ≢ 0)
-    → map address (map (stored_place place) fields) ≡ map (option_map place) (map address fields)
-fields_forwarded place [] some = refl
-fields_forwarded place (zero ∷ ns) some =
-    ap (λ fs. None ∷ fs) (fields_forwarded place ns (λ n has. some n (later_in zero ns n has)))
-fields_forwarded place (suc a ∷ ns) some = λ i.
-    address_is (place (record { 0 = suc a })).0 (some (suc a) (first_in (suc a) ns) (λ e. omega (arith, e))) i
-    ∷ fields_forwarded place ns (λ n has. some n (later_in (suc a) ns n has)) i
+fields_forwarded : (forwarding : Addr → Addr) (fields : List ℕ)
+    → ((n : ℕ) → Contains fields n → n ≢ 0 → (forwarding (record { 0 = n })).0 ≢ 0)
+    → map address (map (stored_forwarding forwarding) fields)
+    ≡ map (option_map forwarding) (map address fields)
+fields_forwarded forwarding [] some = refl
+fields_forwarded forwarding (zero ∷ ns) some =
+    ap (λ fs. None ∷ fs) (fields_forwarded forwarding ns (λ n has. some n (later_in zero ns n has)))
+fields_forwarded forwarding (suc a ∷ ns) some = λ i.
+    address_is (forwarding (record { 0 = suc a })).0 (some (suc a) (first_in (suc a) ns) (λ e. omega
+    (arith, e))) i ∷ fields_forwarded forwarding ns (λ n has. some n (later_in (suc a) ns n has)) i
 
-pub forwarded_placed : (place : Addr → Addr) (o : Object)
-    → ((n : ℕ) → Contains o.fields n → n ≢ 0 → (place (record { 0 = n })).0 ≢ 0)
-    → placed_of (region_forwarded place o) ≡ forwarded place (placed_of o)
-forwarded_placed place o some = λ i. record (placed_of o) { fields = fields_forwarded place o.fields some i }
+pub forwarded_placed : (forwarding : Addr → Addr) (o : Object)
+    → ((n : ℕ) → Contains o.fields n → n ≢ 0 → (forwarding (record { 0 = n })).0 ≢ 0)
+    → placed_of (region_forwarded forwarding o) ≡ forwarded forwarding (placed_of o)
+forwarded_placed forwarding o some =
+    λ i. record (placed_of o) { fields = fields_forwarded forwarding o.fields some i }
 
 -- a field as it is stored is one of the heap's object
 pub field_of : (P : Addr → Type 0) (h : Heap) (at : Addr) (fields : List ℕ)

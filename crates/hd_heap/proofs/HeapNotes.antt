@@ -47,17 +47,17 @@ module _ {h : Heap} {notes : ℕ × Bool × Bool} (n : IsNoted h notes) where
   plain : notes.2 ≡ false → (q : ℕ) → IsPlain (fin.get h.objects q)
   plain off q some = n.flags.registrations off (record { 0 = q }) (has-get h (record { 0 = q }) ∙ some)
 
-  pub noted_spare : (spare : List ℕ) → IsNoted (record h { spare = spare }) notes
-  noted_spare spare = record {
+  pub noted_free : (free : List ℕ) → IsNoted (record h { free = free }) notes
+  noted_free free = record {
     full = n.full;
     flags = record { cards = n.flags.cards; registrations = n.flags.registrations };
   }
 
   -- a region got a generation: where that is 0, the last region is not known
-  pub noted_given : (r g f : ℕ) (spare : List ℕ) {d : ℕ} → d ≡ cond (nat_eq g 0) 0 notes.0
+  pub noted_given : (r g f : ℕ) (free : List ℕ) {d : ℕ} → d ≡ cond (nat_eq g 0) 0 notes.0
       → let x : Region = record { generation = g; fill = f } in
-      IsNoted (record h { regions = fin.insert h.regions r x; spare = spare }) (d, notes.1, notes.2)
-  noted_given r g f spare known =
+      IsNoted (record h { regions = fin.insert h.regions r x; free = free }) (d, notes.1, notes.2)
+  noted_given r g f free known =
       let new : Heap = record h { regions = fin.insert h.regions r (record { generation = g; fill = f }) } in
       record {
         full = elim (cases_eq g 0) [
@@ -65,7 +65,7 @@ module _ {h : Heap} {notes : ℕ × Bool × Bool} (n : IsNoted h notes) where
           | inr some ↦ subst (AreOthersFull new) (sym (known ∙ ap (λ b. cond b 0 notes.0) (ne_eqb g 0 some)))
               (others_put h notes.0 r _ (λ _ young. absurd (some young)) n.full)
         ];
-        flags = flags_from (record new { spare = spare }) n.flags.cards plain;
+        flags = flags_from (record new { free = free }) n.flags.cards plain;
       }
 
   -- an object is put or written, which is registered only where that is noted

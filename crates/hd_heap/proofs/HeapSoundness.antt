@@ -11,9 +11,9 @@ lives_small (a ∷ areas) small =
     let rest = lives_small areas (λ k x e. small (suc k) x e) in
     omega (arith, small 0 a refl, rest, sum_by-cons (λ (x : Area). x.live) a areas)
 
-module _ {areas : List Area} {spares : List ℕ} {limit capacity cells objects holds : ℕ}
+module _ {areas : List Area} {unused : List ℕ} {limit capacity cells objects holds : ℕ}
     {notes : ℕ × Bool × Bool} {h : Heap}
-    (heap : IsHeap areas spares limit capacity (cells, objects, holds) notes h) where
+    (heap : IsHeap areas unused limit capacity (cells, objects, holds) notes h) where
   pub cells_small : cells ≤ REGION * length areas
   cells_small =
       let small = lives_small areas (λ k a e. let is = heap.kept.each (suc k) a e in
@@ -44,15 +44,15 @@ module _ {areas : List Area} {spares : List ℕ} {limit capacity cells objects h
       }
 
   -- the numbers of free regions
-  record IsSpares (x : Heap) : Type 0 where
-    numbers : (i : ℕ) → i < length x.spare → (0 < get_or x.spare i 0) × (get_or x.spare i 0 < 2 ^ 24)
-    free : (i : ℕ) → i < length x.spare → is_in_use x (get_or x.spare i 0) ≡ false
-    apart : (i j : ℕ) → i < j → j < length x.spare → get_or x.spare i 0 ≢ get_or x.spare j 0
+  record AreFreeRegions (x : Heap) : Type 0 where
+    numbers : (i : ℕ) → i < length x.free → (0 < get_or x.free i 0) × (get_or x.free i 0 < 2 ^ 24)
+    free : (i : ℕ) → i < length x.free → is_in_use x (get_or x.free i 0) ≡ false
+    apart : (i j : ℕ) → i < j → j < length x.free → get_or x.free i 0 ≢ get_or x.free j 0
 
-  spares_of : IsSpares h
-  spares_of = subst IsSpares heap.view record {
-    numbers = λ i below. let s = heap.kept.spare i below in (s.low, omega (arith, s.high, heap.kept.few));
-    free = λ i below. ap is_some (get-regions areas _ ∙ (heap.kept.spare i below).free);
+  free_of : AreFreeRegions h
+  free_of = subst AreFreeRegions heap.view record {
+    numbers = λ i below. let s = heap.kept.free i below in (s.low, omega (arith, s.high, heap.kept.few));
+    free = λ i below. ap is_some (get-regions areas _ ∙ (heap.kept.free i below).free);
     apart = heap.kept.apart;
   }
 
@@ -73,7 +73,7 @@ module _ {areas : List Area} {spares : List ℕ} {limit capacity cells objects h
         let low = laid.below_fill (a.0 % REGION) f.object in
         elim (cases_eq (a.0 / REGION) (b.0 / REGION)) [
           | inl same ↦
-              let one = sym g.located.place.here ∙ ap (area_at areas) (sym same) ∙ f.located.place.here in
+              let one = sym g.located.index.here ∙ ap (area_at areas) (sym same) ∙ f.located.index.here in
               let area_same : (found heap b is_b).1 ≡ (found heap a is_a).1 = cc one in
               let there = subst (λ (x : Area). IsObject (contents x) (b.0 % REGION)) area_same g.object in
               let next = laid.apart (a.0 % REGION) (b.0 % REGION) f.object there (omega (arith, same, below))
@@ -94,11 +94,11 @@ module _ {areas : List Area} {spares : List ℕ} {limit capacity cells objects h
         omega (arith, f.area.laid_out.within_region, ap (λ (g : Region). g.fill) f.region);
     generations = λ r is. let f = (held_found heap r is).2 in
         omega (arith, f.area.generation, ap (λ (g : Region). g.generation) f.region);
-    numbers = λ r is. let p = (held_found heap r is).2.place in
+    numbers = λ r is. let p = (held_found heap r is).2.index in
         (omega (arith, p.number), omega (arith, p.number, p.within, heap.kept.few));
-    spare_numbers = spares_of.numbers;
-    spare_free = spares_of.free;
-    spare_apart = spares_of.apart;
+    free_numbers = free_of.numbers;
+    free_unused = free_of.free;
+    free_apart = free_of.apart;
     cards = λ c set. starts c (area_at areas (c / CARDS)) refl (sym (set_at heap c) ∙ set);
     few_objects = omega (arith, cells_small, objects_small, count_is heap, heap.kept.few);
   }

@@ -52,9 +52,9 @@ fields_placed h x is =
 
 -- the list of free regions after one was added where there was none: the same where there was one, and the
 -- same without its first
-same_spares : (xs ys : List ℕ) → take (length xs) ys ≡ xs → length ys ≡ max 1 (length xs) → 0 < length xs
+same_free : (xs ys : List ℕ) → take (length xs) ys ≡ xs → length ys ≡ max 1 (length xs) → 0 < length xs
     → ys ≡ xs
-same_spares xs ys kept long some =
+same_free xs ys kept long some =
     let lengths : length ys ≡ length xs = omega (arith, long, some) in
     sym (take-length ys) ∙ ap (λ n. take n ys) lengths ∙ kept
 
@@ -63,7 +63,7 @@ same_rest : (xs ys : List ℕ) → take (length xs) ys ≡ xs → length ys ≡ 
 same_rest [] [] kept long = refl
 same_rest [] (y ∷ []) kept long = refl
 same_rest [] (y ∷ z ∷ zs) kept long = absurd (omega (arith, long))
-same_rest (x ∷ xs) ys kept long = ap (drop 1) (same_spares (x ∷ xs) ys kept long (omega arith))
+same_rest (x ∷ xs) ys kept long = ap (drop 1) (same_free (x ∷ xs) ys kept long (omega arith))
 
 abbrev pub blank : Region
 blank = record { generation = 0; fill = 0 }
@@ -78,7 +78,7 @@ room_was h r size room =
       first = λ free. absurd (both_ways _ free room.held);
       is = λ i. record h {
         regions = put_same h.regions r (region_at h r) (some ∙ ap Some (sym (ap (λ o. unwrap_or o blank) some))) i;
-        spare = cond (sym room.held i) h.spare (drop 1 h.spare);
+        free = cond (sym room.held i) h.free (drop 1 h.free);
       };
     }
 
@@ -87,9 +87,9 @@ not_there None e = refl
 not_there (Some x) e = absurd (cc e)
 
 -- a free region was taken into use, after memory was taken where there was none
-pub room_made : (old mid new : Heap) (r size : ℕ) → mid ≡ record old { spare = mid.spare }
-    → take (length old.spare) mid.spare ≡ old.spare → length mid.spare ≡ max 1 (length old.spare)
-    → r ≡ get_or mid.spare 0 0 → is_in_use mid r ≡ false → new ≡ with_fresh mid r 0 → size ≤ FIELDS + HEADER
+pub room_made : (old mid new : Heap) (r size : ℕ) → mid ≡ record old { free = mid.free }
+    → take (length old.free) mid.free ≡ old.free → length mid.free ≡ max 1 (length old.free)
+    → r ≡ get_or mid.free 0 0 → is_in_use mid r ≡ false → new ≡ with_fresh mid r 0 → size ≤ FIELDS + HEADER
     → AreFull old
     → IsRoom old new r size
 room_made old mid new r size same kept long number free fresh small full =
@@ -97,7 +97,7 @@ room_made old mid new r size same kept long number free fresh small full =
     let is : new ≡ with_fresh old r 0 =
     fresh ∙ (λ i. record (same i) {
       regions = fin.insert (same i).regions r blank;
-      spare = same_rest old.spare mid.spare kept long i;
+      free = same_rest old.free mid.free kept long i;
     }) in
     let got : fin.get new.regions r ≡ Some blank = ap (λ (h : Heap). fin.get h.regions r) is
     ∙ get_inserted old.regions r blank in
@@ -110,10 +110,10 @@ room_made old mid new r size same kept long number free fresh small full =
         room = omega (arith, ap (λ (g : Region). g.fill) region, small);
       };
       full = λ _. full;
-      first = λ _ some. number ∙ ap (λ ns. get_or ns 0 0) (same_spares old.spare mid.spare kept long some);
+      first = λ _ some. number ∙ ap (λ ns. get_or ns 0 0) (same_free old.free mid.free kept long some);
       is = is ∙ (λ i. record old {
         regions = fin.insert old.regions r (sym none i);
-        spare = cond (sym free_old i) old.spare (drop 1 old.spare);
+        free = cond (sym free_old i) old.free (drop 1 old.free);
       });
     }
 
@@ -121,14 +121,15 @@ room_made old mid new r size same kept long number free fresh small full =
 pub made : (old mid new : Heap) (r size : ℕ) (at : Addr) (o : Placed) → used_of old + cells_of o ≤ old.limit
     → IsRoom old mid r size → at.0 ≡ r * REGION + (region_at mid r).fill → region_of at ≡ r
     → has_object mid at ≡ false → new ≡ with_put mid r (region_generation mid r) o → IsMade old new at o
-made old mid new r size at o fits room place region free put =
+made old mid new r size at o fits room address region free put =
     subst (λ n. IsRoom old mid n size → at.0 ≡ n * REGION + (region_at mid n).fill
-    → new ≡ with_put mid n (region_generation mid n) o → IsMade old new at o) region made_there room place put
+    → new ≡ with_put mid n (region_generation mid n) o → IsMade old new at o) region made_there room
+    address put
   where
     made_there : IsRoom old mid (region_of at) size
         → at.0 ≡ region_of at * REGION + (region_at mid (region_of at)).fill
         → new ≡ with_put mid (region_of at) (region_generation mid (region_of at)) o → IsMade old new at o
-    made_there room place put =
+    made_there room address put =
         let n = region_of at in
         let is = room.is in
         let before = region_at old n in
@@ -137,7 +138,7 @@ made old mid new r size at o fits room place region free put =
         let g : Region = record { generation = 0; fill = before.fill + cells_of o } in
         record {
           fits = fits;
-          place = place ∙ ap (λ (x : Region). n * REGION + x.fill) region;
+          address = address ∙ ap (λ (x : Region). n * REGION + x.fill) region;
           was_free = has-get old at
               ∙ ap (λ m. is_some (fin.get m at.0)) (sym (ap (λ (h : Heap). h.objects) is))
               ∙ sym (has-get mid at) ∙ free;
@@ -149,10 +150,9 @@ made old mid new r size at o fits room place region free put =
                 objects = fin.insert (is i).objects (n * REGION + (region i).fill) o;
                 regions = fin.insert (is i).regions n
                     (record { generation = 0; fill = (region i).fill + cells_of o });
-              })
-              ∙ ap (λ rs. record old {
+              }) ∙ ap (λ rs. record old {
                 objects = fin.insert old.objects (n * REGION + before.fill) o;
                 regions = rs;
-                spare = cond (is_in_use old n) old.spare (drop 1 old.spare);
+                free = cond (is_in_use old n) old.free (drop 1 old.free);
               }) (put_twice old.regions n before g);
         }

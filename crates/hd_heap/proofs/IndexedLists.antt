@@ -1,5 +1,5 @@
 -- Lemmas on lists that are read as maps and sets by index.
-use Rattle.hd_heap.proofs.Basics.{Bool, List, None, Option, [], ap, arith, eq-eqb, eq_by_cmp, false, flagged, get_or, get_or-append_right, get_or_append_left, length, list_any, nat_cmp, nat_cmp_total, ne_eqb, places_of, refl, suc, sym, table, tables, true, unsigned_tied, zero, ℕ, ◌*◌, ◌++◌, ◌+◌, ◌-◌, ◌<◌, ◌||◌, ◌∙◌, ◌∷◌, ◌≡◌}
+use Rattle.hd_heap.proofs.Basics.{Bool, List, None, Option, [], ap, arith, eq-eqb, eq_by_cmp, false, flagged, get_or, get_or-append_right, get_or_append_left, length, list_any, nat_cmp, nat_cmp_total, ne_eqb, indexes_of, refl, suc, sym, table, tables, true, unsigned_tied, zero, ℕ, ◌*◌, ◌++◌, ◌+◌, ◌-◌, ◌<◌, ◌||◌, ◌∙◌, ◌∷◌, ◌≡◌}
 use Rattle.std.specs.FinSet as set
 
 -- the order's test at two numbers that are equal, and at two that are not
@@ -28,8 +28,8 @@ any-flagged i (suc j) q (true ∷ bs) at =
     ∙ any-flagged (i + 1) j q bs (omega arith)
 
 -- an index is in the set where what is there is true
-pub contains-places_of : (bs : List Bool) (q : ℕ) → set.contains (places_of bs) q ≡ get_or bs q false
-contains-places_of bs q = set.contains-from_list nat_cmp_total (flagged 0 bs) q
+pub contains-indexes_of : (bs : List Bool) (q : ℕ) → set.contains (indexes_of bs) q ≡ get_or bs q false
+contains-indexes_of bs q = set.contains-from_list nat_cmp_total (flagged 0 bs) q
     ∙ any-flagged 0 q q bs (omega arith)
 
 pub length-table : {A : Type 0} (n : ℕ) (f : ℕ → A) → length (table n f) ≡ n

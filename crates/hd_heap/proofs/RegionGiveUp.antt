@@ -44,12 +44,12 @@ module _ (h : Heap) (r : ℕ) where
 
   -- where it had no object, nothing else changes
   pub released : IsSound h → ((a : Addr) → has_object h a ≡ true → region_of a ≢ r)
-      → without_region h r ≡ record h { regions = fin.remove h.regions r; spare = h.spare ++ r ∷ [] }
+      → without_region h r ≡ record h { regions = fin.remove h.regions r; free = h.free ++ r ∷ [] }
   unfolding region_of card_of
   released sound none = λ i. record h {
     objects = objects i;
     regions = fin.remove h.regions r;
-    spare = h.spare ++ r ∷ [];
+    free = h.free ++ r ∷ [];
     cards = cards i;
   }
     where

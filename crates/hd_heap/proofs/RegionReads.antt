@@ -1,6 +1,6 @@
 -- Lemmas on a heap that is read from its regions.
-use Rattle.hd_heap.proofs.Basics.{Addr, AreOthersFull, Area, Bool, CARD, CARDS, HasFlags, Heap, IsArea, IsKept, IsObject, IsObjectOf, List, None, Option, Placed, REGION, Region, Some, [], address, ap, area_at, arith, both_ways, card_in, cards_in, cases_lt, cond, contents, deque_capacity, false, fields_in, from_one, generation_in, get-by_place, get_or, get_or-map, get_or-set_other, get_or-set_same, get_or_past, has_object, heap_of, inl, inr, is_in_use, is_set, is_some, length, length-map, length-set, map, map-set, object_at, object_in, objects_in, option_map, placed_at, placed_in, placed_of, refl, region_at, region_generation, region_in, region_of, regions_in, set, subst, suc, sym, tables, true, unwrap_or, used_of, zero, ℕ, ◌%◌, ◌*◌, ◌+◌, ◌-◌, ◌/◌, ◌<◌, ◌∙◌, ◌≡◌, ◌≢◌, ◌≤◌}
-use Rattle.hd_heap.proofs.{IndexedLists.contains-places_of, IndexedLists.get_or-tables, Areas.object_there, Areas.held_by_object, RegionSums.cells_sum, RegionSums.count_sum}
+use Rattle.hd_heap.proofs.Basics.{Addr, AreOthersFull, Area, Bool, CARD, CARDS, HasFlags, Heap, IsArea, IsKept, IsObject, IsObjectOf, List, None, Option, Placed, REGION, Region, Some, [], address, ap, area_at, arith, both_ways, card_in, cards_in, cases_lt, cond, contents, deque_capacity, false, fields_in, from_one, generation_in, get-by_index, get_or, get_or-map, get_or-set_other, get_or-set_same, get_or_past, has_object, heap_of, inl, inr, is_in_use, is_set, is_some, length, length-map, length-set, map, map-set, object_at, object_in, objects_in, option_map, placed_at, placed_in, placed_of, refl, region_at, region_generation, region_in, region_of, regions_in, set, subst, suc, sym, tables, true, unwrap_or, used_of, zero, ℕ, ◌%◌, ◌*◌, ◌+◌, ◌-◌, ◌/◌, ◌<◌, ◌∙◌, ◌≡◌, ◌≢◌, ◌≤◌}
+use Rattle.hd_heap.proofs.{IndexedLists.contains-indexes_of, IndexedLists.get_or-tables, Areas.object_there, Areas.held_by_object, RegionSums.cells_sum, RegionSums.count_sum}
 use Rattle.std.proofs.Math.ListN.{get_or-map as map_read}
 use Rattle.hd_heap.specs.declared.heap.Heap.TheInside.{Inside}
 use Rattle.std.specs.FinMap as fin
@@ -10,19 +10,19 @@ use Rattle.std.specs.FinSet as set_of
 pub get-objects : (areas : List Area) (a : ℕ) → fin.get (objects_in areas) a ≡ placed_in
     (area_at areas (a / REGION)) (a % REGION)
 get-objects areas a =
-    get-by_place (tables REGION placed_in (from_one areas)) a
+    get-by_index (tables REGION placed_in (from_one areas)) a
     ∙ get_or-tables REGION placed_in None (λ k. refl) (from_one areas) a (a / REGION) (a % REGION)
     (omega arith)
     (omega arith)
 
 pub get-regions : (areas : List Area) (r : ℕ) → fin.get (regions_in areas) r ≡ region_in (area_at areas r)
-get-regions areas r = get-by_place (map region_in (from_one areas)) r
+get-regions areas r = get-by_index (map region_in (from_one areas)) r
     ∙ map_read region_in (from_one areas) r None
 
 pub contains-cards : (areas : List Area) (c : ℕ) → set_of.contains (cards_in areas) c ≡ card_in
     (area_at areas (c / CARDS)) (c % CARDS)
 contains-cards areas c =
-    contains-places_of (tables 8 card_in (from_one areas)) c
+    contains-indexes_of (tables 8 card_in (from_one areas)) c
     ∙ get_or-tables 8 card_in false (λ k. refl) (from_one areas) c (c / CARDS) (c % CARDS) (omega arith)
     (omega arith)
 
@@ -37,17 +37,17 @@ pub not_in_use : (a : Area) → a.held ≡ false → region_in (Some a) ≡ None
 not_in_use a free = ap (λ b. cond b (Some (seen a)) None) free
 
 -- the region of a number, at an index of the list
-pub record IsPlace (areas : List Area) (r k : ℕ) (a : Area) : Type 0 where
+pub record IsIndex (areas : List Area) (r k : ℕ) (a : Area) : Type 0 where
   pub number : r ≡ suc k
   pub within : k < length areas
   pub here : area_at areas r ≡ Some a
 
 placed_some : {areas : List Area} (r : ℕ) → (area_at areas r ≡ None → ⊥) → (k : ℕ) × (a : Area)
-    × IsPlace areas r k a
+    × IsIndex areas r k a
 placed_some zero some = absurd (some refl)
 placed_some {areas} (suc k) some = by (area_at areas (suc k)) refl
   where
-    by : (o : Option Area) → area_at areas (suc k) ≡ o → (j : ℕ) × (a : Area) × IsPlace areas (suc k) j a
+    by : (o : Option Area) → area_at areas (suc k) ≡ o → (j : ℕ) × (a : Area) × IsIndex areas (suc k) j a
     by None e = absurd (some e)
     by (Some a) e = elim (cases_lt k (length areas)) [
       | inl within ↦ (k, a, record { number = refl; within = within; here = e })
@@ -55,9 +55,9 @@ placed_some {areas} (suc k) some = by (area_at areas (suc k)) refl
           (arith, length-map areas Some, past))))
     ]
 
-pub place_read : (areas : List Area) (r k : ℕ) (x : Area) → r ≡ k + 1 → k < length areas
-    → x ≡ get_or areas k x → IsPlace areas r k x
-place_read areas r k x e within read =
+pub index_read : (areas : List Area) (r k : ℕ) (x : Area) → r ≡ k + 1 → k < length areas
+    → x ≡ get_or areas k x → IsIndex areas r k x
+index_read areas r k x e within read =
     let number : r ≡ suc k = omega (arith, e) in
     record {
       number = number;
@@ -65,15 +65,15 @@ place_read areas r k x e within read =
       here = ap (area_at areas) number ∙ get_or-map Some areas k x None within ∙ ap Some (sym read);
     }
 
-pub place_reads : {areas : List Area} {r k : ℕ} {a : Area} → IsPlace areas r k a → a ≡ get_or areas k a
-place_reads {areas} {r} {k} {a} p =
+pub index_reads : {areas : List Area} {r k : ℕ} {a : Area} → IsIndex areas r k a → a ≡ get_or areas k a
+index_reads {areas} {r} {k} {a} p =
     let some : Some (get_or areas k a) ≡ Some a = sym (get_or-map Some areas k a None p.within)
     ∙ ap (area_at areas) (sym p.number) ∙ p.here in
     let read : get_or areas k a ≡ a = cc some in
     sym read
 
 -- after another region was put there
-module _ {areas : List Area} {r k : ℕ} {a : Area} (p : IsPlace areas r k a) (b : Area) where
+module _ {areas : List Area} {r k : ℕ} {a : Area} (p : IsIndex areas r k a) (b : Area) where
   pub area_here : area_at (set areas k b) r ≡ Some b
   area_here = ap (area_at (set areas k b)) p.number ∙ get_or-map Some (set areas k b) k b None
       (omega (arith, length-set areas k b, p.within)) ∙ ap Some (get_or-set_same areas k b b p.within)
@@ -85,7 +85,7 @@ module _ {areas : List Area} {r k : ℕ} {a : Area} (p : IsPlace areas r k a) (b
 
 -- a region in use, at its index of the list
 pub record IsHeldAt (areas : List Area) (h : Heap) (r k : ℕ) (a : Area) : Type 0 where
-  pub place : IsPlace areas r k a
+  pub index : IsIndex areas r k a
   pub area : IsArea a
   pub held : a.held ≡ true
   pub there : is_in_use h r ≡ true
@@ -111,17 +111,17 @@ pub record IsNoted (h : Heap) (notes : ℕ × Bool × Bool) : Type 0 where
   pub flags : HasFlags h notes.1 notes.2
 
 -- the fields of a heap, with its numbers of cells, of objects and of regions in use, and its value
-pub record IsHeap (areas : List Area) (spares : List ℕ) (limit capacity : ℕ) (counts : ℕ × ℕ × ℕ)
+pub record IsHeap (areas : List Area) (numbers : List ℕ) (limit capacity : ℕ) (counts : ℕ × ℕ × ℕ)
     (notes : ℕ × Bool × Bool) (h : Heap) : Type 0 where
-  pub view : heap_of areas spares limit ≡ h
-  pub kept : IsKept areas spares capacity counts.0 counts.1 counts.2
-  pub notes_are : IsNoted (heap_of areas spares limit) notes
+  pub view : heap_of areas numbers limit ≡ h
+  pub kept : IsKept areas numbers capacity counts.0 counts.1 counts.2
+  pub notes_are : IsNoted (heap_of areas numbers limit) notes
 
-pub opened : (s : Inside) {h : Heap} → heap_of s.areas.items s.spare.items s.limit ≡ h
-    → IsKept s.areas.items s.spare.items (deque_capacity s.spare) s.used s.count s.held
-    × AreOthersFull (heap_of s.areas.items s.spare.items s.limit) s.current
-    × HasFlags (heap_of s.areas.items s.spare.items s.limit) s.carding s.registering
-    → IsHeap s.areas.items s.spare.items s.limit (deque_capacity s.spare)
+pub opened : (s : Inside) {h : Heap} → heap_of s.areas.items s.free.items s.limit ≡ h
+    → IsKept s.areas.items s.free.items (deque_capacity s.free) s.used s.count s.held
+    × AreOthersFull (heap_of s.areas.items s.free.items s.limit) s.current
+    × HasFlags (heap_of s.areas.items s.free.items s.limit) s.carding s.registering
+    → IsHeap s.areas.items s.free.items s.limit (deque_capacity s.free)
     (s.used, s.count, s.held) (s.current, s.carding, s.registering) h
 opened s view invariant = record {
   view = view;
@@ -129,15 +129,15 @@ opened s view invariant = record {
   notes_are = record { full = invariant.1; flags = invariant.2 };
 }
 
-pub closed : {areas : List Area} {spares : List ℕ} {limit capacity : ℕ} {counts : ℕ × ℕ × ℕ}
-    {notes : ℕ × Bool × Bool} {h : Heap} → IsHeap areas spares limit capacity counts notes h
-    → IsKept areas spares capacity counts.0 counts.1 counts.2
-    × AreOthersFull (heap_of areas spares limit) notes.0 × HasFlags (heap_of areas spares limit) notes.1 notes.2
+pub closed : {areas : List Area} {numbers : List ℕ} {limit capacity : ℕ} {counts : ℕ × ℕ × ℕ}
+    {notes : ℕ × Bool × Bool} {h : Heap} → IsHeap areas numbers limit capacity counts notes h
+    → IsKept areas numbers capacity counts.0 counts.1 counts.2
+    × AreOthersFull (heap_of areas numbers limit) notes.0 × HasFlags (heap_of areas numbers limit) notes.1 notes.2
 closed heap = (heap.kept, heap.notes_are.full, heap.notes_are.flags)
 
-module _ {areas : List Area} {spares : List ℕ} {limit capacity cells objects holds : ℕ}
+module _ {areas : List Area} {numbers : List ℕ} {limit capacity cells objects holds : ℕ}
     {notes : ℕ × Bool × Bool} {h : Heap}
-    (heap : IsHeap areas spares limit capacity (cells, objects, holds) notes h) where
+    (heap : IsHeap areas numbers limit capacity (cells, objects, holds) notes h) where
   pub noted : IsNoted h notes
   noted = subst (λ x. IsNoted x notes) heap.view heap.notes_are
 
@@ -158,7 +158,7 @@ module _ {areas : List Area} {spares : List ℕ} {limit capacity cells objects h
   set_at c = ap (λ (x : Heap). set_of.contains x.cards c) (sym heap.view) ∙ contains-cards areas c
 
   -- what the heap has in a region, and whether a card of a region is set
-  pub read_in : {r k : ℕ} {a : Area} → IsPlace areas r k a → (j : ℕ) → j < REGION
+  pub read_in : {r k : ℕ} {a : Area} → IsIndex areas r k a → (j : ℕ) → j < REGION
       → fin.get h.objects (r * REGION + j) ≡ option_map placed_of (fin.get (contents a).objects j)
   read_in {r} {a = a} p j low =
       let n = r * REGION + j in
@@ -166,7 +166,7 @@ module _ {areas : List Area} {spares : List ℕ} {limit capacity cells objects h
       let offset : n % REGION ≡ j = omega arith in
       objects_at n ∙ (λ i. placed_in (area_at areas (number i)) (offset i)) ∙ ap (λ o. placed_in o j) p.here
 
-  pub card_at : {k : ℕ} {a : Area} (at : Addr) → IsPlace areas (at.0 / REGION) k a
+  pub card_at : {k : ℕ} {a : Area} (at : Addr) → IsIndex areas (at.0 / REGION) k a
       → is_set h (at.0 / CARD) ≡ card_in (Some a) ((at.0 % REGION) / CARD)
   card_at at p =
       let number : (at.0 / CARD) / CARDS ≡ at.0 / REGION = omega arith in
@@ -174,7 +174,7 @@ module _ {areas : List Area} {spares : List ℕ} {limit capacity cells objects h
       set_at (at.0 / CARD) ∙ (λ i. card_in (area_at areas (number i)) (card i))
       ∙ ap (λ o. card_in o ((at.0 % REGION) / CARD)) p.here
 
-  pub card_there : {r k : ℕ} {a : Area} (j : ℕ) → IsPlace areas r k a → j < CARDS
+  pub card_there : {r k : ℕ} {a : Area} (j : ℕ) → IsIndex areas r k a → j < CARDS
       → is_set h (r * CARDS + j) ≡ card_in (Some a) j
   card_there {r} j p low =
       let n = r * CARDS + j in
@@ -189,11 +189,11 @@ module _ {areas : List Area} {spares : List ℕ} {limit capacity cells objects h
       ∙ is_some_map placed_of (fin.get (contents a).objects (at.0 % REGION))
 
   -- a region in use
-  pub located_by : {r k : ℕ} {a : Area} → IsPlace areas r k a → a.held ≡ true → IsHeldAt areas h r k a
+  pub located_by : {r k : ℕ} {a : Area} → IsIndex areas r k a → a.held ≡ true → IsHeldAt areas h r k a
   located_by {r} {a = a} p held =
       let got = regions_at r ∙ ap region_in p.here ∙ in_use a held in
       record {
-        place = p;
+        index = p;
         area = heap.kept.each r a p.here;
         held = held;
         there = ap is_some got;
@@ -210,14 +210,14 @@ module _ {areas : List Area} {spares : List ℕ} {limit capacity cells objects h
       ap (fin.get h.regions) number ∙ regions_at (suc k)
       ∙ ap region_in (get_or_past (map Some areas) k None (omega (arith, length-map areas Some, past)))
 
-  pub none_free : {r k : ℕ} {a : Area} → IsPlace areas r k a → a.held ≡ false → fin.get h.regions r ≡ None
+  pub none_free : {r k : ℕ} {a : Area} → IsIndex areas r k a → a.held ≡ false → fin.get h.regions r ≡ None
   none_free {r} {a = a} p free = regions_at r ∙ ap region_in p.here ∙ not_in_use a free
 
-  pub some_held : {r k : ℕ} {a : Area} → IsPlace areas r k a → a.held ≡ true
+  pub some_held : {r k : ℕ} {a : Area} → IsIndex areas r k a → a.held ≡ true
       → fin.get h.regions r ≡ Some (seen a)
   some_held {r} {a = a} p held = regions_at r ∙ ap region_in p.here ∙ in_use a held
 
-  pub held_at : {r k : ℕ} {a : Area} → IsPlace areas r k a → is_in_use h r ≡ true → IsHeldAt areas h r k a
+  pub held_at : {r k : ℕ} {a : Area} → IsIndex areas r k a → is_in_use h r ≡ true → IsHeldAt areas h r k a
   held_at {r} {a = a} p is = located_by p (held_of a.held refl)
     where
       held_of : (b : Bool) → a.held ≡ b → a.held ≡ true
@@ -225,7 +225,7 @@ module _ {areas : List Area} {spares : List ℕ} {limit capacity cells objects h
       held_of false e = absurd (let none = ap is_some (regions_at r ∙ ap region_in p.here ∙ not_in_use a e) in
           both_ways _ none is)
 
-  pub found_at : (at : Addr) {k : ℕ} {a : Area} → IsPlace areas (at.0 / REGION) k a → has_object h at ≡ true
+  pub found_at : (at : Addr) {k : ℕ} {a : Area} → IsIndex areas (at.0 / REGION) k a → has_object h at ≡ true
       → IsFound areas h at k a
   found_at at {a = a} p is =
       let there : IsObject (contents a) (at.0 % REGION) = sym (has_there at a p.here) ∙ is in
@@ -239,7 +239,7 @@ module _ {areas : List Area} {spares : List ℕ} {limit capacity cells objects h
             (record { id = record { 0 = 0 }; fields = []; value = 0; registered = false })) got;
       }
 
-  -- the place of what is there
+  -- the index of what is there
   pub found : (at : Addr) → has_object h at ≡ true → (k : ℕ) × (a : Area) × IsFound areas h at k a
   found at is =
       let (k, a, p) = placed_some (at.0 / REGION) (λ none. both_ways _ (has-get h at
@@ -252,31 +252,32 @@ module _ {areas : List Area} {spares : List ℕ} {limit capacity cells objects h
       (k, a, held_at p is)
 
   -- the index of an object's region, and of a region in use
-  pub index_of : (at : Addr) {k : ℕ} → has_object h at ≡ true → k ≡ at.0 / REGION - 1 → k < length areas
-  index_of at is e = let p = (found at is).2.located.place in omega (arith, e, p.number, p.within)
+  pub index_within : (at : Addr) {k : ℕ} → has_object h at ≡ true → k ≡ at.0 / REGION - 1 → k < length areas
+  index_within at is e = let p = (found at is).2.located.index in omega (arith, e, p.number, p.within)
 
   pub held_index : {r k : ℕ} → is_in_use h r ≡ true → k ≡ r - 1 → (0 < r) × (k < length areas)
-  held_index {r} is e = let p = (held_found r is).2.place in
+  held_index {r} is e = let p = (held_found r is).2.index in
       (omega (arith, p.number), omega (arith, e, p.number, p.within))
 
   -- what a read of the list at such an index states
   pub found_read : (at : Addr) {k : ℕ} {x : Area} → has_object h at ≡ true → k ≡ at.0 / REGION - 1
       → x ≡ get_or areas k x → IsFound areas h at k x
   found_read at {k} {x} is e read =
-      let p = (found at is).2.located.place in
-      found_at at (place_read areas (at.0 / REGION) k x (omega (arith, e, p.number)) (index_of at is e) read)
+      let p = (found at is).2.located.index in
+      found_at at (index_read areas (at.0 / REGION) k x (omega (arith, e, p.number))
+      (index_within at is e) read)
       is
 
   pub held_read : {r k : ℕ} {x : Area} → is_in_use h r ≡ true → k ≡ r - 1 → x ≡ get_or areas k x
       → IsHeldAt areas h r k x
   held_read {r} {k} {x} is e read =
       let index = held_index is e in
-      held_at (place_read areas r k x (omega (arith, e, index.0)) index.1 read) is
+      held_at (index_read areas r k x (omega (arith, e, index.0)) index.1 read) is
 
 -- the heap's fields after a step, and its value
-pub heap_by : {areas : List Area} {spares : List ℕ} {limit capacity : ℕ} {counts : ℕ × ℕ × ℕ}
-    {notes : ℕ × Bool × Bool} {h : Heap} → IsKept areas spares capacity counts.0 counts.1 counts.2
-    → heap_of areas spares limit ≡ h → IsNoted h notes → IsHeap areas spares limit capacity counts notes h
+pub heap_by : {areas : List Area} {numbers : List ℕ} {limit capacity : ℕ} {counts : ℕ × ℕ × ℕ}
+    {notes : ℕ × Bool × Bool} {h : Heap} → IsKept areas numbers capacity counts.0 counts.1 counts.2
+    → heap_of areas numbers limit ≡ h → IsNoted h notes → IsHeap areas numbers limit capacity counts notes h
 heap_by {notes = notes} kept view now =
     record { view = view; kept = kept; notes_are = subst (λ x. IsNoted x notes) (sym view) now }
 

@@ -1,5 +1,5 @@
 -- Sums over the objects of a heap, region by region.
-use Rattle.hd_heap.proofs.Basics.{Area, HEADER, IsArea, List, None, Object, Option, Placed, REGION, Some, [], address, ap, area_at, arith, by_place, cases_lt, cells_of, contents, find-numbered_below, get-by_place, get_or, get_or_past, inl, inr, length-map, map, nat_cmp, nat_cmp_total, numbered, objects_in, option_map, placed_in, placed_of, refl, share, size_of, suc, sum-insert, sum_by, sum_by-append, sum_by-cons, sum_ones, sym, table, tables, zero, ℕ, ◌+◌, ◌∙◌, ◌∷◌, ◌≡◌, ◌≤◌}
+use Rattle.hd_heap.proofs.Basics.{Area, HEADER, IsArea, List, None, Object, Option, Placed, REGION, Some, [], address, ap, area_at, arith, by_index, cases_lt, cells_of, contents, find-numbered_below, get-by_index, get_or, get_or_past, inl, inr, length-map, map, nat_cmp, nat_cmp_total, numbered, objects_in, option_map, placed_in, placed_of, refl, share, size_of, suc, sum-insert, sum_by, sum_by-append, sum_by-cons, sum_ones, sym, table, tables, zero, ℕ, ◌+◌, ◌∙◌, ◌∷◌, ◌≡◌, ◌≤◌}
 use Rattle.hd_heap.proofs.{Areas.absent, Areas.sum_none, IndexedLists.length-table, IndexedLists.get_or-table}
 use Rattle.std.specs.FinMap as fin
 
@@ -45,9 +45,9 @@ sum-mapped f p (suc n) g =
 
 -- a map that has nothing from n on is the table of its first n entries
 as_table : {A : Type 0} (n : ℕ) (m : fin.FinMap nat_cmp A) → ((q : ℕ) → n ≤ q → fin.get m q ≡ None)
-    → by_place (table n (fin.get m)) ≡ m
+    → by_index (table n (fin.get m)) ≡ m
 as_table n m none = fin.same_map nat_cmp_total fin.nat_cmp-IsAntisymmetric _ _ (λ q.
-    get-by_place (table n (fin.get m)) q ∙ elim (cases_lt q n) [
+    get-by_index (table n (fin.get m)) q ∙ elim (cases_lt q n) [
       | inl below ↦ get_or-table n (fin.get m) q None below
       | inr past ↦ get_or_past (table n (fin.get m)) q None (omega (arith, length-table n (fin.get m), past))
           ∙ sym (none q past)

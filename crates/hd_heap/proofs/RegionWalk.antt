@@ -1,6 +1,6 @@
 -- Lemmas on the walk through the regions of a heap.
 use Rattle.hd_heap.proofs.Basics.{Addr, Any, Area, Bool, CARD, Carded, Heap, IsArea, IsFirstAt, IsLeastBetween, IsLeastFrom, IsObject, IsSound, IsWalk, List, None, Option, REGION, Some, Wanted, and_parts, ap, area_at, arith, both_ways, card_in, card_of, cases_eq, cases_lt, contents, false, generation_at, get, has_object, inl, inr, is_condemned, is_some, is_wanted, le-leb, leb-true, length, nat_le, nat_lt, object_at_heap, refl, region_of, suc, sym, true, wants, ℕ, ◌%◌, ◌&&◌, ◌*◌, ◌+◌, ◌/◌, ◌<◌, ◌∙◌, ◌≡◌, ◌≢◌, ◌≤◌}
-use Rattle.hd_heap.proofs.{RegionReads.IsPlace, RegionReads.IsHeap, RegionReads.found, RegionReads.found_at, RegionReads.has_there, RegionReads.card_at, RegionReads.object_of, WantedObjects.unwanted}
+use Rattle.hd_heap.proofs.{RegionReads.IsIndex, RegionReads.IsHeap, RegionReads.found, RegionReads.found_at, RegionReads.has_there, RegionReads.card_at, RegionReads.object_of, WantedObjects.unwanted}
 
 -- what is asked second is asked only where the first holds
 and_same : (b c d : Bool) → (b ≡ true → c ≡ d) → (b && c) ≡ (b && d)
@@ -21,19 +21,19 @@ wants_low w a off is want = elim (cases_lt off REGION) [
 ]
 
 -- the region of an address
-pub placed : {areas : List Area} {r k : ℕ} {a : Area} → IsPlace areas r k a → (b : Addr) → b.0 / REGION ≡ r
-    → IsPlace areas (b.0 / REGION) k a
+pub placed : {areas : List Area} {r k : ℕ} {a : Area} → IsIndex areas r k a → (b : Addr) → b.0 / REGION ≡ r
+    → IsIndex areas (b.0 / REGION) k a
 placed {areas} p b same = record {
   number = same ∙ p.number;
   within = p.within;
   here = ap (area_at areas) same ∙ p.here;
 }
 
-module _ {areas : List Area} {spares : List ℕ} {limit capacity cells objects holds : ℕ}
+module _ {areas : List Area} {numbers : List ℕ} {limit capacity cells objects holds : ℕ}
     {notes : ℕ × Bool × Bool} {h : Heap}
-    (heap : IsHeap areas spares limit capacity (cells, objects, holds) notes h) where
+    (heap : IsHeap areas numbers limit capacity (cells, objects, holds) notes h) where
   -- what is wanted of the heap is wanted of its region
-  pub wanted_in : (w : Wanted) (at : Addr) {k : ℕ} {a : Area} → IsPlace areas (at.0 / REGION) k a
+  pub wanted_in : (w : Wanted) (at : Addr) {k : ℕ} {a : Area} → IsIndex areas (at.0 / REGION) k a
       → is_wanted h w at ≡ wants w a (at.0 % REGION)
   unfolding card_of
   wanted_in w at {a = a} p = by w
@@ -52,14 +52,14 @@ module _ {areas : List Area} {spares : List ℕ} {limit capacity cells objects h
           ∙ ap (λ b. b && nat_lt n a.generation && card_in (Some a) ((at.0 % REGION) / CARD)) has
 
   -- what is condemned is an object of a region that is
-  pub condemned_in : (n : ℕ) (at : Addr) {k : ℕ} {a : Area} → IsPlace areas (at.0 / REGION) k a
+  pub condemned_in : (n : ℕ) (at : Addr) {k : ℕ} {a : Area} → IsIndex areas (at.0 / REGION) k a
       → is_condemned h n at ≡ true → IsObject (contents a) (at.0 % REGION) × (a.generation ≤ n)
   condemned_in n at p is =
       let (has, young) = and_parts _ _ is in
       let f = found_at heap at p has in
       (f.object, omega (arith, leb-true _ _ young, (object_of at f).generation))
 
-  pub condemned_there : (n : ℕ) (at : Addr) {k : ℕ} {a : Area} → IsPlace areas (at.0 / REGION) k a
+  pub condemned_there : (n : ℕ) (at : Addr) {k : ℕ} {a : Area} → IsIndex areas (at.0 / REGION) k a
       → IsObject (contents a) (at.0 % REGION) → a.generation ≤ n → is_condemned h n at ≡ true
   condemned_there n at {a = a} p there young =
       let has = has_there heap at a p.here ∙ there in
@@ -67,20 +67,20 @@ module _ {areas : List Area} {spares : List ℕ} {limit capacity cells objects h
       (λ i. has i && nat_le (generation_at (object_at_heap h) at) n) ∙ le-leb _ n (omega (arith, same, young))
 
   -- a region whose objects are all older has none that is
-  pub none_condemned : (n : ℕ) {r k : ℕ} {a : Area} → IsPlace areas r k a
+  pub none_condemned : (n : ℕ) {r k : ℕ} {a : Area} → IsIndex areas r k a
       → ((j : ℕ) → IsObject (contents a) j → n < a.generation) → (b : Addr) → is_condemned h n b ≡ true
       → b.0 / REGION ≢ r
   none_condemned n p older b is same =
       let (there, young) = condemned_in n b (placed p b same) is in omega (arith, older _ there, young)
 
   -- what is wanted is in some region
-  pub wanted_place : (w : Wanted) (at : Addr) → is_wanted h w at ≡ true → (k : ℕ) × (at.0 / REGION ≡ suc k)
+  pub wanted_index : (w : Wanted) (at : Addr) → is_wanted h w at ≡ true → (k : ℕ) × (at.0 / REGION ≡ suc k)
       × (k < length areas)
-  wanted_place w at is = let p = (found heap at (wanted_has h w at is)).2.located.place in
+  wanted_index w at is = let p = (found heap at (wanted_has h w at is)).2.located.index in
       ((found heap at (wanted_has h w at is)).0, p.number, p.within)
 
   -- the first of a region from an offset on has the least address there
-  pub given_some : (w : Wanted) {r k : ℕ} {a : Area} (from off low high : ℕ) (x : Addr) → IsPlace areas r k a
+  pub given_some : (w : Wanted) {r k : ℕ} {a : Area} (from off low high : ℕ) (x : Addr) → IsIndex areas r k a
       → IsFirstAt (wants w a) from (Some off) → x.0 ≡ r * REGION + off → low ≡ r * REGION + from
       → IsLeastBetween (is_wanted h w) low high (Some x)
   given_some w {r} {a = a} from off low high x p first is low_is =
@@ -101,7 +101,7 @@ module _ {areas : List Area} {spares : List ℕ} {limit capacity cells objects h
       )
 
   -- a region without any is passed
-  pub given_none : (w : Wanted) {r k : ℕ} {a : Area} (from low high : ℕ) → IsPlace areas r k a
+  pub given_none : (w : Wanted) {r k : ℕ} {a : Area} (from low high : ℕ) → IsIndex areas r k a
       → IsFirstAt (wants w a) from None → low ≡ r * REGION + from → high ≡ (r + 1) * REGION
       → IsLeastBetween (is_wanted h w) low high None
   given_none w {r} from low high p none low_is high_is = λ b want after. elim (cases_eq (b.0 / REGION) r) [

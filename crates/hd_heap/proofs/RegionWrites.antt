@@ -1,6 +1,6 @@
 -- Lemmas on a heap after one of its regions has changed.
-use Rattle.hd_heap.proofs.Basics.{Addr, Area, Bool, CARDS, Field, HEADER, HasPart, Heap, IsArea, IsSpare, List, None, Object, Option, Part, Placed, REGION, Region, Registered, Some, Value, address, ap, area_at, area_written, arith, both_ways, card_in, cards_in, cases_eq, cond, contents, eq_by_cmp, false, get_beside, get_inserted, get_left, get_or, get_or-set_other, get_or-set_same, get_removed, inl, inr, insert_cases, is_some, len_again, length, length-map, length-set, map-set, nat_cmp, nat_cmp_total, not, objects_in, option_map, placed_in, placed_of, refl, region_in, region_with_part, regions_in, remove_cases, set, size_of, subst, sum_by, sum_by-set, sym, true, with_object, with_part, ℕ, ◌%◌, ◌&&◌, ◌*◌, ◌+◌, ◌/◌, ◌<◌, ◌||◌, ◌∙◌, ◌≡◌, ◌≢◌}
-use Rattle.hd_heap.proofs.{IndexedLists.tied, IndexedLists.untied, RegionReads.get-objects, RegionReads.get-regions, RegionReads.contains-cards, RegionReads.seen, RegionReads.in_use, RegionReads.IsPlace, RegionReads.place_reads, RegionReads.area_here, RegionReads.area_other, RegionReads.IsFound, RegionReads.IsHeap, RegionReads.IsNoted, RegionReads.heap_by}
+use Rattle.hd_heap.proofs.Basics.{Addr, Area, Bool, CARDS, Field, HEADER, HasPart, Heap, IsArea, IsFreeRegion, List, None, Object, Option, Part, Placed, REGION, Region, Registered, Some, Value, address, ap, area_at, area_written, arith, both_ways, card_in, cards_in, cases_eq, cond, contents, eq_by_cmp, false, get_beside, get_inserted, get_left, get_or, get_or-set_other, get_or-set_same, get_removed, inl, inr, insert_cases, is_some, len_again, length, length-map, length-set, map-set, nat_cmp, nat_cmp_total, not, objects_in, option_map, placed_in, placed_of, refl, region_in, region_with_part, regions_in, remove_cases, set, size_of, subst, sum_by, sum_by-set, sym, true, with_object, with_part, ℕ, ◌%◌, ◌&&◌, ◌*◌, ◌+◌, ◌/◌, ◌<◌, ◌||◌, ◌∙◌, ◌≡◌, ◌≢◌}
+use Rattle.hd_heap.proofs.{IndexedLists.tied, IndexedLists.untied, RegionReads.get-objects, RegionReads.get-regions, RegionReads.contains-cards, RegionReads.seen, RegionReads.in_use, RegionReads.IsIndex, RegionReads.index_reads, RegionReads.area_here, RegionReads.area_other, RegionReads.IsFound, RegionReads.IsHeap, RegionReads.IsNoted, RegionReads.heap_by}
 use Rattle.std.specs.FinMap as fin
 use Rattle.std.specs.FinSet as set_of
 
@@ -27,7 +27,7 @@ mark_cases P s x on q here other = elim (cases_eq q x) [
     by false false e = set_of.contains-remove nat_cmp_total s x q ∙ ap (λ t. not t && set_of.contains s q) e
 
 -- a region of the list has changed
-module _ {areas : List Area} {r k : ℕ} {a : Area} (p : IsPlace areas r k a) (b : Area) where
+module _ {areas : List Area} {r k : ℕ} {a : Area} (p : IsIndex areas r k a) (b : Area) where
   -- what holds of the region and of each other one
   set_cases : (P : Option Area → Type 0) (q : ℕ) → (q ≡ r → P (Some b)) → (q ≢ r → P (area_at areas q))
       → P (area_at (set areas k b) q)
@@ -155,7 +155,7 @@ module _ {areas : List Area} {r k : ℕ} {a : Area} (p : IsPlace areas r k a) (b
   -- what is counted of each region
   pub sum_set : (f : Area → ℕ) → sum_by f (set areas k b) + f a ≡ sum_by f areas + f b
   sum_set f =
-      subst (λ (x : Area). sum_by f (set areas k b) + f x ≡ sum_by f areas + f b) (sym (place_reads p))
+      subst (λ (x : Area). sum_by f (set areas k b) + f x ≡ sum_by f areas + f b) (sym (index_reads p))
       (sum_by-set f areas k b a p.within)
 
   pub each_set : IsArea b → ((q : ℕ) (y : Area) → area_at areas q ≡ Some y → IsArea y) → (q : ℕ) (x : Area)
@@ -164,22 +164,22 @@ module _ {areas : List Area} {r k : ℕ} {a : Area} (p : IsPlace areas r k a) (b
       (λ _ x e. let is : b ≡ x = cc e in subst IsArea is new) (λ _. each q)
 
   -- another region stays free
-  pub spare_set : (n : ℕ) → n ≢ r → IsSpare areas n → IsSpare (set areas k b) n
-  spare_set n apart s = record {
+  pub free_set : (n : ℕ) → n ≢ r → IsFreeRegion areas n → IsFreeRegion (set areas k b) n
+  free_set n apart s = record {
     low = s.low;
     high = omega (arith, s.high, length-set areas k b);
     free = ap region_in (area_other p b n apart) ∙ s.free;
   }
 
   -- the heap where the region is in use as before
-  pub heap_set : {spares : List ℕ} {limit capacity cells objects holds : ℕ} {notes notes2 : ℕ × Bool × Bool}
-      {h : Heap} → IsHeap areas spares limit capacity (cells, objects, holds) notes h → (cells2 objects2 : ℕ)
+  pub heap_set : {numbers : List ℕ} {limit capacity cells objects holds : ℕ} {notes notes2 : ℕ × Bool × Bool}
+      {h : Heap} → IsHeap areas numbers limit capacity (cells, objects, holds) notes h → (cells2 objects2 : ℕ)
       (new : Heap) → IsArea b → a.held ≡ true → b.held ≡ true → objects_in (set areas k b) ≡ new.objects
-      → regions_in (set areas k b) ≡ new.regions → h.spare ≡ new.spare → h.limit ≡ new.limit
+      → regions_in (set areas k b) ≡ new.regions → h.free ≡ new.free → h.limit ≡ new.limit
       → cards_in (set areas k b) ≡ new.cards → cells2 + a.live ≡ cells + b.live
       → objects2 + a.count ≡ objects + b.count → IsNoted new notes2
-      → IsHeap (set areas k b) spares limit capacity (cells2, objects2, holds) notes2 new
-  heap_set heap cells2 objects2 new area was held objects regions spare limit cards lives count now =
+      → IsHeap (set areas k b) numbers limit capacity (cells2, objects2, holds) notes2 new
+  heap_set heap cells2 objects2 new area was held objects regions free limit cards lives count now =
       let kept = heap.kept in
       let there : is_some (fin.get (regions_in areas) r) ≡ true =
       ap is_some (get-regions areas r ∙ ap region_in p.here ∙ in_use a was) in
@@ -193,36 +193,36 @@ module _ {areas : List Area} {r k : ℕ} {a : Area} (p : IsPlace areas r k a) (b
         held = kept.held ∙ sym lens;
         parted = omega (arith, length-set areas k b, kept.parted);
         room = omega (arith, length-set areas k b, kept.room);
-        spare = λ i below. spare_set _ (λ e. both_ways _
+        free = λ i below. free_set _ (λ e. both_ways _
             (ap is_some (get-regions areas r ∙ ap (λ n. region_in (area_at areas n)) (sym e)
-            ∙ (kept.spare i below).free)) there) (kept.spare i below);
+            ∙ (kept.free i below).free)) there) (kept.free i below);
         apart = kept.apart;
       }) (λ i. record {
         objects = objects i;
         regions = regions i;
-        spare = (ap (λ (x : Heap). x.spare) heap.view ∙ spare) i;
+        free = (ap (λ (x : Heap). x.free) heap.view ∙ free) i;
         limit = (ap (λ (x : Heap). x.limit) heap.view ∙ limit) i;
         cards = cards i;
       }) now
 
 -- an object of the heap is another one, of the same size
-pub object_written : {areas : List Area} {spares : List ℕ} {limit capacity cells objects holds : ℕ}
+pub object_written : {areas : List Area} {numbers : List ℕ} {limit capacity cells objects holds : ℕ}
     {notes notes2 : ℕ × Bool × Bool} {h : Heap}
-    → IsHeap areas spares limit capacity (cells, objects, holds) notes h → (at : Addr) {k : ℕ} {a b : Area}
+    → IsHeap areas numbers limit capacity (cells, objects, holds) notes h → (at : Addr) {k : ℕ} {a b : Area}
     (o : Object) (p : Placed) → placed_of o ≡ p → IsFound areas h at k a → IsArea b
     → b ≡ area_written a (at.0 % REGION) o → IsNoted (with_object h at p) notes2
-    → IsHeap (set areas k b) spares limit capacity (cells, objects, holds) notes2 (with_object h at p)
+    → IsHeap (set areas k b) numbers limit capacity (cells, objects, holds) notes2 (with_object h at p)
 object_written {areas} {cells = cells} {objects = objects} {h = h} heap at {k} {a} {b} o p is f new e now =
-    let place = f.located.place in
+    let index = f.located.index in
     let whole : (at.0 / REGION) * REGION + at.0 % REGION ≡ at.0 = omega arith in
     let put : objects_in (set areas k b) ≡ fin.insert h.objects at.0 p =
-    objects_put place b (at.0 % REGION) o (omega arith) (ap (λ (x : Area). (contents x).objects) e)
+    objects_put index b (at.0 % REGION) o (omega arith) (ap (λ (x : Area). (contents x).objects) e)
     ∙ (λ i. fin.insert (heap.view i).objects (whole i) (is i)) in
-    heap_set place b heap cells objects (with_object h at p) new f.located.held
+    heap_set index b heap cells objects (with_object h at p) new f.located.held
     (ap (λ (x : Area). x.held) e ∙ f.located.held) put
-    (regions_same place b (ap (λ (x : Area). region_in (Some x)) e) ∙ ap (λ (x : Heap). x.regions) heap.view)
+    (regions_same index b (ap (λ (x : Area). region_in (Some x)) e) ∙ ap (λ (x : Heap). x.regions) heap.view)
     refl refl
-    (cards_same place b (λ j. ap (λ (x : Area). get_or x.cards j false) e)
+    (cards_same index b (λ j. ap (λ (x : Area). get_or x.cards j false) e)
     ∙ ap (λ (x : Heap). x.cards) heap.view)
     (omega (arith, ap (λ (x : Area). x.live) e)) (omega (arith, ap (λ (x : Area). x.count) e)) now
 

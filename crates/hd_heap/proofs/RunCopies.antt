@@ -1,5 +1,5 @@
 -- Runs of moves, and what copies of their objects leave of a region.
-use Rattle.hd_heap.proofs.Basics.{Addr, AreLaidOut, ArePut, Contents, IsLaidOut, IsRun, List, Move, REGION, and_parts, ap, arith, cases_lt, cells_run, eqb-true, goes_with, inl, inr, length, length-map, ltb-true, move_at, object_of, put_run, region_forwarded, region_of, region_with_put, stored_place, subst, suc, true, zero, ℕ, ◌+◌, ◌-◌, ◌/◌, ◌<◌, ◌∙◌, ◌≡◌, ◌≤◌}
+use Rattle.hd_heap.proofs.Basics.{Addr, AreLaidOut, ArePut, Contents, IsLaidOut, IsRun, List, Move, REGION, and_parts, ap, arith, cases_lt, cells_run, eqb-true, goes_with, inl, inr, length, length-map, ltb-true, move_at, object_of, put_run, region_forwarded, region_of, region_with_put, stored_forwarding, subst, suc, true, zero, ℕ, ◌+◌, ◌-◌, ◌/◌, ◌<◌, ◌∙◌, ◌≡◌, ◌≤◌}
 
 module _ (ms : List Move) (first : ℕ) where
   pub run_one : first < length ms → IsRun ms first (first + 1)
@@ -53,9 +53,9 @@ module _ (ms : List Move) (first : ℕ) where
         (ap (λ j. (move_at ms j).from.0 / REGION) same, ap (λ j. (move_at ms j).to.0 / REGION) same)
   ]
 
-module _ (place : Addr → Addr) (source : Contents) (ms : List Move) (first : ℕ) where
+module _ (forwarding : Addr → Addr) (source : Contents) (ms : List Move) (first : ℕ) where
   -- the allocation pointer rises by the cells of what was put, of which each object has some
-  pub run_fill : (n : ℕ) (r : Contents) → (put_run place source ms first n r).fill
+  pub run_fill : (n : ℕ) (r : Contents) → (put_run forwarding source ms first n r).fill
       ≡ r.fill + cells_run source ms first n
   unfolding put_run cells_run
   run_fill zero r = omega arith
@@ -63,7 +63,7 @@ module _ (place : Addr → Addr) (source : Contents) (ms : List Move) (first : �
       omega (
         arith,
         run_fill n r,
-        length-map (object_of source ms (first + n)).fields (stored_place place),
+        length-map (object_of source ms (first + n)).fields (stored_forwarding forwarding),
       )
 
   pub run_many : (n : ℕ) → n ≤ cells_run source ms first n
@@ -73,32 +73,32 @@ module _ (place : Addr → Addr) (source : Contents) (ms : List Move) (first : �
 
   -- one copy more
   pub put_next : {k : ℕ} {old mid new : Contents} → first ≤ k → IsRun ms first (k + 1)
-      → mid ≡ put_run place source ms first (k - first) old
-      → AreLaidOut place source ms first (k - first) old
-      → new ≡ region_with_put mid (region_forwarded place (object_of source ms k)) → IsLaidOut new
-      → ArePut place source ms first (k + 1) old new
+      → mid ≡ put_run forwarding source ms first (k - first) old
+      → AreLaidOut forwarding source ms first (k - first) old
+      → new ≡ region_with_put mid (region_forwarded forwarding (object_of source ms k)) → IsLaidOut new
+      → ArePut forwarding source ms first (k + 1) old new
   unfolding put_run
   put_next {k} {old} {mid} {new} le run so_far before put laid =
       let at : k ≡ first + (k - first) = omega arith in
       let more : suc (k - first) ≡ k + 1 - first = omega arith in
-      let is : new ≡ put_run place source ms first (suc (k - first)) old =
-      put ∙ (λ i. region_with_put (so_far i) (region_forwarded place (object_of source ms (at i)))) in
+      let is : new ≡ put_run forwarding source ms first (suc (k - first)) old =
+      put ∙ (λ i. region_with_put (so_far i) (region_forwarded forwarding (object_of source ms (at i)))) in
       record {
         run = run;
-        is = is ∙ ap (λ n. put_run place source ms first n old) more;
+        is = is ∙ ap (λ n. put_run forwarding source ms first n old) more;
         laid_out = λ j below. elim (cases_lt j (k - first)) [
           | inl low ↦ before j low
           | inr from ↦
               let last : k - first ≡ j = omega arith in
-              subst (λ n. IsLaidOut (put_run place source ms first (suc n) old)) last (subst IsLaidOut is laid)
+              subst (λ n. IsLaidOut (put_run forwarding source ms first (suc n) old)) last (subst IsLaidOut is laid)
         ];
       }
 
   pub put_first : {old new : Contents} → first < length ms
-      → new ≡ region_with_put old (region_forwarded place (object_of source ms first)) → IsLaidOut new
-      → ArePut place source ms first (first + 1) old new
+      → new ≡ region_with_put old (region_forwarded forwarding (object_of source ms first)) → IsLaidOut new
+      → ArePut forwarding source ms first (first + 1) old new
   unfolding put_run
   put_first {old} within put laid =
       let none : zero ≡ first - first = omega arith in
-      put_next (omega arith) (run_one ms first within) (ap (λ n. put_run place source ms first n old) none)
-      (λ j below. absurd (omega arith)) put laid
+      put_next (omega arith) (run_one ms first within)
+      (ap (λ n. put_run forwarding source ms first n old) none) (λ j below. absurd (omega arith)) put laid

@@ -20,7 +20,7 @@ abbrev pub empty_heap : ℕ → Heap
 empty_heap limit = record {
   objects = map.empty;
   regions = map.empty;
-  spare = [];
+  free = [];
   limit = limit;
   cards = set.empty;
 }
@@ -55,14 +55,14 @@ AreFull h = (r : ℕ) → is_in_use h r ≡ true → region_generation h r ≡ 0
 -- free one; with none free, memory is taken for one
 pub record IsMade (old new : Heap) (at : Addr) (o : Placed) : Type 0 where
   pub fits : used_of old + cells_of o ≤ old.limit
-  pub place : at.0 ≡ region_of at * REGION + (region_at old (region_of at)).fill
+  pub address : at.0 ≡ region_of at * REGION + (region_at old (region_of at)).fill
   pub was_free : has_object old at ≡ false
   pub young : region_generation old (region_of at) ≡ 0
   pub full : is_in_use old (region_of at) ≡ false → AreFull old
-  pub first : is_in_use old (region_of at) ≡ false → 0 < length old.spare
-      → region_of at ≡ slice_index old.spare 0
+  pub first : is_in_use old (region_of at) ≡ false → 0 < length old.free
+      → region_of at ≡ slice_index old.free 0
   pub made : new ≡ record (with_put old (region_of at) 0 o) {
-    spare = if is_in_use old (region_of at) then old.spare else drop 1 old.spare;
+    free = if is_in_use old (region_of at) then old.free else drop 1 old.free;
   }
 
 -- nothing is changed; the heap is full exactly where the limit does not allow `cells` more cells
@@ -72,9 +72,9 @@ IsRefused old new cells (Full used size) = (new ≡ old) × (used ≡ used_of ol
 IsRefused old new cells Memory = (new ≡ old) × (used_of old + cells ≤ old.limit)
 
 -- memory is asked for only where no region is free
-abbrev pub LacksSpare : Heap → NewFault → Type 0
-LacksSpare h (Full used size) = Unit {0}
-LacksSpare h Memory = h.spare ≡ []
+abbrev pub LacksFree : Heap → NewFault → Type 0
+LacksFree h (Full used size) = Unit {0}
+LacksFree h Memory = h.free ≡ []
 
 -- the object with another reference in field i
 abbrev pub with_field : Placed → ℕ → Option Addr → Placed
@@ -124,7 +124,7 @@ is_condemned h n a = has_object h a && nat_le (generation_at (object_at h) a) n
 abbrev pub with_fresh : Heap → ℕ → ℕ → Heap
 with_fresh h r generation = record h {
   regions = map.insert h.regions r (record { generation = generation; fill = 0 });
-  spare = drop 1 h.spare;
+  free = drop 1 h.free;
 }
 
 -- an object is in the heap a second time, after all others of a region
@@ -150,18 +150,19 @@ abbrev pub without_region : Heap → ℕ → Heap
 without_region h r = record h {
   objects = map.retain_keys h.objects (λ a. not (nat_eq (a / REGION) r));
   regions = map.remove h.regions r;
-  spare = h.spare ++ r ∷ [];
+  free = h.free ++ r ∷ [];
   cards = set.retain h.cards (λ c. not (nat_eq (c / CARDS) r));
 }
 
 -- an object whose fields hold forwarding addresses
 abbrev pub forwarded : (Addr → Addr) → Placed → Placed
-forwarded place o = record o { fields = each (option_map place) o.fields }
+forwarded forwarding o = record o { fields = each (option_map forwarding) o.fields }
 
 -- an object is in the heap a second time, after all others of a region; the fields of the copy hold
 -- forwarding addresses
 abbrev pub with_moved : Heap → Addr → ℕ → (Addr → Addr) → Heap
-with_moved h from r place = with_put h r (region_generation h r) (forwarded place (placed_at h from))
+with_moved h from r forwarding =
+    with_put h r (region_generation h r) (forwarded forwarding (placed_at h from))
 
 -- a field of an object references one of a generation below n
 pub record NamesBelow (h : Heap) (at : Addr) (n : ℕ) : Type 0 where

@@ -1,10 +1,8 @@
 pub mod Sound
 pub mod Calls
-pub mod Places
+pub mod Indexes
 pub mod Areas
-pub mod Kept
-pub mod Steps
-pub mod Forwarding
 pub mod Moves
 pub mod Runs
 pub mod Walks
+pub mod Inside

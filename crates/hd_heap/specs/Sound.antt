@@ -26,9 +26,9 @@ pub record IsSound (h : Heap) : Type 0 where
   pub fills : (r : ℕ) → is_in_use h r ≡ true → (region_at h r).fill ≤ REGION
   pub generations : (r : ℕ) → is_in_use h r ≡ true → (region_at h r).generation ≤ OLDEST
   pub numbers : (r : ℕ) → is_in_use h r ≡ true → (0 < r) × (r < REGIONS)
-  pub spare_numbers : (i : ℕ) → i < length h.spare
-      → (0 < slice_index h.spare i) × (slice_index h.spare i < REGIONS)
-  pub spare_free : (i : ℕ) → i < length h.spare → is_in_use h (slice_index h.spare i) ≡ false
-  pub spare_apart : (i j : ℕ) → i < j → j < length h.spare → slice_index h.spare i ≢ slice_index h.spare j
+  pub free_numbers : (i : ℕ) → i < length h.free
+      → (0 < slice_index h.free i) × (slice_index h.free i < REGIONS)
+  pub free_unused : (i : ℕ) → i < length h.free → is_in_use h (slice_index h.free i) ≡ false
+  pub free_apart : (i j : ℕ) → i < j → j < length h.free → slice_index h.free i ≢ slice_index h.free j
   pub cards : (c : ℕ) → is_set h c ≡ true → StartsIn h c
   pub few_objects : len h.objects < 2 ^ 32

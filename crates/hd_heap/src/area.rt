@@ -5,11 +5,11 @@ ghost use Rattle.std.specs.FinMap as map;
 ghost use Rattle.hd_cells.specs.Object.{new_object, size_of};
 ghost use Rattle.hd_cells.specs.Region.{IsFirstFrom, IsLaidOut, IsObject, empty_region};
 ghost use Rattle.hd_cells.specs.Region.{object_at, with_object};
-ghost use Rattle.hd_heap.specs.Areas.{contents, card_in, BeginsIn, IsArea};
-ghost use Rattle.hd_heap.specs.Steps.{wants, HasPart, IsAsked, IsFirstAt, IsFirstSince, IsTaken};
-ghost use Rattle.hd_heap.specs.Steps.{IsFreed, area_put, area_written, region_with_part, registers};
-ghost use Rattle.hd_heap.specs.Runs.{area_run, cells_run, AreLaidOut, IsRun, MayPutRun};
-ghost use Rattle.hd_heap.specs.Forwarding.{region_forwarded, MayForward};
+ghost use Rattle.hd_heap.specs.{Areas.contents, Areas.card_in, Inside.BeginsIn, Inside.IsArea};
+ghost use Rattle.hd_heap.specs.Inside.{wants, HasPart, IsAsked, IsFirstAt, IsFirstSince, IsTaken};
+ghost use Rattle.hd_heap.specs.Inside.{IsFreed, area_put, area_written, region_with_part, registers};
+ghost use Rattle.hd_heap.specs.{Inside.area_run, Inside.cells_run, Inside.AreLaidOut, Inside.MayPutRun, Runs.IsRun};
+ghost use Rattle.hd_heap.specs.Inside.{region_forwarded, MayForward};
 
 use crate::forwarding::{copy_run, forward_fields};
 use crate::moves::Move;
@@ -33,7 +33,8 @@ pub(crate) struct Area {
     pub(crate) count: u32,
 }
 
-/// What a walk returns: any object, or one of a generation above a number that starts in a set card.
+/// What a walk returns: any object, or one of a generation above a number that starts in a set
+/// card.
 #[derive(Clone, Copy)]
 pub(crate) enum Wanted {
     Any,
@@ -92,7 +93,7 @@ fn write_part(region: &mut Region, at: u32, part: Part)
 
 impl Area {
     /// A free region without objects.
-    pub(crate) fn spare(region: Box<Region>) -> Area
+    pub(crate) fn free(region: Box<Region>) -> Area
         requires empty { region.value ≡ empty_region }
         requires laid_out { IsLaidOut region.value }
         ensures area { IsArea result }
@@ -183,10 +184,10 @@ impl Area {
             MayPutRun kept (contents source.now) (contents self.old) moves.now first }
         requires laid { F.laid forward.now }
         ensures run { IsRun moves.now first result.0 }
-        ensures put { let place = F.place forward.now in let n = result.0 - first in
-            self.new ≡ area_run place (contents source.now) moves.now first n self.old }
-        ensures laid_out { let place = F.place forward.now in let n = result.0 - first in
-            AreLaidOut place (contents source.now) moves.now first n (contents self.old) }
+        ensures put { let forwarding = F.forwarding forward.now in let n = result.0 - first in
+            self.new ≡ area_run forwarding (contents source.now) moves.now first n self.old }
+        ensures laid_out { let forwarding = F.forwarding forward.now in let n = result.0 - first in
+            AreLaidOut forwarding (contents source.now) moves.now first n (contents self.old) }
         ensures cells { let n = result.0 - first in
             result.1 ≡ cells_run (contents source.now) moves.now first n }
     {
@@ -206,7 +207,8 @@ impl Area {
         requires kept { MayForward (F.kept forward.now) (object_at (contents self.old) at).fields }
         ensures area { IsArea self.new }
         ensures written { let object = object_at (contents self.old) at in
-            self.new ≡ area_written self.old at (region_forwarded (F.place forward.now) object) }
+            self.new ≡ area_written self.old at
+            (region_forwarded (F.forwarding forward.now) object) }
     {
         let fields = self.region.fields(at);
         forward_fields(&mut self.region, at, fields, forward);

@@ -7,7 +7,7 @@ ghost use Rattle.hd_heap.specs.Calls.{IsExtent, IsFirstIn, IsRegionWalk, region_
 ghost use Rattle.hd_heap.specs.Walks.{end_in};
 ghost use Rattle.hd_heap.specs.Sound.{IsSound};
 
-use crate::heap::{Heap, address_in, place_of};
+use crate::heap::{Heap, address_in, index_of};
 use hd_cells::Region;
 use hd_model::Addr;
 use hd_model::limits::HEADER;
@@ -15,7 +15,7 @@ use std::marker::Model;
 use std::snapshot::Snapshot;
 
 /// What the header of an object says: where it begins, the number of its fields, and whether it is
-/// registered for finalisation.
+/// registered for finalization.
 #[derive(Clone, Copy, Debug, PartialEq, Eq)]
 pub struct ObjectHeader {
     pub at: Addr,
@@ -54,8 +54,8 @@ impl Heap {
             regions: 0,
             end: self.areas.len() as u32 + 1,
         };
-        for place in 0..self.areas.len() {
-            let area = &self.areas[place];
+        for index in 0..self.areas.len() {
+            let area = &self.areas[index];
             if area.has_condemned(n) {
                 extent.objects += area.count;
                 extent.cells += area.live;
@@ -71,9 +71,9 @@ impl Heap {
         ensures walk { IsRegionWalk self.now n after result }
         ensures sound { IsSound self.now }
     {
-        for place in after as usize..self.areas.len() {
-            if self.areas[place].has_condemned(n) {
-                return Some(place as u32 + 1);
+        for index in after as usize..self.areas.len() {
+            if self.areas[index].has_condemned(n) {
+                return Some(index as u32 + 1);
             }
         }
         None
@@ -84,7 +84,7 @@ impl Heap {
         requires { is_in_use self.now region ≡ true }
         ensures { result ≡ region_generation self.now region }
     {
-        self.areas[place_of(region)].generation
+        self.areas[index_of(region)].generation
     }
 
     /// A region in use, by its number; none where there is none in use of that number.
@@ -96,11 +96,11 @@ impl Heap {
         if region == 0 {
             return None;
         }
-        let place = place_of(region);
-        if place >= regions {
+        let index = index_of(region);
+        if index >= regions {
             return None;
         }
-        let area = &self.areas[place];
+        let area = &self.areas[index];
         if !area.held {
             return None;
         }
@@ -116,7 +116,7 @@ impl Heap {
         requires card { card < CARDS }
         ensures { result ≡ is_set self.now (region * CARDS + card) }
     {
-        self.areas[place_of(region)].cards[card as usize]
+        self.areas[index_of(region)].cards[card as usize]
     }
 
     /// A walk over the objects of a region in use.
@@ -127,7 +127,7 @@ impl Heap {
         RegionObjects {
             heap: Snapshot::of(self),
             region,
-            objects: &self.areas[place_of(region)].region,
+            objects: &self.areas[index_of(region)].region,
             end: 0,
         }
     }
@@ -145,7 +145,7 @@ pub struct RegionObjects<'h> {
 }
 
 impl<'h> Model for RegionObjects<'h> {
-    ghost use Rattle.hd_heap.specs.Walks.{WalkOf, walk_code, IsWalkIn};
+    ghost use Rattle.hd_heap.specs.{Walks.WalkOf, Walks.walk_code, Inside.IsWalkIn};
 
     ghost Value = { WalkOf };
 

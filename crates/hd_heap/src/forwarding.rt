@@ -3,8 +3,8 @@ ghost use Rattle.std.specs.Prelude.{◌≡◌, ◌≢◌, ◌≤◌, ◌+◌, tr
 ghost use Rattle.hd_cells.specs.Object.{size_of};
 ghost use Rattle.hd_cells.specs.Region.{IsLaidOut, IsObject, fields_at, object_at, with_object, with_put};
 ghost use Rattle.hd_model.specs.Heap.{offset_of};
-ghost use Rattle.hd_heap.specs.Forwarding.{stored_place, region_forwarded, MayForward};
-ghost use Rattle.hd_heap.specs.Runs.{goes_with, ArePut, MayPutRun};
+ghost use Rattle.hd_heap.specs.Inside.{stored_forwarding, region_forwarded, MayForward};
+ghost use Rattle.hd_heap.specs.{Runs.goes_with, Inside.ArePut, Inside.MayPutRun};
 
 use crate::moves::Move;
 use hd_cells::Region;
@@ -12,10 +12,10 @@ use hd_model::limits::REGION;
 use hd_model::{Addr, Forward};
 
 /// The forwarding address in a field as it is stored.
-fn stored_place<F: Forward>(cell: u32, forward: &F) -> u32
+fn stored_forwarding<F: Forward>(cell: u32, forward: &F) -> u32
     requires laid { F.laid forward.now }
     requires kept { cell ≢ 0 → F.kept forward.now (record { 0 = cell }) ≡ true }
-    ensures { result ≡ stored_place (F.place forward.now) cell }
+    ensures { result ≡ stored_forwarding (F.forwarding forward.now) cell }
 {
     if cell == 0 {
         0
@@ -33,13 +33,13 @@ pub(crate) fn forward_fields<F: Forward>(region: &mut Region, at: u32, fields: u
     requires laid { F.laid forward.now }
     requires kept { MayForward (F.kept forward.now) (object_at region.old at).fields }
     ensures written { let after =
-        region_forwarded (F.place forward.now) (object_at region.old at) in
+        region_forwarded (F.forwarding forward.now) (object_at region.old at) in
         region.new ≡ with_object region.old at after }
     ensures laid_out { IsLaidOut region.new }
 {
     for i in 0..fields {
         let field = region.field(at, i);
-        region.set_field(at, i, stored_place(field, forward));
+        region.set_field(at, i, stored_forwarding(field, forward));
     }
 }
 
@@ -55,8 +55,8 @@ pub(crate) fn copy_run<F: Forward>(
 ) -> usize
     requires run { MayPutRun (F.kept forward.now) source.now region.old moves.now first }
     requires laid { F.laid forward.now }
-    ensures { let place = F.place forward.now in
-        ArePut place source.now moves.now first result region.old region.new }
+    ensures { let forwarding = F.forwarding forward.now in
+        ArePut forwarding source.now moves.now first result region.old region.new }
 {
     copy_forwarded(region, source, moves[first].from, forward);
     let mut k = first + 1;
@@ -67,8 +67,8 @@ pub(crate) fn copy_run<F: Forward>(
     k
 }
 
-// Whether the object of a move goes after the one before it, from the same region as another one and
-// to the same.
+// Whether the object of a move goes after the one before it, from the same region as another one
+// and to the same.
 #[inline(always)]
 #[tactic(auto, unfolding(hd_model::specs::Heap::region_of))]
 fn goes_with(moves: &[Move], k: usize, head: Move) -> bool
@@ -93,7 +93,7 @@ fn copy_forwarded<F: Forward>(region: &mut Region, source: &Region, from: Addr, 
     requires kept { MayForward (F.kept forward.now)
         (object_at source.now (offset_of from)).fields }
     ensures put { let copy = object_at source.now (offset_of from) in
-        region.new ≡ with_put region.old (region_forwarded (F.place forward.now) copy) }
+        region.new ≡ with_put region.old (region_forwarded (F.forwarding forward.now) copy) }
     ensures laid_out { IsLaidOut region.new }
 {
     let fields = source.fields(from.0 % REGION);

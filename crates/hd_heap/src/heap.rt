@@ -11,15 +11,15 @@ ghost use Rattle.hd_model.specs.Heap.{has_object, object_at, placed_at, cells_of
 ghost use Rattle.hd_model.specs.Heap.{is_in_use, is_set, region_at, region_of, offset_of, region_generation, card_of};
 ghost use Rattle.hd_heap.specs.Sound.{IsSound};
 ghost use Rattle.hd_heap.specs.Calls.{empty_heap, new_object, with_object, with_put, with_field};
-ghost use Rattle.hd_heap.specs.Calls.{IsMade, IsRefused, LacksSpare, AreFull};
+ghost use Rattle.hd_heap.specs.Calls.{IsMade, IsRefused, LacksFree, AreFull};
 ghost use Rattle.hd_heap.specs.Calls.{stored, is_younger, with_card, IsWalk, is_old_carded};
 ghost use Rattle.hd_heap.specs.Calls.{with_fresh, with_copy, IsRemoved, with_generation};
 ghost use Rattle.hd_heap.specs.Calls.{forwarded, without_region, NamesBelow};
-ghost use Rattle.hd_heap.specs.Areas.{address, contents, IsArea};
-ghost use Rattle.hd_heap.specs.Steps.{HasPart, HasRoom, IsObjectOf, IsRoom, with_part};
-ghost use Rattle.hd_heap.specs.Steps.{is_wanted, IsLeastBetween, IsLeastFrom};
-ghost use Rattle.hd_heap.specs.Steps.{is_below};
-ghost use Rattle.hd_heap.specs.Runs.{run_copied, ArePutBetween, IsRun, MayPutRun, MayRun};
+ghost use Rattle.hd_heap.specs.{Areas.address, Areas.contents, Inside.IsArea};
+ghost use Rattle.hd_heap.specs.Inside.{HasPart, HasRoom, IsObjectOf, IsRoom, with_part};
+ghost use Rattle.hd_heap.specs.Inside.{is_wanted, IsLeastBetween, IsLeastFrom};
+ghost use Rattle.hd_heap.specs.Inside.{is_below};
+ghost use Rattle.hd_heap.specs.{Runs.run_copied, Runs.IsRun, Runs.MayRun, Inside.ArePutBetween, Inside.MayPutRun};
 
 use crate::NewFault;
 use crate::area::{Area, Part, Wanted};
@@ -39,14 +39,14 @@ use std::marker::Model;
 pub struct Heap {
     alloc: Global,
     pub(crate) areas: Vec<Area>,
-    spare: VecDeque<u32>,
+    free: VecDeque<u32>,
     limit: u32,
     used: u32,
     count: u32,
     held: u32,
     // The region of the last new object, or 0 where other ones may have room for the next.
     current: u32,
-    // Whether a card may be set, and whether an object may be registered for finalisation.
+    // Whether a card may be set, and whether an object may be registered for finalization.
     carding: bool,
     registering: bool,
 }
@@ -61,19 +61,19 @@ impl Model for Heap {
 
     ghost use Rattle.std.specs.VecDeque.{deque_capacity};
     ghost use Rattle.hd_heap.specs.Areas.{heap_of};
-    ghost use Rattle.hd_heap.specs.Kept.{IsKept};
-    ghost use Rattle.hd_heap.specs.Steps.{AreOthersFull, HasFlags};
+    ghost use Rattle.hd_heap.specs.Inside.{IsKept};
+    ghost use Rattle.hd_heap.specs.Inside.{AreOthersFull, HasFlags};
 
-    ghost view = { λ h. heap_of h.areas.items h.spare.items h.limit };
+    ghost view = { λ h. heap_of h.areas.items h.free.items h.limit };
 
-    ghost invariant = { λ h. IsKept h.areas.items h.spare.items (deque_capacity h.spare)
+    ghost invariant = { λ h. IsKept h.areas.items h.free.items (deque_capacity h.free)
         h.used h.count h.held
-        × AreOthersFull (heap_of h.areas.items h.spare.items h.limit) h.current
-        × HasFlags (heap_of h.areas.items h.spare.items h.limit) h.carding h.registering };
+        × AreOthersFull (heap_of h.areas.items h.free.items h.limit) h.current
+        × HasFlags (heap_of h.areas.items h.free.items h.limit) h.carding h.registering };
 }
 
 /// The index in the heap's list of a region, by its number from 1 on.
-pub(crate) fn place_of(region: u32) -> usize
+pub(crate) fn index_of(region: u32) -> usize
     ensures { result ≡ region - 1 }
 {
     region.saturating_sub(1) as usize
@@ -118,8 +118,8 @@ pub(crate) fn address_of(cell: u32) -> Option<Addr>
 }
 
 /// Copies the objects of some moves from a region of the list to another one, with forwarding
-/// addresses, as far as they go with the one at an index. Returns the index after them and the cells
-/// that they take.
+/// addresses, as far as they go with the one at an index. Returns the index after them and the
+/// cells that they take.
 fn copy_between<F: Forward>(
     areas: &mut [Area],
     source: usize,
@@ -136,8 +136,8 @@ fn copy_between<F: Forward>(
         → b ≡ slice_index_or areas.old target b → let kept = F.kept forward.now in
         IsArea b × MayPutRun kept (contents a) (contents b) moves.now first }
     ensures run { IsRun moves.now first result.0 }
-    ensures put { let place = F.place forward.now in let n = result.0 - first in
-        ArePutBetween place areas.old areas.new source target moves.now first n result.1 }
+    ensures put { let index = F.forwarding forward.now in let n = result.0 - first in
+        ArePutBetween index areas.old areas.new source target moves.now first n result.1 }
 {
     if source < target {
         let (low, high) = areas.split_at_mut(target);
@@ -157,7 +157,7 @@ impl Heap {
         Ok(Heap {
             alloc,
             areas: Vec::new(alloc),
-            spare: VecDeque::new(alloc),
+            free: VecDeque::new(alloc),
             limit,
             used: 0,
             count: 0,
@@ -176,7 +176,7 @@ impl Heap {
         ensures made { MatchResult result
             (λ at. IsMade self.old self.new at (new_object id fields registered))
             (λ fault. IsRefused self.old self.new (fields + HEADER) fault) }
-        ensures spare { IfErr result (LacksSpare self.old) }
+        ensures free { IfErr result (LacksFree self.old) }
     {
         let size = fields + HEADER;
         let used = self.used();
@@ -300,7 +300,7 @@ impl Heap {
     {
         let card = (offset_of(at) / CARD) as usize;
         self.carding = noted(self.carding, on);
-        self.areas[place_of(at.0 / REGION)].cards[card] = on;
+        self.areas[index_of(at.0 / REGION)].cards[card] = on;
     }
 
     /// Notes that no card is set, so that walks over set cards end at once until one is.
@@ -311,7 +311,7 @@ impl Heap {
         self.carding = false;
     }
 
-    /// Whether an object may be registered for finalisation, as far as can be said without a look
+    /// Whether an object may be registered for finalization, as far as can be said without a look
     /// at any: false before the first that was.
     pub fn may_have_registered(&self) -> bool
         ensures none { result ≡ false → (a : Addr) → has_object self.now a ≡ true →
@@ -392,38 +392,38 @@ impl Heap {
     /// Takes memory for free regions, so that there are at least `count`. Where memory runs out,
     /// those that were taken stay free.
     pub fn reserve_regions(&mut self, count: u32) -> Result<(), Memory>
-        ensures same { self.new ≡ record self.old { spare = self.new.spare } }
-        ensures kept { take (length self.old.spare) self.new.spare ≡ self.old.spare }
+        ensures same { self.new ≡ record self.old { free = self.new.free } }
+        ensures kept { take (length self.old.free) self.new.free ≡ self.old.free }
         ensures enough { MatchResult result
-            (λ _. length self.new.spare ≡ max count (length self.old.spare))
-            (λ _. length self.new.spare < count) }
+            (λ _. length self.new.free ≡ max count (length self.old.free))
+            (λ _. length self.new.free < count) }
     {
-        while self.spare_len() < count {
-            self.add_spare()?;
+        while self.free_len() < count {
+            self.add_free_region()?;
         }
         Ok(())
     }
 
     /// The number of the region that the `i`-th later `fresh` returns, from 0.
     pub fn spare_number(&self, i: u32) -> u32
-        requires { i < length self.now.spare }
-        ensures { result ≡ slice_index self.now.spare i }
+        requires { i < length self.now.free }
+        ensures { result ≡ slice_index self.now.free i }
     {
-        self.spare[i as usize]
+        self.free[i as usize]
     }
 
     /// Takes the first free region into use, which has no object and no set card, and returns its
     /// number.
     pub fn fresh(&mut self, generation: u8) -> u32
-        requires spare { 0 < length self.old.spare }
+        requires free { 0 < length self.old.free }
         requires generation { generation ≤ OLDEST }
-        ensures number { result ≡ slice_index self.old.spare 0 }
+        ensures number { result ≡ slice_index self.old.free 0 }
         ensures was_free { is_in_use self.old result ≡ false }
         ensures held { self.new ≡ with_fresh self.old result generation }
     {
-        let number = self.spare[0];
-        let _ = self.spare.pop_front();
-        self.areas[place_of(number)].hold(generation);
+        let number = self.free[0];
+        let _ = self.free.pop_front();
+        self.areas[index_of(number)].hold(generation);
         self.held += 1;
         self.current = still_current(self.current, generation);
         number
@@ -436,7 +436,7 @@ impl Heap {
         requires held { is_in_use self.old region ≡ true }
         requires room { let fill = (region_at self.old region).fill in
             fill + cells_of (placed_at self.old from) ≤ REGION }
-        ensures place { result.0 ≡ region * REGION + (region_at self.old region).fill }
+        ensures address { result.0 ≡ region * REGION + (region_at self.old region).fill }
         ensures was_free { has_object self.old result ≡ false }
         ensures copied { self.new ≡ with_copy self.old from region }
     {
@@ -445,7 +445,7 @@ impl Heap {
         let mut copy = Region::empty();
         let first = copy.put_copy(&area.region, offset);
         let cells = copy.fill();
-        let end = self.areas[place_of(region)].put_copy(&copy, first);
+        let end = self.areas[index_of(region)].put_copy(&copy, first);
         self.used += cells;
         self.count += 1;
         address_in(region, end)
@@ -453,18 +453,20 @@ impl Heap {
 
     /// Copies the object of the move at an index, and those of the moves after it as far as they go
     /// with it from its region to one other, each after all others of that one, with the forwarding
-    /// addresses of what they reference in their fields. They are in the heap twice from then on. No
-    /// card is set. Returns the index after these moves.
+    /// addresses of what they reference in their fields. They are in the heap twice from then on.
+    /// No card is set. Returns the index after these moves.
     pub fn copy_run<F: Forward>(&mut self, moves: &[Move], first: usize, forward: &F) -> usize
-        requires run { MayRun (F.kept forward.now) (F.place forward.now) self.old moves.now first }
+        requires run { MayRun (F.kept forward.now) (F.forwarding forward.now) self.old moves.now
+            first }
         requires laid { F.laid forward.now }
-        requires places { (y : Addr) → F.kept forward.now y ≡ true → (F.place forward.now y).0 ≢ 0 }
+        requires forwardings { (y : Addr) → F.kept forward.now y ≡ true
+            → (F.forwarding forward.now y).0 ≢ 0 }
         ensures run { IsRun moves.now first result }
-        ensures copied { let place = F.place forward.now in
-            self.new ≡ run_copied place self.old moves.now first (result - first) }
+        ensures copied { let index = F.forwarding forward.now in
+            self.new ≡ run_copied index self.old moves.now first (result - first) }
     {
-        let source = place_of(moves[first].from.0 / REGION);
-        let target = place_of(moves[first].to.0 / REGION);
+        let source = index_of(moves[first].from.0 / REGION);
+        let target = index_of(moves[first].to.0 / REGION);
         let (end, cells) = copy_between(&mut self.areas, source, target, moves, first, forward);
         self.used += cells;
         self.count += (end - first) as u32;
@@ -478,12 +480,12 @@ impl Heap {
         requires laid { F.laid forward.now }
         requires kept { (y : Addr) → IsField (object_at self.old) at y
             → F.kept forward.now y ≡ true }
-        requires places { (y : Addr) → IsField (object_at self.old) at y
-            → (F.place forward.now y).0 ≢ 0 }
-        ensures { let after = forwarded (F.place forward.now) (placed_at self.old at) in
+        requires forwardings { (y : Addr) → IsField (object_at self.old) at y
+            → (F.forwarding forward.now y).0 ≢ 0 }
+        ensures { let after = forwarded (F.forwarding forward.now) (placed_at self.old at) in
             self.new ≡ with_object self.old at after }
     {
-        self.areas[place_of(at.0 / REGION)].forward_fields(offset_of(at), forward);
+        self.areas[index_of(at.0 / REGION)].forward_fields(offset_of(at), forward);
     }
 
     /// Removes the object at `at`. Fields that reference it stay as they are.
@@ -491,7 +493,7 @@ impl Heap {
         requires { has_object self.old at ≡ true }
         ensures { IsRemoved self.old self.new at }
     {
-        let cells = self.areas[place_of(at.0 / REGION)].remove(offset_of(at));
+        let cells = self.areas[index_of(at.0 / REGION)].remove(offset_of(at));
         self.used -= cells;
         self.count -= 1;
     }
@@ -502,7 +504,7 @@ impl Heap {
         requires generation { generation ≤ OLDEST }
         ensures { self.new ≡ with_generation self.old region generation }
     {
-        self.areas[place_of(region)].generation = generation;
+        self.areas[index_of(region)].generation = generation;
         self.current = still_current(self.current, generation);
     }
 
@@ -512,7 +514,7 @@ impl Heap {
         requires no_object { (a : Addr) → has_object self.old a ≡ true → region_of a ≢ region }
         ensures { self.new ≡ record self.old {
           regions = map.remove self.old.regions region;
-          spare = self.old.spare ++ region ∷ [];
+          free = self.old.free ++ region ∷ [];
         } }
     {
         // The result is not used: the call states to the proof what every heap keeps.
@@ -526,24 +528,24 @@ impl Heap {
         requires held { is_in_use self.old region ≡ true }
         ensures { self.new ≡ without_region self.old region }
     {
-        let (cells, objects) = self.areas[place_of(region)].give_up();
+        let (cells, objects) = self.areas[index_of(region)].give_up();
         self.used -= cells;
         self.count -= objects;
         self.held -= 1;
-        self.spare.push_back_reserved(region);
+        self.free.push_back_reserved(region);
     }
 
     /// The number of free regions.
-    fn spare_len(&self) -> u32
-        ensures { result ≡ length self.now.spare }
+    fn free_len(&self) -> u32
+        ensures { result ≡ length self.now.free }
     {
-        self.spare.len() as u32
+        self.free.len() as u32
     }
 
     /// Takes memory for one more free region.
-    fn add_spare(&mut self) -> Result<(), Memory>
+    fn add_free_region(&mut self) -> Result<(), Memory>
         ensures ok { OnOk result ((n : ℕ) × (self.new ≡ record self.old {
-          spare = self.old.spare ++ n ∷ [];
+          free = self.old.free ++ n ∷ [];
         })) }
         ensures err { OnErr result (self.new ≡ self.old) }
     {
@@ -554,14 +556,14 @@ impl Heap {
         if self.areas.reserve(1).is_err() {
             return Err(Memory);
         }
-        if self.spare.reserve(number - self.spare.len()).is_err() {
+        if self.free.reserve(number - self.free.len()).is_err() {
             return Err(Memory);
         }
         let Ok(region) = Box::new(self.alloc, Region::empty()) else {
             return Err(Memory);
         };
-        self.areas.push_reserved(Area::spare(region));
-        self.spare.push_back_reserved(number as u32);
+        self.areas.push_reserved(Area::free(region));
+        self.free.push_back_reserved(number as u32);
         Ok(())
     }
 
@@ -571,7 +573,7 @@ impl Heap {
         requires { size ≤ FIELDS + HEADER }
         ensures ok { IfOk result (λ region. IsRoom self.old self.new region size) }
         ensures err { OnErr result (self.new ≡ self.old) }
-        ensures none { OnErr result (self.old.spare ≡ []) }
+        ensures none { OnErr result (self.old.free ≡ []) }
     {
         if let Some(region) = self.open_region(size) {
             return Ok(region);
@@ -603,9 +605,9 @@ impl Heap {
         requires { size ≤ FIELDS + HEADER }
         ensures { MatchOption result (AreFull self.now) (λ region. HasRoom self.now region size) }
     {
-        for place in 0..self.areas.len() {
-            if self.has_room(place as u32 + 1, size) {
-                return Some(place as u32 + 1);
+        for index in 0..self.areas.len() {
+            if self.has_room(index as u32 + 1, size) {
+                return Some(index as u32 + 1);
             }
         }
         None
@@ -619,7 +621,7 @@ impl Heap {
         if region == 0 || region as usize > self.areas.len() {
             return false;
         }
-        let area = &self.areas[place_of(region)];
+        let area = &self.areas[index_of(region)];
         if !area.held {
             return false;
         }
@@ -635,14 +637,14 @@ impl Heap {
         requires few_fields { fields ≤ FIELDS }
         requires held { is_in_use self.old region ≡ true }
         requires room { (region_at self.old region).fill + (fields + HEADER) ≤ REGION }
-        ensures place { result.0 ≡ region * REGION + (region_at self.old region).fill }
+        ensures address { result.0 ≡ region * REGION + (region_at self.old region).fill }
         ensures region { region_of result ≡ region }
         ensures was_free { has_object self.old result ≡ false }
         ensures put { let generation = region_generation self.old region in
             self.new ≡ with_put self.old region generation (new_object id fields registered) }
     {
         self.registering = noted(self.registering, registered);
-        let offset = self.areas[place_of(region)].put(id.0, fields, registered);
+        let offset = self.areas[index_of(region)].put(id.0, fields, registered);
         self.used += fields + HEADER;
         self.count += 1;
         address_in(region, offset)
@@ -710,7 +712,7 @@ impl Heap {
             self.new ≡ with_object self.old at after }
     {
         self.registering = noted(self.registering, part.registers());
-        self.areas[place_of(at.0 / REGION)].write(offset_of(at), part);
+        self.areas[index_of(at.0 / REGION)].write(offset_of(at), part);
     }
 
     /// The first object past `after` that is wanted.
@@ -738,11 +740,11 @@ impl Heap {
         if at.0 < REGION {
             return None;
         }
-        let place = place_of(at.0 / REGION);
-        if place >= regions {
+        let index = index_of(at.0 / REGION);
+        if index >= regions {
             return None;
         }
-        match self.areas[place].wanted_after(offset_of(at), wanted) {
+        match self.areas[index].wanted_after(offset_of(at), wanted) {
             Some(offset) => Some(address_in(at.0 / REGION, offset)),
             None => None,
         }
@@ -753,9 +755,9 @@ impl Heap {
         ensures first { IsLeastFrom (is_wanted self.now wanted) ((first + 1) * REGION) result }
         ensures sound { IsSound self.now }
     {
-        for place in first..self.areas.len() {
-            if let Some(offset) = self.areas[place].first_wanted(wanted) {
-                return Some(address_in(place as u32 + 1, offset));
+        for index in first..self.areas.len() {
+            if let Some(offset) = self.areas[index].first_wanted(wanted) {
+                return Some(address_in(index as u32 + 1, offset));
             }
         }
         None

@@ -5,7 +5,7 @@ use Rattle.std.proofs.lemmas.Bool.{true≢false}
 use Rattle.std.proofs.lemmas.Option.{none-some}
 use Rattle.std.specs.FinMap.{empty}
 use Rattle.hd_model.proofs.{AgedRuns.nothing_at, HandleParts.not_live}
-use Rattle.hd_model.specs.{declared.command.Cmd.Cmd, declared.data.Entry.Entry, declared.data.Id.Id, declared.data.Refusal.Refusal, declared.data.Slot.Slot, Aging.is_refused, Places.with_places, Step.Step, Touched.touched_by, Valid.takes_memory}
+use Rattle.hd_model.specs.{declared.command.Cmd.Cmd, declared.data.Entry.Entry, declared.data.Id.Id, declared.data.Refusal.Refusal, declared.data.Slot.Slot, Aging.is_refused, PinnedAddresses.with_pinned, Step.Step, Touched.touched_by, Valid.takes_memory}
 use Rattle.hd_model.specs.declared.command.Cmd.TheVariants as cmd
 use Rattle.hd_model.specs.declared.data.Refusal.TheVariants as refusal
 use Rattle.hd_model.specs.declared.data.Reply.TheVariants as reply
@@ -13,7 +13,7 @@ use Rattle.hd_model.specs.State.{Handle, State, handle_at, handle_register_of}
 use Rattle.hd_store.specs.Store.{Machine}
 use Rattle.hd_host.specs.declared.fault.Fault.TheVariants as fault
 use Rattle.hd_host.specs.declared.handle.Handle.{Handle as Given}
-use Rattle.hd_host.specs.{Calls.FailsOf, Calls.IsRefused, Faults.fault_of, Handles.IsOf, Handles.IsStale, Handles.handle_of, Steps.HasStepped, Steps.pointed, View.HostView}
+use Rattle.hd_host.specs.{Calls.FailsOf, Calls.IsRefused, Handles.IsOf, Handles.IsStale, Handles.handle_of, Steps.HasStepped, Steps.pointed, View.HostView, Inside.fault_of}
 use Rattle.hd_host.proofs.{LiveHandles.finds_none, LiveHandles.live_found, SlotOfHandle.gone_stale, WholeHost.IsWhole}
 
 -- a command on a handle takes no memory
@@ -28,13 +28,13 @@ module _ {v : HostView} (whole : IsWhole v) (context : ℕ) (known : context < v
     (about : (touched_by c).handle ≡ Some 0) where
   -- the state in which the command is asked
   abbrev asked : State
-  asked = with_places (pointed v.machine context (Some slot)).state empty
+  asked = with_pinned (pointed v.machine context (Some slot)).state empty
 
   module _ {k : Machine} {e : Entry} (stepped : HasStepped v.machine context (Some slot) c k e) where
     goes : (t : State) × Step v.machine.numbers asked e t
     goes =
         let g = stepped.effect empty (λ x at found. absurd (nothing_at x at found)) in
-        (with_places stepped.after.state g.places, g.step)
+        (with_pinned stepped.after.state g.pinned, g.step)
 
     named : handle_register_of asked e.caller 0 ≡ Some slot
     named = subst (λ k. handle_register_of asked k 0 ≡ Some slot) (sym stepped.command_is.0)

@@ -4,7 +4,7 @@ use Rattle.std.specs.Prelude.{IfSome}
 use Rattle.hd_model.specs.{declared.command.Cmd.Cmd, declared.data.Slot.Slot, declared.limits.TheConstants.FIELDS, declared.limits.TheConstants.REGISTERS, State.State, State.last_serial, Touched.touched_by, Valid.IsValid}
 use Rattle.hd_model.specs.declared.command.Cmd.TheVariants as cmd
 use Rattle.hd_store.specs.Calls.{StaysWithin}
-use Rattle.hd_host.specs.{Calls.IsUnbounded, Calls.MayAsk, View.HostView}
+use Rattle.hd_host.specs.{Inside.IsUnbounded, Inside.MayAsk, View.HostView}
 
 pub stays_within : (s : State) (k : ℕ) (c : Cmd) → IsUnbounded c → StaysWithin s k c
 stays_within s k c other = record {

@@ -2,15 +2,15 @@
 use Rattle.std.proofs.Common.{List, Option, ap, cond, refl, subst, sym, true, ℕ, ◌*◌, ◌+◌, ◌<◌, ◌∙◌, ◌≡◌}
 use Rattle.std.proofs.lemmas.Bool.{true≢false}
 use Rattle.std.specs.{FinMap.empty, Prelude.IfSome}
-use Rattle.hd_model.specs.{declared.command.Cmd.Cmd, declared.data.Entry.Entry, declared.data.Refusal.Refusal, declared.data.Slot.Slot, Aging.is_refused, Places.with_places, State.Numbers, State.State, Touched.touched_by, Valid.takes_memory}
+use Rattle.hd_model.specs.{declared.command.Cmd.Cmd, declared.data.Entry.Entry, declared.data.Refusal.Refusal, declared.data.Slot.Slot, Aging.is_refused, PinnedAddresses.with_pinned, State.Numbers, State.State, Touched.touched_by, Valid.takes_memory}
 use Rattle.hd_model.specs.declared.command.Cmd.TheVariants as cmd
 use Rattle.hd_model.specs.declared.data.Reply.TheVariants as reply
 use Rattle.hd_model.specs.declared.limits.TheConstants.{ROWS}
 use Rattle.hd_pool.specs.Pool.{FreeSlots}
 use Rattle.hd_slots.specs.Change.{Offers, change_in, noted}
 use Rattle.hd_slots.specs.declared.change.Change.TheVariants.{Keeps}
-use Rattle.hd_store.specs.{Offers.HasLimits, Offers.RanOut, Places.Moves, Store.Machine}
-use Rattle.hd_host.specs.{declared.change.Change.Change, Changes.changed_by, Calls.FailsBy, Calls.RanOutOfMemory, Faults.fault_of, Inside.IsHost, Steps.HasMoved, Steps.HasStepped, Steps.pointed, View.HostView, View.IsAsItWas}
+use Rattle.hd_store.specs.{Offers.HasLimits, Offers.RanOut, PinnedAddresses.Moves, Store.Machine}
+use Rattle.hd_host.specs.{declared.change.Change.Change, Changes.changed_by, Calls.FailsBy, Calls.RanOutOfMemory, Steps.HasStepped, Steps.pointed, View.HostView, View.IsAsItWas, Inside.fault_of, Inside.IsHost, Inside.HasMoved}
 use Rattle.hd_host.proofs.CallPool.{moved, tied_on, takes_least}
 use Rattle.hd_host.proofs.EmptyRegisters.{OthersEmpty, others_pointed, others_stay, emptied}
 use Rattle.hd_host.proofs.Refused.{numbers_as_they_were, state_as_it_was, addresses_stay, ages_as_they_were, fails}
@@ -28,8 +28,8 @@ module _ (m : Machine) (p q : FreeSlots) (stamps : List ℕ) (host : IsHost m p 
 
   others : IfSome (touched_by c).handle_register (λ h. h ≡ 0) → OthersEmpty did.after.state context
   others first = subst (OthersEmpty did.after.state) did.called.command.0
-      (others_stay m.numbers (with_places (pointed m context slot).state empty) e
-      (with_places did.after.state goes.places) goes.step
+      (others_stay m.numbers (with_pinned (pointed m context slot).state empty) e
+      (with_pinned did.after.state goes.pinned) goes.step
       (subst (λ (x : Cmd). IfSome (touched_by x).handle_register (λ h. h ≡ 0)) (sym did.called.command.1) first)
       (subst (OthersEmpty (pointed m context slot).state) (sym did.called.command.0)
       (others_pointed m.state context slot (λ j h away. host.empty j h))))

@@ -2,14 +2,14 @@
 -- blocks that it takes and gives back are the least.
 use Rattle.std.proofs.Common.{None, Option, refl, subst, sym, ℕ, ◌<◌, ◌≡◌}
 use Rattle.std.specs.{Option.ForSome, FinMap.FinMap, FinMap.empty, Ordering.nat_cmp}
-use Rattle.hd_model.specs.{declared.command.Cmd.Cmd, declared.data.Entry.Entry, declared.data.Slot.Slot, Places.with_places, Run.TakesLeast, State.Numbers, State.State}
+use Rattle.hd_model.specs.{declared.command.Cmd.Cmd, declared.data.Entry.Entry, declared.data.Slot.Slot, PinnedAddresses.with_pinned, Run.TakesLeast, State.Numbers, State.State}
 use Rattle.hd_model.proofs.{WellFormedWrites.handle_register_keeps, AgedRuns.nothing_at}
 use Rattle.hd_pool.specs.Pool.{FreeSlots}
 use Rattle.hd_slots.specs.{declared.change.Change.Change, Change.Offers, Change.MayNote, Change.noted, Change.change_in, Tied.IsTied}
 use Rattle.hd_slots.proofs.PoolStep.{may_offer, by_change, takes_least_of}
-use Rattle.hd_store.specs.{Calls.HasCalled, Places.Moves, Store.Machine}
+use Rattle.hd_store.specs.{Calls.HasCalled, PinnedAddresses.Moves, Store.Machine}
 use Rattle.hd_store.specs.Offers.{GrowsUnoffered, IsOffer, Takes as TakesOffer}
-use Rattle.hd_store.proofs.{SoundCalls.unplaced, OfferPlaces.offer_placed, OfferPlaces.growth_placed}
+use Rattle.hd_store.proofs.{SoundCalls.unplaced, OfferAddresses.offer_placed, OfferAddresses.growth_placed}
 use Rattle.hd_host.specs.{Steps.pointed, View.state_in}
 
 -- what a handle register has is no matter to a pool
@@ -24,13 +24,13 @@ tied_pointed m p context slot known tied = record {
 }
 
 -- nor are pinned addresses
-tied_unplaced : (n : Numbers) (s : State) (places : FinMap nat_cmp ℕ) (p : FreeSlots)
-    → IsTied n (with_places s places) p → IsTied n (with_places s empty) p
-tied_unplaced n s places p tied = record {
+tied_unplaced : (n : Numbers) (s : State) (pinned : FinMap nat_cmp ℕ) (p : FreeSlots)
+    → IsTied n (with_pinned s pinned) p → IsTied n (with_pinned s empty) p
+tied_unplaced n s pinned p tied = record {
   blocks = tied.blocks;
   kinds = tied.kinds;
   free = tied.free;
-  well_formed = unplaced n s places tied.well_formed;
+  well_formed = unplaced n s pinned tied.well_formed;
 }
 
 module _ (m : Machine) (p q : FreeSlots) (tied : IsTied m.numbers (state_in m) p) (context : ℕ)
@@ -68,13 +68,13 @@ module _ (m : Machine) (p q : FreeSlots) (tied : IsTied m.numbers (state_in m) p
 
     abbrev Noted : Change → Type 0
     Noted change = MayNote q change e.slot e.grown
-        × IsTied m.numbers (with_places after.state moved.places) (noted q change e.slot e.grown)
+        × IsTied m.numbers (with_pinned after.state moved.pinned) (noted q change e.slot e.grown)
 
     follows : Noted (change_in m.state context c)
     follows =
         subst (λ k. Noted (change_in asked k c)) called.command.0
         (subst (λ (x : Cmd). Noted (change_in asked e.caller x)) called.command.1
-        (by_change m.numbers asked p tied_asked e (with_places after.state moved.places) moved.step q o given.1
+        (by_change m.numbers asked p tied_asked e (with_pinned after.state moved.pinned) moved.step q o given.1
         given.2 (change_in asked e.caller e.cmd) refl given.0))
 
     pub may_be_noted : MayNote q (change_in m.state context c) e.slot e.grown
@@ -87,8 +87,8 @@ module _ (m : Machine) (p q : FreeSlots) (tied : IsTied m.numbers (state_in m) p
         tied_pointed after r context None
         (subst (λ (n : Numbers). context < n.callers) (sym moved.numbers) known)
         (subst (λ (n : Numbers). IsTied n (state_in after) r) (sym moved.numbers)
-        (tied_unplaced m.numbers after.state moved.places r
-        (subst (IsTied m.numbers (with_places after.state moved.places)) (sym is) follows.1)))
+        (tied_unplaced m.numbers after.state moved.pinned r
+        (subst (IsTied m.numbers (with_pinned after.state moved.pinned)) (sym is) follows.1)))
 
     pub takes_least : TakesLeast asked e c
     takes_least = subst (λ (x : Cmd). TakesLeast asked e x) called.command.1

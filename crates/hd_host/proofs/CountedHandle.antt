@@ -5,7 +5,7 @@ use Rattle.hd_model.specs.{declared.data.Id.Id, declared.data.Slot.Slot}
 use Rattle.hd_model.specs.declared.command.Cmd.TheVariants as cmd
 use Rattle.hd_model.specs.State.{Handle as Held, count_of, handle_at, handle_register_of}
 use Rattle.hd_host.specs.declared.handle.Handle.{Handle}
-use Rattle.hd_host.specs.{Calls.MayAsk, Handles.IsOf, Handles.handle_of, Steps.pointed, View.HostView}
+use Rattle.hd_host.specs.{Inside.MayAsk, Handles.IsOf, Handles.handle_of, Steps.pointed, View.HostView}
 use Rattle.hd_host.proofs.WholeHost.{IsWhole}
 
 register_is : {h : ℕ} → cmd.HUp 0 ≡ cmd.HUp h → 0 ≡ h

@@ -3,19 +3,19 @@ use Rattle.std.proofs.Common.{None, Option, Some, ap, false, inl, inr, refl, sub
 use Rattle.std.proofs.lemmas.Bool.{true≢false}
 use Rattle.std.specs.FinMap.{empty}
 use Rattle.hd_model.proofs.AgedRuns.{nothing_at}
-use Rattle.hd_model.proofs.Effects.{Effect, refused, makes_object, sets_field, gets_field, sets_value, reads_value, copies, clears, puts_static, gets_static, reads_generation, suppresses, reregisters, finds_none, takes_first, collects, makes_handle, gets_target, sets_target, sets_secondary, gets_secondary, sets_strength, raises_count, lowers_count, frees_handle, puts_board, picks_board, replies_place, gives_back, gives_none, adds_entry, finds_value, finds_no_entry, removes_entry, removes_none, replies_root, effect}
-use Rattle.hd_model.specs.{declared.command.Cmd.Cmd, declared.data.Entry.Entry, declared.data.Id.Id, declared.data.Reply.Reply, declared.data.Slot.Slot, Aging.is_refused, Anchors.ReturnsRoot, Command.loaded, Places.with_places, Step.Step}
+use Rattle.hd_model.proofs.Effects.{Effect, refused, makes_object, sets_field, gets_field, sets_value, reads_value, copies, clears, puts_static, gets_static, reads_generation, suppresses, reregisters, finds_none, takes_first, collects, makes_handle, gets_target, sets_target, sets_secondary, gets_secondary, sets_strength, raises_count, lowers_count, frees_handle, puts_board, picks_board, replies_address, gives_back, gives_none, adds_entry, finds_value, finds_no_entry, removes_entry, removes_none, replies_root, effect}
+use Rattle.hd_model.specs.{declared.command.Cmd.Cmd, declared.data.Entry.Entry, declared.data.Id.Id, declared.data.Reply.Reply, declared.data.Slot.Slot, Aging.is_refused, Anchors.ReturnsRoot, Command.load_reply, PinnedAddresses.with_pinned, Step.Step}
 use Rattle.hd_model.specs.State.{Numbers, State}
 use Rattle.hd_store.specs.Store.{Machine}
 use Rattle.hd_host.specs.declared.handle.Handle.{Handle}
 use Rattle.hd_host.specs.{Calls.HasDone, Calls.HasReplied, Calls.RepliesOf, Handles.IsOf, Steps.HasStepped, Steps.pointed, View.HostView}
-use Rattle.hd_host.specs.Replies.{RepliesTo, is_found, is_generation, is_load, is_object, is_place, is_queued, is_removed, is_report, is_rooted, is_value}
+use Rattle.hd_host.specs.Replies.{RepliesTo, is_found, is_generation, is_load, is_object, is_address, is_queued, is_removed, is_report, is_rooted, is_value}
 
-by_load : (o : Option Id) → is_load (loaded o) ≡ true
+by_load : (o : Option Id) → is_load (load_reply o) ≡ true
 by_load None = refl
 by_load (Some x) = refl
 
-by_find : (o : Option Id) → is_found (loaded o) ≡ true
+by_find : (o : Option Id) → is_found (load_reply o) ≡ true
 by_find None = refl
 by_find (Some x) = refl
 
@@ -52,7 +52,7 @@ module _ (n : Numbers) (s : State) (e : Entry) (done : is_refused e.reply ≡ fa
   replies c t (frees_handle slot handle f p q) = p
   replies c t (puts_board p) = p
   replies c t (picks_board p) = p
-  replies c t (replies_place slot handle id place f target may p) = ap is_place p
+  replies c t (replies_address slot handle id address f target may p) = ap is_address p
   replies c t (gives_back block free p) = ap is_value p
   replies c t (gives_none p) = ap is_value p
   replies c t (adds_entry key slot r absent may p q) = p
@@ -71,8 +71,8 @@ pub done_reply : (m k : Machine) (context : ℕ) (slot : Option Slot) (c : Cmd) 
 done_reply m k context slot c e stepped done =
     let goes = stepped.effect empty (λ x at found. absurd (nothing_at x at found)) in
     subst (λ (x : Cmd). RepliesTo x e.reply) stepped.command_is.1
-    (replies_of m.numbers (with_places (pointed m context slot).state empty) e done
-    (with_places stepped.after.state goes.places) goes.step)
+    (replies_of m.numbers (with_pinned (pointed m context slot).state empty) e done
+    (with_pinned stepped.after.state goes.pinned) goes.step)
 
 pub replied : {old new : HostView} {context : ℕ} {slot : Option Slot} {c : Cmd} {e : Entry} {answer : Reply}
     → HasDone old context slot c e new → answer ≡ e.reply → HasReplied old context slot c answer new

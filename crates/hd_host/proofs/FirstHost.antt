@@ -3,7 +3,7 @@ use Rattle.std.proofs.Common.{List, None, Option, [], ap, get_or, length, refl, 
 use Rattle.std.proofs.lemmas.List.{length-replicate}
 use Rattle.std.specs.FinMap as map
 use Rattle.std.specs.FinSet as set
-use Rattle.hd_model.specs.{declared.data.Slot.Slot, Places.with_places}
+use Rattle.hd_model.specs.{declared.data.Slot.Slot, PinnedAddresses.with_pinned}
 use Rattle.hd_model.specs.State.{State, handle_register_of, start_of}
 use Rattle.hd_model.specs.declared.limits.TheConstants.{REGISTERS, ROWS}
 use Rattle.hd_pool.specs.Pool.{FreeSlots}
@@ -31,7 +31,7 @@ pub host_at_first : (m : Machine) (p : FreeSlots) (stamps : List ℕ) → HasLim
     → stamps ≡ replicate (ROWS * (m.numbers.blocks + 1)) 0 → IsHost m p stamps
 host_at_first m p stamps limits first pool is = record {
   limits = limits;
-  tied = tied_at_start m.numbers (with_places m.state map.empty) p (ap (λ s. with_places s map.empty) first) pool;
+  tied = tied_at_start m.numbers (with_pinned m.state map.empty) p (ap (λ s. with_pinned s map.empty) first) pool;
   empty = λ context h. ap (λ (s : State). handle_register_of s context h) first
       ∙ none_in m.numbers.callers REGISTERS context h;
   stamps = ap length is ∙ length-replicate (ROWS * (m.numbers.blocks + 1)) 0;

@@ -3,14 +3,14 @@ use Rattle.std.proofs.Common.{Bool, None, Option, Some, ap, false, if◌then◌e
 use Rattle.std.specs.Option.{option_map_or}
 use Rattle.std.proofs.lemmas.Option.{same_Some, none-some}
 use Rattle.hd_model.specs.{declared.command.Cmd.Cmd, declared.data.Entry.Entry, declared.data.Id.Id, declared.data.Reply.Reply, declared.data.Slot.Slot, Step.StepOf, Touched.touched_by}
-use Rattle.hd_model.specs.Command.{Outcome, loaded, on_handle, refuses, reply_with, with_count}
+use Rattle.hd_model.specs.Command.{Outcome, load_reply, on_handle, refuses, reply_with, with_count}
 use Rattle.hd_model.specs.{Kinds.is_kind, Role.pins}
 use Rattle.hd_model.specs.declared.data.Kind.{Kind}
 use Rattle.hd_model.specs.declared.data.Kind.TheVariants as kind
 use Rattle.hd_model.specs.declared.command.Cmd.TheVariants as cmd
 use Rattle.hd_model.specs.declared.data.Refusal.TheVariants as refusal
 use Rattle.hd_model.specs.declared.data.Reply.TheVariants as reply
-use Rattle.hd_model.specs.State.{Handle, Numbers, State, count_of, handle_at, handle_register_of, register_of, secondary, secondary_of, strength, with_handle, with_place, with_register, without_secondary}
+use Rattle.hd_model.specs.State.{Handle, Numbers, State, count_of, handle_at, handle_register_of, register_of, secondary, secondary_of, strength, with_handle, with_address, with_register, without_secondary}
 
 -- whether a reply says that no live handle was found
 abbrev pub finds_none : Reply → Bool
@@ -18,7 +18,7 @@ finds_none (reply.Refused refusal.NotLive) = true
 finds_none (reply.Refused refusal.EmptyRegister) = true
 finds_none _ = false
 
-by_load : (o : Option Id) → finds_none (loaded o) ≡ false
+by_load : (o : Option Id) → finds_none (load_reply o) ≡ false
 by_load None = refl
 by_load (Some x) = refl
 
@@ -52,8 +52,7 @@ module _ (n : Numbers) (s : State) (e : Entry) (t : State) (h : ℕ) (slot : Slo
       → finds_none (option_map_or p held.target (refuses refusal.Null s)).reply ≡ false
   of_target p is = by_target held.target p (refuses refusal.Null s) is refl
 
-  pub live_found : (c : Cmd) → StepOf n s e t c → (touched_by c).handle ≡ Some h
-      → finds_none e.reply ≡ false
+  pub live_found : (c : Cmd) → StepOf n s e t c → (touched_by c).handle ≡ Some h → finds_none e.reply ≡ false
   live_found (cmd.HGet d x) comes uses = there x _ uses comes.reply (by_load held.target)
   live_found (cmd.HSet x r) comes uses =
       there x _ uses comes.reply
@@ -70,14 +69,16 @@ module _ (n : Numbers) (s : State) (e : Entry) (t : State) (h : ℕ) (slot : Slo
   live_found (cmd.HDep d x) comes uses =
       let value = secondary_of held.extra in
       there x _ uses comes.reply
-      (of_kind kind.Dependent (reply_with (loaded value) (with_register s e.caller d value)) (by_load value))
+      (of_kind kind.Dependent (reply_with (load_reply value) (with_register s e.caller d value))
+      (by_load value))
   live_found (cmd.HVar x given) comes uses =
       there x _ uses comes.reply
       (of_kind kind.Variable (reply_with reply.Done (with_handle s slot (record held { extra = strength given })))
       refl)
   live_found (cmd.HFree x) comes uses = there x _ uses comes.reply refl
   live_found (cmd.AddrOf x) comes uses =
-      let done : Id → Outcome = λ id. reply_with (reply.Place comes.place) (with_place s id comes.place) in
+      let done : Id → Outcome = λ id. reply_with (reply.Place comes.address)
+      (with_address s id comes.address) in
       there x _ uses comes.outcome.reply
       (by_test (pins held) (option_map_or done held.target (refuses refusal.Null s)) (refuses refusal.WrongKind s)
       (of_target done (λ y. refl)) refl)

@@ -4,7 +4,7 @@ use Rattle.std.proofs.lemmas.Bool.{true≢false}
 use Rattle.std.specs.Prelude.{IsSome}
 use Rattle.std.specs.FinMap.{empty}
 use Rattle.hd_model.proofs.{AgedRuns.nothing_at, ReadAfterWrite.get_inserted}
-use Rattle.hd_model.specs.{declared.command.Cmd.Cmd, declared.data.Entry.Entry, declared.data.Make.Make, declared.data.Slot.Slot, Aging.is_refused, Kinds.kind_of, Places.with_places, Step.StepOf, Step.with_growth, Command.made_handle}
+use Rattle.hd_model.specs.{declared.command.Cmd.Cmd, declared.data.Entry.Entry, declared.data.Make.Make, declared.data.Slot.Slot, Aging.is_refused, Kinds.kind_of, PinnedAddresses.with_pinned, Step.StepOf, Step.with_growth, Command.made_handle}
 use Rattle.hd_model.specs.declared.command.Cmd.TheVariants as cmd
 use Rattle.hd_model.specs.State.{Numbers, State, handle_at}
 use Rattle.hd_store.specs.Store.{Machine}
@@ -30,10 +30,10 @@ pub is_made : (m k : Machine) (context : ℕ) (make : Make) (r : ℕ) (e : Entry
     → HasStepped m context None (cmd.HNew 0 make r) k e → is_refused e.reply ≡ false → IsMade e k.state
 is_made m k context make r e stepped done =
     let goes = stepped.effect empty (λ x at found. absurd (nothing_at x at found)) in
-    let there = made m.numbers (with_places (pointed m context None).state empty) e
-    (with_places stepped.after.state goes.places) make r
-    (subst (λ (x : Cmd). StepOf m.numbers (with_places (pointed m context None).state empty) e
-    (with_places stepped.after.state goes.places) x) stepped.command_is.1 goes.step.does) done in record {
+    let there = made m.numbers (with_pinned (pointed m context None).state empty) e
+    (with_pinned stepped.after.state goes.pinned) make r
+    (subst (λ (x : Cmd). StepOf m.numbers (with_pinned (pointed m context None).state empty) e
+    (with_pinned stepped.after.state goes.pinned) x) stepped.command_is.1 goes.step.does) done in record {
       slot = there.slot;
       given = there.given;
       live = ap (λ (x : Machine). is_some (handle_at x.state there.slot)) stepped.new_is ∙ there.live;

@@ -3,13 +3,13 @@ use Rattle.std.proofs.Common.{Bool, List, Option, [], ap, false, inl, inr, refl,
 use Rattle.std.proofs.lemmas.Bool.{true≢false}
 use Rattle.std.specs.FinMap.{empty}
 use Rattle.hd_model.proofs.AgedRuns.{nothing_at}
-use Rattle.hd_model.specs.{declared.command.Cmd.Cmd, declared.data.Entry.Entry, declared.data.Id.Id, declared.data.Refusal.Refusal, declared.data.Slot.Slot, Aging.is_refused, Class.class_of, Command.take_first, Places.with_places, Step.StepOf, Valid.takes_memory}
+use Rattle.hd_model.specs.{declared.command.Cmd.Cmd, declared.data.Entry.Entry, declared.data.Id.Id, declared.data.Refusal.Refusal, declared.data.Slot.Slot, Aging.is_refused, Class.class_of, Command.take_first, PinnedAddresses.with_pinned, Step.StepOf, Valid.takes_memory}
 use Rattle.hd_model.specs.declared.class.Class.TheVariants as class
 use Rattle.hd_model.specs.declared.command.Cmd.TheVariants as cmd
 use Rattle.hd_model.specs.declared.data.Reply.TheVariants as reply
 use Rattle.hd_model.specs.declared.data.Refusal.TheVariants as refusal
 use Rattle.hd_model.specs.State.{Numbers, State}
-use Rattle.hd_host.specs.Calls.{FailsBy, IsAtEnd, IsNeverRefused, IsRefused, MayAsk, copies, clears, puts_static, gets_static, takes_queued, trims, no_serial, no_count, no_stamp}
+use Rattle.hd_host.specs.{Calls.FailsBy, Calls.IsAtEnd, Calls.IsRefused, Calls.no_serial, Calls.no_count, Calls.no_stamp, Inside.IsNeverRefused, Inside.MayAsk, Inside.copies, Inside.clears, Inside.puts_static, Inside.gets_static, Inside.takes_queued, Inside.trims}
 use Rattle.hd_host.specs.declared.fault.Fault.{Fault}
 use Rattle.hd_host.specs.declared.fault.Fault.TheVariants as fault
 use Rattle.hd_host.specs.{Steps.pointed, View.HostView}
@@ -62,9 +62,9 @@ module _ (v : HostView) (context : ℕ) (slot : Option Slot) where
   not_by c plain why is =
       let goes = is.stepped.effect empty (λ x at found. absurd (nothing_at x at found)) in
       let m = pointed v.machine context slot in
-      let t = with_places is.stepped.after.state goes.places in
-      never m.numbers (with_places m.state empty) is.entry t c plain why
-      (subst (λ (x : Cmd). StepOf m.numbers (with_places m.state empty) is.entry t x) is.stepped.command_is.1
+      let t = with_pinned is.stepped.after.state goes.pinned in
+      never m.numbers (with_pinned m.state empty) is.entry t c plain why
+      (subst (λ (x : Cmd). StepOf m.numbers (with_pinned m.state empty) is.entry t x) is.stepped.command_is.1
       goes.step.does) is.reply
 
   none_full : (c : Cmd) → IsNeverRefused c → (fields : ℕ) → class_of c ≡ class.MakesObject fields → ⊥

@@ -2,17 +2,17 @@
 use Rattle.std.proofs.Common.{None, Option, Some, ap, cond, false, inl, inr, refl, subst, sym, true, ℕ, ◌∙◌, ◌≡◌}
 use Rattle.std.proofs.lemmas.Bool.{true≢false}
 use Rattle.std.specs.FinMap.{empty}
-use Rattle.hd_model.proofs.Effects.{Effect, refused, makes_object, sets_field, gets_field, sets_value, reads_value, copies, clears, puts_static, gets_static, reads_generation, suppresses, reregisters, finds_none, takes_first, collects, makes_handle, gets_target, sets_target, sets_secondary, gets_secondary, sets_strength, raises_count, lowers_count, frees_handle, puts_board, picks_board, replies_place, gives_back, gives_none, adds_entry, finds_value, finds_no_entry, removes_entry, removes_none, replies_root, effect}
-use Rattle.hd_model.specs.{declared.command.Cmd.Cmd, declared.data.Entry.Entry, declared.data.Id.Id, declared.data.Refusal.Refusal, declared.data.Reply.Reply, declared.data.Slot.Slot, Aging.aged_by_command, Aging.is_refused, Command.loaded, Places.with_places, Step.Step, Step.StepOf, Text.is_collect}
+use Rattle.hd_model.proofs.Effects.{Effect, refused, makes_object, sets_field, gets_field, sets_value, reads_value, copies, clears, puts_static, gets_static, reads_generation, suppresses, reregisters, finds_none, takes_first, collects, makes_handle, gets_target, sets_target, sets_secondary, gets_secondary, sets_strength, raises_count, lowers_count, frees_handle, puts_board, picks_board, replies_address, gives_back, gives_none, adds_entry, finds_value, finds_no_entry, removes_entry, removes_none, replies_root, effect}
+use Rattle.hd_model.specs.{declared.command.Cmd.Cmd, declared.data.Entry.Entry, declared.data.Id.Id, declared.data.Refusal.Refusal, declared.data.Reply.Reply, declared.data.Slot.Slot, Aging.aged_by_command, Aging.is_refused, Command.load_reply, PinnedAddresses.with_pinned, Step.Step, Step.StepOf, Text.is_collect}
 use Rattle.hd_model.specs.declared.command.Cmd.TheVariants as cmd
 use Rattle.hd_model.specs.declared.data.Refusal.TheVariants as refusal
 use Rattle.hd_model.specs.declared.data.Reply.TheVariants as reply
 use Rattle.hd_model.specs.State.{Numbers, State, with_handle_register}
-use Rattle.hd_store.specs.{Places.Moves, StateHeap.IsStoredAt, Store.Machine}
-use Rattle.hd_host.specs.{Calls.FailsBy, Calls.IsRefused, Faults.fault_of, Steps.HasMoved, Steps.HasNoSlot, Steps.HasStepped, Steps.pointed, View.HostView, View.state_in}
+use Rattle.hd_store.specs.{PinnedAddresses.Moves, StateHeap.IsStoredAt, Store.Machine}
+use Rattle.hd_host.specs.{Calls.FailsBy, Calls.IsRefused, Steps.HasStepped, Steps.pointed, View.HostView, View.state_in, Inside.fault_of, Inside.HasMoved, Inside.HasNoSlot}
 use Rattle.hd_host.proofs.Registers.{pointed-again}
 
-pub not_refused : (o : Option Id) → is_refused (loaded o) ≡ false
+pub not_refused : (o : Option Id) → is_refused (load_reply o) ≡ false
 not_refused None = refl
 not_refused (Some x) = refl
 
@@ -49,7 +49,7 @@ module _ (n : Numbers) (s : State) (e : Entry) (is : is_refused e.reply ≡ true
   stays c t (frees_handle slot handle f p q) = clash _ _ p refl
   stays c t (puts_board p) = clash _ _ p refl
   stays c t (picks_board p) = clash _ _ p refl
-  stays c t (replies_place slot handle id place f target may p) = clash _ _ p refl
+  stays c t (replies_address slot handle id address f target may p) = clash _ _ p refl
   stays c t (gives_back block free p) = clash _ _ p refl
   stays c t (adds_entry key slot r absent may p q) = clash _ _ p refl
   stays c t (finds_value key slot has r p) = clash _ _ p (not_refused _)
@@ -73,19 +73,19 @@ module _ (m k : Machine) (context : ℕ) (slot : Option Slot) (c : Cmd) (o : Opt
     (goes : Moves (pointed m context slot) e did.after empty) (is : is_refused e.reply ≡ true) where
   -- what is left of a state where the register is cleared, without pinned addresses
   abbrev rest : State → State
-  rest s = with_places (with_handle_register s context 0 None) empty
+  rest s = with_pinned (with_handle_register s context 0 None) empty
 
   pub state_as_it_was : state_in k ≡ state_in m
   state_as_it_was =
       ap state_in did.new_is
-      ∙ ap rest (refused_stays m.numbers (with_places (pointed m context slot).state empty) e is
-      (with_places did.after.state goes.places) goes.step)
+      ∙ ap rest (refused_stays m.numbers (with_pinned (pointed m context slot).state empty) e is
+      (with_pinned did.after.state goes.pinned) goes.step)
       ∙ ap state_in (pointed-again m context slot none)
 
   pub ages_as_they_were : k.ages ≡ m.ages
   ages_as_they_were =
       ap (λ (x : Machine). x.ages) did.new_is ∙ goes.ages
-      ∙ ap (λ b. cond b m.ages (aged_by_command (with_places (pointed m context slot).state empty) e.caller
+      ∙ ap (λ b. cond b m.ages (aged_by_command (with_pinned (pointed m context slot).state empty) e.caller
       e.slot m.ages e.cmd)) is
 
   pub numbers_as_they_were : k.numbers ≡ m.numbers
@@ -95,8 +95,8 @@ module _ (m k : Machine) (context : ℕ) (slot : Option Slot) (c : Cmd) (o : Opt
   addresses_stay x a at =
       subst (λ (y : Machine). IsStoredAt y.heap x a) (sym did.new_is)
       (did.called.addresses.others
-      (collects_none m.numbers (with_places (pointed m context slot).state empty) e
-      (with_places did.after.state goes.places) e.cmd goes.step.does is) x a at)
+      (collects_none m.numbers (with_pinned (pointed m context slot).state empty) e
+      (with_pinned did.after.state goes.pinned) e.cmd goes.step.does is) x a at)
 
 -- the fault of a refusal is its own
 pub fails : (v : HostView) (context : ℕ) (slot : Option Slot) (c : Cmd) (after : Machine) (e : Entry)

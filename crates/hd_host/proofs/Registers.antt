@@ -6,7 +6,7 @@ use Rattle.hd_model.proofs.AgedRuns.{nothing_at}
 use Rattle.hd_model.specs.{declared.command.Cmd.Cmd, declared.data.Entry.Entry, declared.data.Slot.Slot}
 use Rattle.hd_model.specs.State.{State, with_handle_register}
 use Rattle.hd_store.specs.{Calls.HasCalled, Offers.RanOut, Store.Machine}
-use Rattle.hd_host.specs.Steps.{HasMoved, HasNoSlot, pointed}
+use Rattle.hd_host.specs.{Inside.HasMoved, Inside.HasNoSlot, Steps.pointed}
 
 -- what was at an index is there again
 set_again : {A : Type 0} (xs : List A) (i : ℕ) (v w d : A) → get_or xs i d ≡ d → w ≡ d

@@ -1,6 +1,6 @@
 -- A load of the target of a live handle is one command of a host, by the handle register that has its slot.
 use Rattle.std.proofs.Common.{None, Option, Some, is_some, option_map, refl, subst, sym, true, ℕ, List, ◌<◌, ◌≡◌}
-use Rattle.hd_model.specs.{declared.data.Id.Id, declared.data.Slot.Slot, Command.loaded}
+use Rattle.hd_model.specs.{declared.data.Id.Id, declared.data.Slot.Slot, Command.load_reply}
 use Rattle.hd_model.specs.declared.command.Cmd.TheVariants as cmd
 use Rattle.hd_model.specs.declared.data.Grown.TheVariants.{Zero}
 use Rattle.hd_model.specs.State.{Handle as Held, handle_at, with_register}
@@ -8,12 +8,12 @@ use Rattle.hd_pool.specs.Pool.{FreeSlots}
 use Rattle.hd_store.specs.{Calls.HasCalled, Calls.load_entry, Store.Machine}
 use Rattle.hd_host.specs.declared.change.Change.{Change}
 use Rattle.hd_host.specs.declared.handle.Handle.{Handle}
-use Rattle.hd_host.specs.{Calls.RepliesOf, Handles.handle_of, Inside.IsHost, Replies.is_load, Steps.HasMoved, Steps.HasNoSlot, Steps.pointed, View.HostView}
+use Rattle.hd_host.specs.{Calls.RepliesOf, Handles.handle_of, Replies.is_load, Steps.pointed, View.HostView, Inside.IsHost, Inside.HasMoved, Inside.HasNoSlot}
 use Rattle.hd_host.proofs.CallHost.{host_after, has_stepped, view_of}
 use Rattle.hd_host.proofs.Registers.{pointed-again}
 use Rattle.hd_host.proofs.Refused.{not_refused}
 
-is_loaded : (o : Option Id) → is_load (loaded o) ≡ true
+is_loaded : (o : Option Id) → is_load (load_reply o) ≡ true
 is_loaded None = refl
 is_loaded (Some x) = refl
 
@@ -46,12 +46,12 @@ module _ (m : Machine) (p : FreeSlots) (stamps : List ℕ) (host : IsHost m p st
   pub replies : (v : HostView) (last : Change) → view_of m stamps last ≡ v → (handle : Handle)
       → handle ≡ handle_of v slot
       → Some target ≡ option_map (λ (h : Held Id). h.target) (handle_at m.state slot)
-      → RepliesOf v context handle (cmd.HGet d 0) (loaded target)
+      → RepliesOf v context handle (cmd.HGet d 0) (load_reply target)
       (view_of k stamps (record { slot = None; grown = Zero }))
   replies v last view handle is found =
       let e = load_entry context d target in
       subst (λ (x : HostView). handle ≡ handle_of x slot → RepliesOf x context handle (cmd.HGet d 0)
-      (loaded target) (view_of k stamps (record { slot = None; grown = Zero }))) view
+      (load_reply target) (view_of k stamps (record { slot = None; grown = Zero }))) view
       (λ same. record {
         slot = slot;
         handle_is = record { live = has_handle (handle_at m.state slot) target found; is = same };

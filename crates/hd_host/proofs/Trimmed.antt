@@ -3,13 +3,13 @@ use Rattle.std.proofs.Common.{None, [], ap, get_or, inl, inr, set, subst, sym, �
 use Rattle.std.proofs.lemmas.List.{set-get_or}
 use Rattle.std.specs.FinMap.{empty}
 use Rattle.hd_model.proofs.AgedRuns.{nothing_at}
-use Rattle.hd_model.specs.{declared.command.Cmd.Cmd, declared.data.Entry.Entry, declared.data.Kind.Kind, declared.data.Reply.Reply, Places.with_places, Run.NoneAllFree, Run.TakesLeast, Step.StepOf}
+use Rattle.hd_model.specs.{declared.command.Cmd.Cmd, declared.data.Entry.Entry, declared.data.Kind.Kind, declared.data.Reply.Reply, PinnedAddresses.with_pinned, Run.NoneAllFree, Run.TakesLeast, Step.StepOf}
 use Rattle.hd_model.specs.declared.command.Cmd.TheVariants as cmd
 use Rattle.hd_model.specs.declared.data.Grown.TheVariants as grown
 use Rattle.hd_model.specs.declared.data.Reply.TheVariants as reply
 use Rattle.hd_model.specs.State.{Numbers, State, with_handle_register}
 use Rattle.hd_store.specs.Store.{Machine}
-use Rattle.hd_host.specs.{Calls.HasReplied, Calls.Trims, Steps.HasNoSlot, Steps.HasStepped, Steps.pointed, View.HostView, View.state_in}
+use Rattle.hd_host.specs.{Calls.HasReplied, Calls.Trims, Steps.HasStepped, Steps.pointed, View.HostView, View.state_in, Inside.HasNoSlot}
 
 -- nothing is put into an empty register
 nothing_put : (s : State) (c : ℕ) → HasNoSlot s c → with_handle_register s c 0 None ≡ s
@@ -50,10 +50,10 @@ pub trims_by : (m k : Machine) (e : Entry) (kind : Kind) (given : ℕ) → HasNo
 trims_by m k e kind given none stepped is =
     let goes = stepped.effect empty (λ x at found. absurd (nothing_at x at found)) in
     subst (λ (x : Machine). (given ≤ 1) × ((given ≡ 0) ↔ NoneAllFree (state_in x) kind)) (not_pointed m 0 none)
-    (trimmed m.numbers (state_in (pointed m 0 None)) e (with_places stepped.after.state goes.places) kind given is
+    (trimmed m.numbers (state_in (pointed m 0 None)) e (with_pinned stepped.after.state goes.pinned) kind given is
     stepped.least
     (subst (λ (x : Cmd). StepOf m.numbers (state_in (pointed m 0 None)) e
-    (with_places stepped.after.state goes.places) x) stepped.command_is.1 goes.step.does))
+    (with_pinned stepped.after.state goes.pinned) x) stepped.command_is.1 goes.step.does))
 
 pub trims : {old new : HostView} {kind : Kind} {answer : Reply} {given : ℕ} → HasNoSlot old.machine.state 0
     → HasReplied old 0 None (cmd.Trim kind) answer new → reply.Value given ≡ answer → Trims old kind given new

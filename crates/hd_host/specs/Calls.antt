@@ -1,73 +1,22 @@
 -- What the calls of a host come to. Each is one command of the machine, from the state in which the first
 -- handle register of its context has the slot of its handle.
-use Rattle.std.specs.Prelude.{◌≡◌, ◌↔◌, ℕ, ◌+◌, ◌<◌, ◌≤◌, ◌^◌, true, false, slice_set, Option, Some, None, Bool, IfSome, ◌⊎◌}
-use Rattle.hd_model.specs.{declared.data.Entry.Entry, declared.data.Kind.Kind, declared.data.Make.Make, declared.data.Refusal.Refusal, declared.data.Reply.Reply, declared.data.Slot.Slot, declared.command.Cmd.Cmd, declared.limits.TheConstants.REGISTERS, Class.class_of, Kinds.is_paired, Aging.is_refused, Run.NoneAllFree, Touched.touched_by, Valid.IsValid, Valid.takes_memory}
+use Rattle.std.specs.Prelude.{◌≡◌, ◌↔◌, ℕ, ◌+◌, ◌<◌, ◌≤◌, ◌^◌, true, false, slice_set, Option, Some, None, Bool, Result, MatchResult, ◌⊎◌}
+use Rattle.hd_model.specs.{declared.data.Entry.Entry, declared.data.Kind.Kind, declared.data.Make.Make, declared.data.Refusal.Refusal, declared.data.Reply.Reply, declared.data.Slot.Slot, declared.command.Cmd.Cmd, Class.class_of, Aging.is_refused, Run.NoneAllFree, Valid.takes_memory}
 use Rattle.hd_model.specs.declared.class.Class.TheVariants as class
 use Rattle.hd_model.specs.declared.command.Cmd.TheVariants as cmd
 use Rattle.hd_model.specs.declared.data.Reply.TheVariants as reply
 use Rattle.hd_model.specs.declared.data.Refusal.TheVariants as refusal
 use Rattle.hd_model.specs.declared.data.Id.{Id}
 use Rattle.hd_model.specs.State.{Handle as Held, count_of, handle_at, last_serial, total_size}
-use Rattle.hd_store.specs.{Offers.FitsHeap, Calls.StaysWithin, Store.Machine}
+use Rattle.hd_store.specs.{Offers.FitsHeap, Store.Machine}
 use Rattle.hd_host.specs.declared.fault.Fault.{Fault}
 use Rattle.hd_host.specs.declared.fault.Fault.TheVariants as fault
 use Rattle.hd_host.specs.declared.handle.Handle.{Handle}
 use Rattle.hd_host.specs.declared.stamps.TheConstants.{END}
 use Rattle.hd_host.specs.Handles.{IsOf, IsStale, stamp_of}
 use Rattle.hd_host.specs.Replies.{RepliesTo}
-use Rattle.hd_host.specs.Steps.{HasStepped, pointed}
-use Rattle.hd_host.specs.View.{HostView, state_in}
-
--- a command may be asked of a host, with a slot in the first handle register of its context, which is the one
--- that it may write
-pub record MayAsk (v : HostView) (context : ℕ) (slot : Option Slot) (command : Cmd) : Type 0 where
-  pub known : context < v.machine.numbers.callers
-  pub valid : IsValid command
-  pub within : StaysWithin (pointed v.machine context slot).state context command
-  pub first : IfSome (touched_by command).handle_register (λ h. h ≡ 0)
-
--- a command that neither makes an object nor raises a count
-abbrev pub IsUnbounded : Cmd → Type 0
-IsUnbounded (cmd.New d fields fin) = ⊥
-IsUnbounded (cmd.Set o i v) = Unit {0}
-IsUnbounded (cmd.Get d o i) = Unit {0}
-IsUnbounded (cmd.Val o v) = Unit {0}
-IsUnbounded (cmd.Read o) = Unit {0}
-IsUnbounded (cmd.Copy d s) = Unit {0}
-IsUnbounded (cmd.Clear d) = Unit {0}
-IsUnbounded (cmd.SPut k s) = Unit {0}
-IsUnbounded (cmd.SGet d k) = Unit {0}
-IsUnbounded (cmd.Gen s) = Unit {0}
-IsUnbounded (cmd.Suppress s) = Unit {0}
-IsUnbounded (cmd.Reregister s) = Unit {0}
-IsUnbounded (cmd.Final d) = Unit {0}
-IsUnbounded (cmd.Collect n) = Unit {0}
-IsUnbounded (cmd.HNew d make t) = Unit {0}
-IsUnbounded (cmd.HGet d s) = Unit {0}
-IsUnbounded (cmd.HSet s t) = Unit {0}
-IsUnbounded (cmd.HSec h s) = Unit {0}
-IsUnbounded (cmd.HDep d s) = Unit {0}
-IsUnbounded (cmd.HVar s strength) = Unit {0}
-IsUnbounded (cmd.HFree s) = Unit {0}
-IsUnbounded (cmd.HPut k s) = Unit {0}
-IsUnbounded (cmd.HPick d k) = Unit {0}
-IsUnbounded (cmd.AddrOf s) = Unit {0}
-IsUnbounded (cmd.HUp s) = ⊥
-IsUnbounded (cmd.HDown s) = Unit {0}
-IsUnbounded (cmd.Trim kind) = Unit {0}
-IsUnbounded (cmd.CAdd k v) = Unit {0}
-IsUnbounded (cmd.CFind d k) = Unit {0}
-IsUnbounded (cmd.CRemove k) = Unit {0}
-IsUnbounded (cmd.GcRoot s) = Unit {0}
-
--- a command that the machine never refuses, and that takes no memory
-pub data IsNeverRefused : Cmd → Type 0 where
-  copies : (d r : ℕ) → (d < REGISTERS) × (r < REGISTERS) → IsNeverRefused (cmd.Copy d r)
-  clears : (d : ℕ) → d < REGISTERS → IsNeverRefused (cmd.Clear d)
-  puts_static : (k r : ℕ) → (k < REGISTERS) × (r < REGISTERS) → IsNeverRefused (cmd.SPut k r)
-  gets_static : (d k : ℕ) → (d < REGISTERS) × (k < REGISTERS) → IsNeverRefused (cmd.SGet d k)
-  takes_queued : (d : ℕ) → d < REGISTERS → IsNeverRefused (cmd.Final d)
-  trims : (given : Kind) → is_paired given ≡ false → IsNeverRefused (cmd.Trim given)
+use Rattle.hd_host.specs.Steps.{HasStepped}
+use Rattle.hd_host.specs.View.{HostView, IsAsItWas, state_in}
 
 -- a command was done: it was one step, which was not refused, and so its reply is one of the command's; each
 -- stamp is as it was; and what it gave or freed is what `last` says
@@ -118,8 +67,8 @@ pub record RanOutOfMemory (v : HostView) (command : Cmd) : Type 0 where
   pub memory : takes_memory command ≡ true
   pub fits : FitsHeap v.machine.numbers v.machine.state command
 
--- why a command fails, by its fault: the machine refuses it, so where too few blocks are without a use no slot
--- of the kind is free (`least`), or something is at its end, or memory ran out
+-- why a command fails, by its fault: the machine refuses it, so where too few blocks are without a use no
+-- slot of the kind is free (`least`), or something is at its end, or memory ran out
 abbrev pub FailsBy : HostView → ℕ → Option Slot → Cmd → Fault → Type 0
 FailsBy v context slot command fault.Stale = IsRefused v context slot command refusal.NotLive
     ⊎ IsRefused v context slot command refusal.EmptyRegister
@@ -161,6 +110,20 @@ FailsOf v context handle command (fault.TableFull given) =
     FailsWith v context handle command (fault.TableFull given)
 FailsOf v context handle command fault.Exhausted = FailsWith v context handle command fault.Exhausted
 FailsOf v context handle command fault.Memory = FailsWith v context handle command fault.Memory
+
+-- a command of a context was done, and its reply is that of what is returned; or it failed, and all is as it
+-- was
+abbrev pub Tries : {T : Type 0} → HostView → ℕ → Cmd → (T → Reply) → HostView → Result T Fault → Type 0
+Tries old context command reply_of new result =
+    MatchResult result (λ x. HasReplied old context None command (reply_of x) new)
+    (λ fault. FailsBy old context None command fault × IsAsItWas old new)
+
+-- the same of a command by a handle
+abbrev pub TriesOf : {T : Type 0} → HostView → ℕ → Handle → Cmd → (T → Reply) → HostView → Result T Fault
+    → Type 0
+TriesOf old context handle command reply_of new result =
+    MatchResult result (λ x. RepliesOf old context handle command (reply_of x) new)
+    (λ fault. FailsOf old context handle command fault × IsAsItWas old new)
 
 -- a handle was made: it is that of its slot
 pub record MakesHandle (old : HostView) (context : ℕ) (make : Make) (t : ℕ) (new : HostView)

@@ -3,9 +3,9 @@ use Rattle.std.specs.Prelude.{◌≡◌, Bool, true, false, Option, Some, None}
 use Rattle.hd_model.specs.{declared.data.Id.Id, declared.data.Reply.Reply, declared.command.Cmd.Cmd}
 use Rattle.hd_model.specs.declared.command.Cmd.TheVariants as cmd
 use Rattle.hd_model.specs.declared.data.Reply.TheVariants as reply
-use Rattle.hd_model.specs.Command.{loaded}
-use Rattle.hd_host.specs.declared.weak.Found.{Found}
-use Rattle.hd_host.specs.declared.weak.Found.TheVariants as found
+use Rattle.hd_model.specs.Command.{load_reply}
+use Rattle.hd_host.specs.declared.weak.Lookup.{Lookup}
+use Rattle.hd_host.specs.declared.weak.Lookup.TheVariants as found
 use Rattle.hd_host.specs.declared.collecting.Root.{Root}
 
 -- which forms of replies a test takes
@@ -15,7 +15,7 @@ pub record Forms : Type 0 where
   pub nothing : Bool
   pub value : Bool
   pub generation : Bool
-  pub place : Bool
+  pub address : Bool
   pub report : Bool
   pub none_queued : Bool
   pub absent : Bool
@@ -30,7 +30,7 @@ no_form = record {
   nothing = false;
   value = false;
   generation = false;
-  place = false;
+  address = false;
   report = false;
   none_queued = false;
   absent = false;
@@ -45,7 +45,7 @@ takes forms (reply.Object id) = forms.object
 takes forms reply.Nothing = forms.nothing
 takes forms (reply.Value n) = forms.value
 takes forms (reply.Generation g) = forms.generation
-takes forms (reply.Place at) = forms.place
+takes forms (reply.Place at) = forms.address
 takes forms (reply.Report report) = forms.report
 takes forms reply.NoneQueued = forms.none_queued
 takes forms reply.Absent = forms.absent
@@ -66,8 +66,8 @@ is_value = takes (record no_form { value = true })
 abbrev pub is_generation : Reply → Bool
 is_generation = takes (record no_form { generation = true })
 
-abbrev pub is_place : Reply → Bool
-is_place = takes (record no_form { place = true })
+abbrev pub is_address : Reply → Bool
+is_address = takes (record no_form { address = true })
 
 abbrev pub is_report : Reply → Bool
 is_report = takes (record no_form { report = true })
@@ -85,8 +85,8 @@ abbrev pub is_rooted : Reply → Bool
 is_rooted = takes (record no_form { chain = true; unrooted = true })
 
 -- what is found in the weak table
-abbrev pub found_reply : Found → Reply
-found_reply (found.Value id) = loaded id
+abbrev pub found_reply : Lookup → Reply
+found_reply (found.Value id) = load_reply id
 found_reply found.Absent = reply.Absent
 
 -- whether an entry was taken out of it
@@ -129,7 +129,7 @@ RepliesTo (cmd.HVar s strength) r = r ≡ reply.Done
 RepliesTo (cmd.HFree s) r = r ≡ reply.Done
 RepliesTo (cmd.HPut k s) r = r ≡ reply.Done
 RepliesTo (cmd.HPick d k) r = r ≡ reply.Done
-RepliesTo (cmd.AddrOf s) r = is_place r ≡ true
+RepliesTo (cmd.AddrOf s) r = is_address r ≡ true
 RepliesTo (cmd.HUp s) r = is_value r ≡ true
 RepliesTo (cmd.HDown s) r = is_value r ≡ true
 RepliesTo (cmd.Trim kind) r = is_value r ≡ true

@@ -1,23 +1,10 @@
 -- One command of a context, with a slot in its first handle register.
 use Rattle.std.specs.Prelude.{◌≡◌, ℕ, Option, None}
 use Rattle.hd_model.specs.{declared.data.Entry.Entry, declared.data.Slot.Slot, declared.command.Cmd.Cmd}
-use Rattle.hd_model.specs.State.{State, handle_register_of}
 use Rattle.hd_model.specs.Run.{TakesLeast}
 pub use Rattle.hd_store.specs.Calls.{pointed}
-use Rattle.hd_store.specs.{Calls.HasCalled, Places.KeepsPlaces, StateHeap.KeepsStored, Store.Machine}
+use Rattle.hd_store.specs.{PinnedAddresses.KeepsPinned, StateHeap.KeepsStored, Store.Machine}
 use Rattle.hd_host.specs.View.{state_in}
-
--- the first handle register of a context has no slot
-abbrev pub HasNoSlot : State → ℕ → Type 0
-HasNoSlot s context = handle_register_of s context 0 ≡ None
-
--- a command with an offer was done with a slot in the first handle register of its context, which has none
--- after it
-pub record HasMoved (old : Machine) (context : ℕ) (slot : Option Slot) (command : Cmd)
-    (offered : Option Slot) (new : Machine) (e : Entry) : Type 0 where
-  pub after : Machine
-  pub called : HasCalled (pointed old context slot) context command offered after e
-  pub new_is : new ≡ pointed after context None
 
 -- a command of a context was done with a slot in its first handle register, which has none after it: its
 -- entry is one step of the machine, from any pinned addresses that are those of their objects, to others that
@@ -27,7 +14,7 @@ pub record HasStepped (old : Machine) (context : ℕ) (slot : Option Slot) (comm
     (e : Entry) : Type 0 where
   pub after : Machine
   pub command_is : (e.caller ≡ context) × (e.cmd ≡ command)
-  pub effect : KeepsPlaces (pointed old context slot) e after
+  pub effect : KeepsPinned (pointed old context slot) e after
   pub least : TakesLeast (state_in (pointed old context slot)) e command
   pub addresses : KeepsStored e (pointed old context slot).state old.heap after.heap
   pub new_is : new ≡ pointed after context None

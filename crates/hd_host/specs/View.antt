@@ -2,7 +2,7 @@
 use Rattle.std.specs.Prelude.{◌≡◌, ℕ, List, refl}
 use Rattle.std.specs.Coded.{Coded, code_by, coded×, coded_ℕ, coded_list}
 use Rattle.std.specs.FinMap.{empty}
-use Rattle.hd_model.specs.{declared.data.Id.Id, State.State, Places.with_places}
+use Rattle.hd_model.specs.{declared.data.Id.Id, State.State, PinnedAddresses.with_pinned}
 use Rattle.hd_store.specs.{StateHeap.IsStoredAt, Store.Machine, Store.machine_code}
 use Rattle.hd_host.specs.declared.change.Change.{Change}
 use Rattle.hd_host.specs.contracts.change.Change as change_contract
@@ -24,7 +24,7 @@ host_view_code =
 
 -- the state of a store without pinned addresses, of which it keeps none
 abbrev pub state_in : Machine → State
-state_in m = with_places m.state empty
+state_in m = with_pinned m.state empty
 
 -- nothing differs that a call can tell: the state, the address of each object, the ages of the clumps, the
 -- stamps, and what the last call that was done did

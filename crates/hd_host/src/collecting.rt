@@ -1,11 +1,10 @@
 // Collections, the finalization queue, blocks that are given back, and why an object lives.
-ghost use Rattle.std.specs.Prelude.{◌≡◌, ◌<◌, ◌≤◌, false, None, MatchResult};
+ghost use Rattle.std.specs.Prelude.{◌≡◌, ◌<◌, ◌≤◌, false, None};
 ghost use Rattle.hd_model.specs.{Kinds.is_paired};
 ghost use Rattle.hd_model.specs.declared.command.Cmd.TheVariants as cmd;
 ghost use Rattle.hd_model.specs.declared.data.Reply.TheVariants as reply;
-ghost use Rattle.hd_host.specs.Calls.{HasReplied, FailsBy, Trims};
+ghost use Rattle.hd_host.specs.Calls.{HasReplied, Trims, Tries};
 ghost use Rattle.hd_host.specs.Replies.{queued_reply, root_reply};
-ghost use Rattle.hd_host.specs.View.{IsAsItWas};
 
 use crate::fault::Fault;
 use crate::host::Host;
@@ -24,10 +23,7 @@ impl Host {
     /// Collects generation `n` and all younger ones. Nothing else collects.
     pub fn collect(&mut self, n: u8) -> Result<Report, Fault>
         requires { n ≤ OLDEST }
-        ensures does { let c = cmd.Collect n in
-            MatchResult result
-            (λ report. HasReplied self.old 0 None c (reply.Report report) self.new)
-            (λ fault. FailsBy self.old 0 None c fault × IsAsItWas self.old self.new) }
+        ensures does { Tries self.old 0 (cmd.Collect n) reply.Report self.new result }
         ensures contexts { self.new.machine.numbers.callers ≡ self.old.machine.numbers.callers }
     {
         // Read for the proof alone: there is a context 0.
@@ -41,7 +37,8 @@ impl Host {
     pub fn final_next(&mut self, context: u32, dst: u8) -> Option<Id>
         requires context { context < self.old.machine.numbers.callers }
         requires local { dst < REGISTERS }
-        ensures does { HasReplied self.old context None (cmd.Final dst) (queued_reply result) self.new }
+        ensures does { HasReplied self.old context None (cmd.Final dst) (queued_reply result)
+            self.new }
         ensures contexts { self.new.machine.numbers.callers ≡ self.old.machine.numbers.callers }
     {
         let reply = self.ask_plainly(context, Cmd::Final { d: dst });
@@ -66,10 +63,7 @@ impl Host {
     pub fn root_of(&mut self, context: u32, object: u8) -> Result<Option<Root>, Fault>
         requires context { context < self.old.machine.numbers.callers }
         requires local { object < REGISTERS }
-        ensures does { let c = cmd.GcRoot object in
-            MatchResult result
-            (λ root. HasReplied self.old context None c (root_reply root) self.new)
-            (λ fault. FailsBy self.old context None c fault × IsAsItWas self.old self.new) }
+        ensures does { Tries self.old context (cmd.GcRoot object) root_reply self.new result }
         ensures contexts { self.new.machine.numbers.callers ≡ self.old.machine.numbers.callers }
     {
         let entry = self.ask(context, Cmd::GcRoot { s: object })?;

@@ -1,7 +1,7 @@
 ghost use Rattle.std.specs.Prelude.{◌≡◌, false, MatchResult};
 ghost use Rattle.hd_model.specs.{declared.data.Refusal.Refusal, Aging.is_refused};
 ghost use Rattle.hd_model.specs.declared.data.Reply.TheVariants as reply;
-ghost use Rattle.hd_host.specs.Faults.{fault_of};
+ghost use Rattle.hd_host.specs.Inside.{fault_of};
 
 use hd_model::{Entry, Refusal, Reply};
 

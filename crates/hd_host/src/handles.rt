@@ -2,9 +2,9 @@
 ghost use Rattle.std.specs.Prelude.{◌≡◌, ◌+◌, ◌<◌, ◌^◌, None, Some, IsSome, true, false, MatchResult};
 ghost use Rattle.hd_model.specs.declared.command.Cmd.TheVariants as cmd;
 ghost use Rattle.hd_model.specs.declared.data.Reply.TheVariants as reply;
-ghost use Rattle.hd_model.specs.{declared.data.Id.Id, declared.data.Slot.Slot, Command.loaded, Valid.IsValidMake};
+ghost use Rattle.hd_model.specs.{declared.data.Id.Id, declared.data.Slot.Slot, Command.load_reply, Valid.IsValidMake};
 ghost use Rattle.hd_model.specs.State.{Handle as Held, count_of, handle_at};
-ghost use Rattle.hd_host.specs.Calls.{RepliesOf, FailsOf, FailsBy, MakesHandle, FreesHandle};
+ghost use Rattle.hd_host.specs.Calls.{FailsOf, FailsBy, MakesHandle, FreesHandle, TriesOf};
 ghost use Rattle.hd_host.specs.declared.stamps.TheConstants.{END as end_stamp};
 ghost use Rattle.hd_commands.specs.Handles.{extra_of};
 ghost use Rattle.hd_host.specs.{Handles.IsOf, Handles.handle_of, Handles.stamp_of, View.IsAsItWas};
@@ -13,7 +13,7 @@ use crate::change::Change;
 use crate::fault::Fault;
 use crate::handle::Handle;
 use crate::host::Host;
-use crate::replies::{loaded, place, value};
+use crate::replies::{address, load_reply, value};
 use crate::stamps::END;
 use hd_model::limits::REGISTERS;
 use hd_model::{Cmd, Grown, Id, Make, Slot, Strength};
@@ -66,9 +66,7 @@ impl Host {
     pub fn handle_get(&mut self, context: u32, handle: Handle, dst: u8) -> Result<Option<Id>, Fault>
         requires context { context < self.old.machine.numbers.callers }
         requires local { dst < REGISTERS }
-        ensures does { let c = cmd.HGet dst 0 in
-            MatchResult result (λ id. RepliesOf self.old context handle c (loaded id) self.new)
-            (λ fault. FailsOf self.old context handle c fault × IsAsItWas self.old self.new) }
+        ensures does { TriesOf self.old context handle (cmd.HGet dst 0) load_reply self.new result }
         ensures contexts { self.new.machine.numbers.callers ≡ self.old.machine.numbers.callers }
     {
         if !self.has_stamp(handle) {
@@ -89,9 +87,8 @@ impl Host {
     pub fn handle_set(&mut self, context: u32, handle: Handle, src: u8) -> Result<(), Fault>
         requires context { context < self.old.machine.numbers.callers }
         requires local { src < REGISTERS }
-        ensures does { let c = cmd.HSet 0 src in
-            MatchResult result (λ _. RepliesOf self.old context handle c reply.Done self.new)
-            (λ fault. FailsOf self.old context handle c fault × IsAsItWas self.old self.new) }
+        ensures does { TriesOf self.old context handle (cmd.HSet 0 src) (λ _. reply.Done) self.new
+            result }
         ensures contexts { self.new.machine.numbers.callers ≡ self.old.machine.numbers.callers }
     {
         self.ask_of(context, handle, Cmd::HSet { s: 0, t: src })?;
@@ -107,13 +104,11 @@ impl Host {
     ) -> Result<Option<Id>, Fault>
         requires context { context < self.old.machine.numbers.callers }
         requires local { dst < REGISTERS }
-        ensures does { let c = cmd.HDep dst 0 in
-            MatchResult result (λ id. RepliesOf self.old context handle c (loaded id) self.new)
-            (λ fault. FailsOf self.old context handle c fault × IsAsItWas self.old self.new) }
+        ensures does { TriesOf self.old context handle (cmd.HDep dst 0) load_reply self.new result }
         ensures contexts { self.new.machine.numbers.callers ≡ self.old.machine.numbers.callers }
     {
         let entry = self.ask_of(context, handle, Cmd::HDep { d: dst, s: 0 })?;
-        Ok(loaded(entry.reply))
+        Ok(load_reply(entry.reply))
     }
 
     /// The secondary of a dependent handle, whose target is not null, becomes what the local
@@ -121,9 +116,8 @@ impl Host {
     pub fn secondary_set(&mut self, context: u32, handle: Handle, src: u8) -> Result<(), Fault>
         requires context { context < self.old.machine.numbers.callers }
         requires local { src < REGISTERS }
-        ensures does { let c = cmd.HSec 0 src in
-            MatchResult result (λ _. RepliesOf self.old context handle c reply.Done self.new)
-            (λ fault. FailsOf self.old context handle c fault × IsAsItWas self.old self.new) }
+        ensures does { TriesOf self.old context handle (cmd.HSec 0 src) (λ _. reply.Done) self.new
+            result }
         ensures contexts { self.new.machine.numbers.callers ≡ self.old.machine.numbers.callers }
     {
         self.ask_of(context, handle, Cmd::HSec { h: 0, s: src })?;
@@ -132,9 +126,8 @@ impl Host {
 
     /// A variable handle gets the strength.
     pub fn strength_set(&mut self, handle: Handle, strength: Strength) -> Result<(), Fault>
-        ensures does { let c = cmd.HVar 0 strength in
-            MatchResult result (λ _. RepliesOf self.old 0 handle c reply.Done self.new)
-            (λ fault. FailsOf self.old 0 handle c fault × IsAsItWas self.old self.new) }
+        ensures does { TriesOf self.old 0 handle (cmd.HVar 0 strength) (λ _. reply.Done) self.new
+            result }
         ensures contexts { self.new.machine.numbers.callers ≡ self.old.machine.numbers.callers }
     {
         // Read for the proof alone: there is a context 0.
@@ -145,9 +138,7 @@ impl Host {
 
     /// The count of a ref-counted handle rises by one, and is returned.
     pub fn count_up(&mut self, handle: Handle) -> Result<u64, Fault>
-        ensures does { let c = cmd.HUp 0 in
-            MatchResult result (λ count. RepliesOf self.old 0 handle c (reply.Value count) self.new)
-            (λ fault. FailsOf self.old 0 handle c fault × IsAsItWas self.old self.new) }
+        ensures does { TriesOf self.old 0 handle (cmd.HUp 0) reply.Value self.new result }
         ensures contexts { self.new.machine.numbers.callers ≡ self.old.machine.numbers.callers }
     {
         // Read for the proof alone: there is a context 0, and each live slot has a stamp.
@@ -162,9 +153,7 @@ impl Host {
 
     /// The count of a ref-counted handle falls by one, and is returned.
     pub fn count_down(&mut self, handle: Handle) -> Result<u64, Fault>
-        ensures does { let c = cmd.HDown 0 in
-            MatchResult result (λ count. RepliesOf self.old 0 handle c (reply.Value count) self.new)
-            (λ fault. FailsOf self.old 0 handle c fault × IsAsItWas self.old self.new) }
+        ensures does { TriesOf self.old 0 handle (cmd.HDown 0) reply.Value self.new result }
         ensures contexts { self.new.machine.numbers.callers ≡ self.old.machine.numbers.callers }
     {
         // Read for the proof alone: there is a context 0.
@@ -176,15 +165,13 @@ impl Host {
     /// The address of what a handle pins, which stays while a handle pins the object
     /// (GCHandle.AddrOfPinnedObject).
     pub fn address(&mut self, handle: Handle) -> Result<u32, Fault>
-        ensures does { let c = cmd.AddrOf 0 in
-            MatchResult result (λ cell. RepliesOf self.old 0 handle c (reply.Place cell) self.new)
-            (λ fault. FailsOf self.old 0 handle c fault × IsAsItWas self.old self.new) }
+        ensures does { TriesOf self.old 0 handle (cmd.AddrOf 0) reply.Place self.new result }
         ensures contexts { self.new.machine.numbers.callers ≡ self.old.machine.numbers.callers }
     {
         // Read for the proof alone: there is a context 0.
         let _contexts = self.contexts();
         let entry = self.ask_of(0, handle, Cmd::AddrOf { s: 0 })?;
-        Ok(place(entry.reply))
+        Ok(address(entry.reply))
     }
 
     // The handle in a live slot.
@@ -212,8 +199,8 @@ impl Host {
 
     // Whether a handle is live, and its count is at its end.
     fn is_at_end(&self, handle: Handle) -> bool
-        ensures at_end { result ≡ true → (slot : Slot) × (held : Held Id) × IsOf self.now handle slot
-            × (handle_at self.now.machine.state slot ≡ Some held)
+        ensures at_end { result ≡ true → (slot : Slot) × (held : Held Id)
+            × IsOf self.now handle slot × (handle_at self.now.machine.state slot ≡ Some held)
             × (count_of held.extra + 1 ≡ 2 ^ 32) }
         ensures below { result ≡ false → (slot : Slot) (held : Held Id) → IsOf self.now handle slot
             → handle_at self.now.machine.state slot ≡ Some held → count_of held.extra + 1 < 2 ^ 32 }

@@ -3,9 +3,9 @@ ghost use Rattle.hd_model.specs.{declared.data.Slot.Slot, declared.data.Refusal.
 ghost use Rattle.hd_model.specs.declared.data.Grown.TheVariants.{Zero};
 ghost use Rattle.hd_model.specs.declared.data.Reply.TheVariants as reply;
 ghost use Rattle.hd_model.specs.State.{Numbers, start_of};
-ghost use Rattle.hd_host.specs.{Changes.changed_by, Faults.fault_of, Steps.HasStepped, View.IsAsItWas};
+ghost use Rattle.hd_host.specs.{Changes.changed_by, Steps.HasStepped, View.IsAsItWas, Inside.fault_of};
 ghost use Rattle.hd_host.specs.Handles.{IsOf, IsStale, handle_of};
-ghost use Rattle.hd_host.specs.Calls.{MayAsk, IsUnbounded, HasDone, RanOutOfMemory, FailsBy, FailsOf};
+ghost use Rattle.hd_host.specs.{Inside.MayAsk, Inside.IsUnbounded, Calls.HasDone, Calls.RanOutOfMemory, Calls.FailsBy, Calls.FailsOf};
 
 use crate::change::Change;
 use crate::fault::{Fault, unrefused};

@@ -22,4 +22,4 @@ pub use handle::Handle;
 pub use hd_store::{ExtraInfo, HandleInfo};
 pub use host::{Host, Limits};
 pub use observing::{Listed, Stats};
-pub use weak::Found;
+pub use weak::Lookup;

@@ -1,15 +1,14 @@
 // The calls on objects, locals and statics.
-ghost use Rattle.std.specs.Prelude.{◌≡◌, ℕ, ◌+◌, ◌<◌, ◌≤◌, ◌^◌, Bool, None, MatchResult};
+ghost use Rattle.std.specs.Prelude.{◌≡◌, ℕ, ◌+◌, ◌<◌, ◌≤◌, ◌^◌, Bool, None};
 ghost use Rattle.hd_model.specs.declared.command.Cmd.TheVariants as cmd;
 ghost use Rattle.hd_model.specs.declared.data.Reply.TheVariants as reply;
-ghost use Rattle.hd_model.specs.{Command.loaded, State.last_serial};
-ghost use Rattle.hd_host.specs.Calls.{HasReplied, FailsBy, IsNeverRefused};
+ghost use Rattle.hd_model.specs.{Command.load_reply, State.last_serial};
+ghost use Rattle.hd_host.specs.{Calls.HasReplied, Calls.FailsBy, Calls.Tries, Inside.IsNeverRefused};
 ghost use Rattle.hd_host.specs.Replies.{RepliesTo};
-ghost use Rattle.hd_host.specs.View.{IsAsItWas};
 
 use crate::fault::Fault;
 use crate::host::Host;
-use crate::replies::{generation, loaded, made, value};
+use crate::replies::{generation, load_reply, made, value};
 use hd_model::limits::{FIELDS, HEADER, REGISTERS};
 use hd_model::{Cmd, Id, Reply};
 
@@ -21,13 +20,11 @@ impl Host {
         requires context { context < self.old.machine.numbers.callers }
         requires local { dst < REGISTERS }
         requires fields { fields ≤ FIELDS }
-        ensures does { let c = cmd.New dst fields fin in
-            MatchResult result
-            (λ id. HasReplied self.old context None c (reply.Object id) self.new)
-            (λ fault. FailsBy self.old context None c fault × IsAsItWas self.old self.new) }
+        ensures does { Tries self.old context (cmd.New dst fields fin) reply.Object self.new
+            result }
         ensures contexts { self.new.machine.numbers.callers ≡ self.old.machine.numbers.callers }
     {
-        if self.store.last_serial(context) == u32::MAX {
+        if self.store.contents().last_serial(context) == u32::MAX {
             return Err(self.no_serial_left(context, fields));
         }
         let cmd = Cmd::New {
@@ -44,11 +41,13 @@ impl Host {
         requires context { context < self.now.machine.numbers.callers }
         requires fields { fields ≤ FIELDS }
         requires at_end { last_serial self.now.machine.state context + 1 ≡ 2 ^ 32 }
-        ensures { (d : ℕ) (fin : Bool) → FailsBy self.now context None (cmd.New d fields fin) result }
+        ensures { (d : ℕ) (fin : Bool) → FailsBy self.now context None (cmd.New d fields fin)
+            result }
     {
-        let used = self.store.cells();
+        let store = self.store.contents();
+        let used = store.cells();
         let size = u32::from(fields) + HEADER;
-        if u64::from(used) + u64::from(size) > u64::from(self.store.cells_limit()) {
+        if u64::from(used) + u64::from(size) > u64::from(store.limit()) {
             Fault::HeapFull { used, size }
         } else {
             Fault::Exhausted
@@ -65,10 +64,7 @@ impl Host {
     ) -> Result<Option<Id>, Fault>
         requires context { context < self.old.machine.numbers.callers }
         requires locals { (dst < REGISTERS) × (object < REGISTERS) }
-        ensures does { let c = cmd.Get dst object i in
-            MatchResult result
-            (λ id. HasReplied self.old context None c (loaded id) self.new)
-            (λ fault. FailsBy self.old context None c fault × IsAsItWas self.old self.new) }
+        ensures does { Tries self.old context (cmd.Get dst object i) load_reply self.new result }
         ensures contexts { self.new.machine.numbers.callers ≡ self.old.machine.numbers.callers }
     {
         let entry = self.ask(
@@ -79,16 +75,15 @@ impl Host {
                 i,
             },
         )?;
-        Ok(loaded(entry.reply))
+        Ok(load_reply(entry.reply))
     }
 
     /// Field `i` of the object gets what local `src` references. A null `src` stores null.
     pub fn field_set(&mut self, context: u32, object: u8, i: u8, src: u8) -> Result<(), Fault>
         requires context { context < self.old.machine.numbers.callers }
         requires locals { (object < REGISTERS) × (src < REGISTERS) }
-        ensures does { let c = cmd.Set object i src in
-            MatchResult result (λ _. HasReplied self.old context None c reply.Done self.new)
-            (λ fault. FailsBy self.old context None c fault × IsAsItWas self.old self.new) }
+        ensures does { Tries self.old context (cmd.Set object i src) (λ _. reply.Done) self.new
+            result }
         ensures contexts { self.new.machine.numbers.callers ≡ self.old.machine.numbers.callers }
     {
         self.ask(
@@ -106,10 +101,7 @@ impl Host {
     pub fn value_get(&mut self, context: u32, object: u8) -> Result<u64, Fault>
         requires context { context < self.old.machine.numbers.callers }
         requires local { object < REGISTERS }
-        ensures does { let c = cmd.Read object in
-            MatchResult result
-            (λ value. HasReplied self.old context None c (reply.Value value) self.new)
-            (λ fault. FailsBy self.old context None c fault × IsAsItWas self.old self.new) }
+        ensures does { Tries self.old context (cmd.Read object) reply.Value self.new result }
         ensures contexts { self.new.machine.numbers.callers ≡ self.old.machine.numbers.callers }
     {
         let entry = self.ask(context, Cmd::Read { o: object })?;
@@ -120,9 +112,8 @@ impl Host {
     pub fn value_set(&mut self, context: u32, object: u8, value: u64) -> Result<(), Fault>
         requires context { context < self.old.machine.numbers.callers }
         requires local { object < REGISTERS }
-        ensures does { let c = cmd.Val object value in
-            MatchResult result (λ _. HasReplied self.old context None c reply.Done self.new)
-            (λ fault. FailsBy self.old context None c fault × IsAsItWas self.old self.new) }
+        ensures does { Tries self.old context (cmd.Val object value) (λ _. reply.Done) self.new
+            result }
         ensures contexts { self.new.machine.numbers.callers ≡ self.old.machine.numbers.callers }
     {
         self.ask(
@@ -139,10 +130,7 @@ impl Host {
     pub fn generation(&mut self, context: u32, object: u8) -> Result<u8, Fault>
         requires context { context < self.old.machine.numbers.callers }
         requires local { object < REGISTERS }
-        ensures does { let c = cmd.Gen object in
-            MatchResult result
-            (λ g. HasReplied self.old context None c (reply.Generation g) self.new)
-            (λ fault. FailsBy self.old context None c fault × IsAsItWas self.old self.new) }
+        ensures does { Tries self.old context (cmd.Gen object) reply.Generation self.new result }
         ensures contexts { self.new.machine.numbers.callers ≡ self.old.machine.numbers.callers }
     {
         let entry = self.ask(context, Cmd::Gen { s: object })?;
@@ -153,9 +141,8 @@ impl Host {
     pub fn suppress(&mut self, context: u32, object: u8) -> Result<(), Fault>
         requires context { context < self.old.machine.numbers.callers }
         requires local { object < REGISTERS }
-        ensures does { let c = cmd.Suppress object in
-            MatchResult result (λ _. HasReplied self.old context None c reply.Done self.new)
-            (λ fault. FailsBy self.old context None c fault × IsAsItWas self.old self.new) }
+        ensures does { Tries self.old context (cmd.Suppress object) (λ _. reply.Done) self.new
+            result }
         ensures contexts { self.new.machine.numbers.callers ≡ self.old.machine.numbers.callers }
     {
         self.ask(context, Cmd::Suppress { s: object })?;
@@ -166,9 +153,8 @@ impl Host {
     pub fn reregister(&mut self, context: u32, object: u8) -> Result<(), Fault>
         requires context { context < self.old.machine.numbers.callers }
         requires local { object < REGISTERS }
-        ensures does { let c = cmd.Reregister object in
-            MatchResult result (λ _. HasReplied self.old context None c reply.Done self.new)
-            (λ fault. FailsBy self.old context None c fault × IsAsItWas self.old self.new) }
+        ensures does { Tries self.old context (cmd.Reregister object) (λ _. reply.Done) self.new
+            result }
         ensures contexts { self.new.machine.numbers.callers ≡ self.old.machine.numbers.callers }
     {
         self.ask(context, Cmd::Reregister { s: object })?;
@@ -209,11 +195,12 @@ impl Host {
     pub fn static_get(&mut self, context: u32, dst: u8, k: u8) -> Option<Id>
         requires context { context < self.old.machine.numbers.callers }
         requires statics { (dst < REGISTERS) × (k < REGISTERS) }
-        ensures does { HasReplied self.old context None (cmd.SGet dst k) (loaded result) self.new }
+        ensures does { HasReplied self.old context None (cmd.SGet dst k) (load_reply result)
+            self.new }
         ensures contexts { self.new.machine.numbers.callers ≡ self.old.machine.numbers.callers }
     {
         let reply = self.ask_plainly(context, Cmd::SGet { d: dst, k });
-        loaded(reply)
+        load_reply(reply)
     }
 
     // Does a command that the machine never refuses, and that takes no memory.

@@ -46,12 +46,13 @@ impl Host {
         ensures blocks { result.blocks ≡ given_of self.now.machine.state }
         ensures queued { result.queued ≡ length self.now.machine.state.queue }
     {
+        let store = self.store.contents();
         Stats {
-            objects: self.store.objects(),
-            cells: self.store.cells(),
-            handles: self.store.live(),
-            blocks: self.store.blocks_given(),
-            queued: self.store.queued(),
+            objects: store.objects(),
+            cells: store.cells(),
+            handles: store.live(),
+            blocks: store.given(),
+            queued: store.queued(),
         }
     }
 
@@ -98,7 +99,7 @@ impl Host {
         ensures next { MatchOption result (HasNoneFrom self.now from) (IsNextFrom self.now from) }
         ensures few { IfSome result (λ l. l.slot.0 < 2 ^ 16) }
     {
-        let end = (self.store.blocks() + 1) * ROWS;
+        let end = (self.store.contents().blocks() + 1) * ROWS;
         for number in from..end {
             let slot = Slot(number);
             if let Some(info) = self.store.handle(slot) {

@@ -3,7 +3,7 @@ ghost use Rattle.std.specs.Prelude.{◌≡◌, ◌<◌, None, MatchResult};
 ghost use Rattle.hd_model.specs.Valid.{IsValid};
 ghost use Rattle.hd_slots.specs.Change.{change_in};
 ghost use Rattle.hd_store.specs.{Calls.MayCall, Offers.RanOut};
-ghost use Rattle.hd_host.specs.Steps.{HasMoved, HasNoSlot, pointed};
+ghost use Rattle.hd_host.specs.{Inside.HasMoved, Inside.HasNoSlot, Steps.pointed};
 
 use hd_model::{Cmd, Entry, Kind, Memory, Slot};
 use hd_slots::{Change, change_of};

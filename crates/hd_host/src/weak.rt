@@ -1,7 +1,7 @@
 // The calls on the weak table.
 ghost use Rattle.std.specs.Prelude.{◌≡◌, ◌<◌, None, MatchResult};
 ghost use Rattle.hd_model.specs.declared.command.Cmd.TheVariants as cmd;
-ghost use Rattle.hd_host.specs.Calls.{AddsEntry, HasReplied, FailsBy};
+ghost use Rattle.hd_host.specs.Calls.{AddsEntry, FailsBy, Tries};
 ghost use Rattle.hd_host.specs.Replies.{found_reply, removed_reply};
 ghost use Rattle.hd_host.specs.View.{IsAsItWas};
 
@@ -13,7 +13,7 @@ use hd_model::{Cmd, Id};
 
 /// What the weak table has for a key: the value of its entry, or null, or no entry.
 #[derive(Clone, Copy, Debug, PartialEq, Eq)]
-pub enum Found {
+pub enum Lookup {
     Value(Option<Id>),
     Absent,
 }
@@ -36,13 +36,10 @@ impl Host {
 
     /// Local `dst` gets the value of the entry of a key, and becomes null where there is none
     /// (TryGetValue).
-    pub fn table_find(&mut self, context: u32, dst: u8, key: u8) -> Result<Found, Fault>
+    pub fn table_find(&mut self, context: u32, dst: u8, key: u8) -> Result<Lookup, Fault>
         requires context { context < self.old.machine.numbers.callers }
         requires locals { (dst < REGISTERS) × (key < REGISTERS) }
-        ensures does { let c = cmd.CFind dst key in
-            MatchResult result
-            (λ found. HasReplied self.old context None c (found_reply found) self.new)
-            (λ fault. FailsBy self.old context None c fault × IsAsItWas self.old self.new) }
+        ensures does { Tries self.old context (cmd.CFind dst key) found_reply self.new result }
         ensures contexts { self.new.machine.numbers.callers ≡ self.old.machine.numbers.callers }
     {
         let entry = self.ask(context, Cmd::CFind { d: dst, k: key })?;
@@ -53,10 +50,7 @@ impl Host {
     pub fn table_remove(&mut self, context: u32, key: u8) -> Result<bool, Fault>
         requires context { context < self.old.machine.numbers.callers }
         requires local { key < REGISTERS }
-        ensures does { let c = cmd.CRemove key in
-            MatchResult result
-            (λ removed. HasReplied self.old context None c (removed_reply removed) self.new)
-            (λ fault. FailsBy self.old context None c fault × IsAsItWas self.old self.new) }
+        ensures does { Tries self.old context (cmd.CRemove key) removed_reply self.new result }
         ensures contexts { self.new.machine.numbers.callers ≡ self.old.machine.numbers.callers }
     {
         let entry = self.ask(context, Cmd::CRemove { k: key })?;

@@ -3,7 +3,7 @@ ghost use Rattle.std.specs.Prelude.{◌≡◌, ◌<◌, ◌≤◌, false, IfOk};
 ghost use Rattle.hd_model.specs.{Kinds.is_paired, Valid.IsValidMake};
 
 use crate::same::same;
-use hd_host::{ExtraInfo, Fault, Found, Handle, Host, Limits, Root, Stats};
+use hd_host::{ExtraInfo, Fault, Handle, Host, Limits, Lookup, Root, Stats};
 use hd_model::limits::{BLOCKS, FIELDS, HEAP, OLDEST, REGISTERS};
 use hd_model::{Grown, Id, Kind, Make, Memory, Report, Slot, Strength};
 use std::process::Abort;
@@ -169,7 +169,7 @@ fn table_add(host: &mut Host, context: u32, key: u8, value: u8) -> Result<(), Fa
     host.table_add(context, key, value)
 }
 
-fn table_find(host: &mut Host, context: u32, dst: u8, key: u8) -> Result<Found, Fault>
+fn table_find(host: &mut Host, context: u32, dst: u8, key: u8) -> Result<Lookup, Fault>
     requires two { host.old.machine.numbers.callers ≡ 2 }
     requires range { (context < 2) × (dst < REGISTERS) × (key < REGISTERS) }
     ensures { host.new.machine.numbers.callers ≡ 2 }
@@ -370,7 +370,7 @@ fn refused_handles_leave_a_host_as_it_was(rt: HostRuntime) -> Result<(), Fail> {
     let full = Fault::TableFull { given: 2 };
     same(&rt, handle_new(&mut host, 0, Make::Strong, 0), Err(full));
     same(&rt, table_add(&mut host, 0, 0, 1), Err(full));
-    same(&rt, table_find(&mut host, 0, 2, 0), Ok(Found::Absent));
+    same(&rt, table_find(&mut host, 0, 2, 0), Ok(Lookup::Absent));
     same(&rt, table_remove(&mut host, 0, 0), Ok(false));
     let stats = Stats {
         objects: 1,
@@ -394,7 +394,7 @@ fn a_host_has_a_weak_table(rt: HostRuntime) -> Result<(), Fail> {
     same(
         &rt,
         table_find(&mut host, 0, 2, 0),
-        Ok(Found::Value(Some(Id(2)))),
+        Ok(Lookup::Value(Some(Id(2)))),
     );
     let Ok(dependent) = handle_new(&mut host, 0, Make::Dependent(1), 0) else {
         panic!(rt; "no handle");

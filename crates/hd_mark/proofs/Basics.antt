@@ -8,9 +8,9 @@ pub use Rattle.std.specs.Ordering.{nat_cmp}
 pub use Rattle.std.specs.Prelude.{AllPairs, Contains, IfSome, IsSome, if◌then◌else◌, is_some, map, option_map, ⊤}
 pub use Rattle.hd_heap.proofs.HeapValues.{same_address}
 pub use Rattle.hd_heap.specs.Calls.{is_condemned}
-pub use Rattle.hd_mark.specs.Inside.{AreMarks, HasPlaces, IsTable, bit_of, index_of, is_set, is_set_in, left, place_at, seen, set_of}
-pub use Rattle.hd_mark.specs.Marks.{GoesOn, HasNoneYet, IsSettledMarks, MarksOf, first_marks, is_older, log_of, marked_also, pinned_also, pinned_in, promoted_in, pushed}
-pub use Rattle.hd_mark.specs.Steps.{IsLog, IsNextDone, IsTraced, Marked, advanced, scanned}
+pub use Rattle.hd_mark.specs.{Inside.AreMarks, Inside.HasIndexes, Inside.IsTable, Inside.bit_of, Inside.left, Inside.index_at, Fields.index_of, Fields.is_set, Fields.is_set_in, Fields.seen, Fields.set_of}
+pub use Rattle.hd_mark.specs.{Marks.GoesOn, Marks.HasNoneYet, Marks.IsSettledMarks, Marks.MarksOf, Marks.first_marks, Marks.is_older, Marks.log_of, Marks.marked_also, Marks.pinned_in, Marks.promoted_in, Marks.pushed, Inside.pinned_also}
+pub use Rattle.hd_mark.specs.Inside.{IsLog, IsNextDone, IsTraced, Marked, advanced, scanned}
 pub use Rattle.hd_model.proofs.Members.{first_in, later_in, member_at, member_cases, not_in_none, pairs_append, pairs_cons, pairs_none, pairs_passing, passing_from, passing_in}
 pub use Rattle.hd_model.proofs.SceneCollection.{mapped_value}
 pub use Rattle.hd_model.specs.Heap.{Basis, Heap, has_object, object_at, objects_of, offset_of, region_generation}

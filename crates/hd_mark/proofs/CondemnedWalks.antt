@@ -1,5 +1,5 @@
 -- The walk that gives condemned regions their indices.
-use Rattle.hd_mark.proofs.Basics.{Addr, Contains, Heap, IsTable, List, None, Some, and_from, and_parts, ap, arith, both_ways, cases_Bool, cases_eq, cases_lt, get_or, get_or-set_other, get_or-set_same, get_or_default, has_object, index_of, inl, inr, is_condemned, is_some, le-leb, leb-true, length, nil_from_length, not_in_none, place_at, refl, region_generation, set, subst, sym, true, ℕ, ⊎_elim, ◌+◌, ◌<◌, ◌∙◌, ◌≡◌, ◌≢◌, ◌≤◌, ◌⊎◌}
+use Rattle.hd_mark.proofs.Basics.{Addr, Contains, Heap, IsTable, List, None, Some, and_from, and_parts, ap, arith, both_ways, cases_Bool, cases_eq, cases_lt, get_or, get_or-set_other, get_or-set_same, get_or_default, has_object, index_of, inl, inr, is_condemned, is_some, le-leb, leb-true, length, nil_from_length, not_in_none, index_at, refl, region_generation, set, subst, sym, true, ℕ, ⊎_elim, ◌+◌, ◌<◌, ◌∙◌, ◌≡◌, ◌≢◌, ◌≤◌, ◌⊎◌}
 use Rattle.std.proofs.Common.{replicate, suc, zero}
 use Rattle.hd_heap.proofs.NextObjects.{generation_is}
 use Rattle.hd_heap.specs.{Calls.HasCondemned, Calls.IsNextRegion, Sound.IsSound}
@@ -7,26 +7,26 @@ use Rattle.hd_model.specs.{Counting.Counts, Heap.region_of, declared.limits.TheC
 use Rattle.hd_model.proofs.MapEntries.{some_value}
 
 -- the condemned regions up to a number have their indices, from 1 on
-pub record IsPlaced (h : Heap) (n after : ℕ) (places : List ℕ) (regions : ℕ) : Type 0 where
-  pub table : IsTable places regions
+pub record IsPlaced (h : Heap) (n after : ℕ) (indexes : List ℕ) (regions : ℕ) : Type 0 where
+  pub table : IsTable indexes regions
   pub covers : (a : Addr) → is_condemned h n a ≡ true → region_of a ≤ after
-      → is_some (place_at places (region_of a)) ≡ true
-  pub young : (r p : ℕ) → place_at places r ≡ Some p → region_generation h r ≤ n
+      → is_some (index_at indexes (region_of a)) ≡ true
+  pub young : (r p : ℕ) → index_at indexes r ≡ Some p → region_generation h r ≤ n
   pub some : 0 < regions
   pub few : regions ≤ after + 1
 
 -- an index that is read is low
-pub index_low : (places : List ℕ) (regions r w : ℕ) → IsTable places regions → r < length places
-    → w ≡ get_or places r w → w < REGIONS
-index_low places regions r zero table within is = omega arith
-index_low places regions r (suc w) table within is =
-    let low = table.within r (suc w) (ap index_of (get_or_default places r 0 (suc w) within ∙ sym is)) in
+pub index_low : (indexes : List ℕ) (regions r w : ℕ) → IsTable indexes regions → r < length indexes
+    → w ≡ get_or indexes r w → w < REGIONS
+index_low indexes regions r zero table within is = omega arith
+index_low indexes regions r (suc w) table within is =
+    let low = table.within r (suc w) (ap index_of (get_or_default indexes r 0 (suc w) within ∙ sym is)) in
     omega (arith, low, table.few)
 
 -- ---- where no region has one
 
-module _ (places : List ℕ) (end : ℕ) (is : places ≡ replicate end 0) where
-  none_at : (r : ℕ) → place_at places r ≡ None
+module _ (indexes : List ℕ) (end : ℕ) (is : indexes ≡ replicate end 0) where
+  none_at : (r : ℕ) → index_at indexes r ≡ None
   none_at r = ap (λ ps. index_of (get_or ps r 0)) is ∙ ap index_of (by end r)
     where
       by : (end r : ℕ) → get_or {A = ℕ} (replicate end 0) r 0 ≡ zero
@@ -34,10 +34,10 @@ module _ (places : List ℕ) (end : ℕ) (is : places ≡ replicate end 0) where
       by (suc end) zero = refl
       by (suc end) (suc r) = by end r
 
-  never : (r p : ℕ) → place_at places r ≡ Some p → ⊥
+  never : (r p : ℕ) → index_at indexes r ≡ Some p → ⊥
   never r p here = let no : None ≡ Some p = sym (none_at r) ∙ here in absurd (cc)
 
-  pub bare_table : (regions : ℕ) → regions ≤ REGIONS → IsTable places regions
+  pub bare_table : (regions : ℕ) → regions ≤ REGIONS → IsTable indexes regions
   bare_table regions few = record {
     few = few;
     within = λ r p here. absurd (never r p here);
@@ -46,7 +46,7 @@ module _ (places : List ℕ) (end : ℕ) (is : places ≡ replicate end 0) where
 
   -- nothing is condemned
   pub bare_covers : (h : Heap) (n count : ℕ) → Counts (HasCondemned h n) count → count ≡ 0
-      → (a : Addr) → has_object h a ≡ true → is_some (place_at places (region_of a)) ≡ is_condemned h n a
+      → (a : Addr) → has_object h a ≡ true → is_some (index_at indexes (region_of a)) ≡ is_condemned h n a
   bare_covers h n count counts nothing a has =
       ap is_some (none_at (region_of a))
       ∙ sym (⊎_elim (λ young. absurd (not_in_none (region_of a) (subst (λ rs. Contains rs (region_of a))
@@ -54,7 +54,7 @@ module _ (places : List ℕ) (end : ℕ) (is : places ≡ replicate end 0) where
       (counts.all (region_of a) (a, (young, refl)))))) (λ no. no) (cases_Bool (is_condemned h n a)))
 
   -- no region was come to
-  pub bare_placed : (h : Heap) (n : ℕ) → IsSound h → IsPlaced h n 0 places 1
+  pub bare_placed : (h : Heap) (n : ℕ) → IsSound h → IsPlaced h n 0 indexes 1
   bare_placed h n sound = record {
     table = bare_table 1 (omega arith);
     covers = λ a condemned le.
@@ -67,26 +67,26 @@ module _ (places : List ℕ) (end : ℕ) (is : places ≡ replicate end 0) where
 
 -- ---- the next region
 
-module _ {h : Heap} {n after r regions : ℕ} (next : IsNextRegion h n after r) (places : List ℕ)
-    (placed : IsPlaced h n after places regions) (within : r < length places) where
+module _ {h : Heap} {n after r regions : ℕ} (next : IsNextRegion h n after r) (indexes : List ℕ)
+    (placed : IsPlaced h n after indexes regions) (within : r < length indexes) where
   abbrev more : List ℕ
-  more = set places r regions
+  more = set indexes r regions
 
-  here : place_at more r ≡ Some regions
-  here = ap index_of (get_or-set_same places r regions 0 within) ∙ by regions placed.some
+  here : index_at more r ≡ Some regions
+  here = ap index_of (get_or-set_same indexes r regions 0 within) ∙ by regions placed.some
     where
       by : (p : ℕ) → 0 < p → index_of p ≡ Some p
       by zero less = absurd (omega (arith, less))
       by (suc p) less = refl
 
-  elsewhere : (s : ℕ) → s ≢ r → place_at more s ≡ place_at places s
-  elsewhere s other = ap index_of (get_or-set_other places r s regions 0 other)
+  elsewhere : (s : ℕ) → s ≢ r → index_at more s ≡ index_at indexes s
+  elsewhere s other = ap index_of (get_or-set_other indexes r s regions 0 other)
 
   -- what has an index now is the region, or had one
-  index_how : (s p : ℕ) → place_at more s ≡ Some p
-      → ((s ≡ r) × (p ≡ regions)) ⊎ ((place_at places s ≡ Some p) × (p < regions))
+  index_how : (s p : ℕ) → index_at more s ≡ Some p
+      → ((s ≡ r) × (p ≡ regions)) ⊎ ((index_at indexes s ≡ Some p) × (p < regions))
   index_how s p is = elim (cases_eq s r) [
-    | inl same ↦ inl (same, (let e : Some p ≡ Some regions = sym is ∙ ap (place_at more) same ∙ here in cc e))
+    | inl same ↦ inl (same, (let e : Some p ≡ Some regions = sym is ∙ ap (index_at more) same ∙ here in cc e))
     | inr other ↦ let old = sym (elsewhere s other) ∙ is in inr (old, placed.table.within s p old)
   ]
 
@@ -98,7 +98,7 @@ module _ {h : Heap} {n after r regions : ℕ} (next : IsNextRegion h n after r) 
       let low = leb-true _ _ young in
       subst (λ (k : ℕ). region_generation h k ≤ n) next.region (omega (arith, same, low))
 
-  pub placed_next : length places ≤ REGIONS → IsPlaced h n r more (regions + 1)
+  pub placed_next : length indexes ≤ REGIONS → IsPlaced h n r more (regions + 1)
   placed_next short = record {
     table = record {
       few = (let few = placed.few in let beyond = next.beyond in omega arith);
@@ -111,7 +111,7 @@ module _ {h : Heap} {n after r regions : ℕ} (next : IsNextRegion h n after r) 
           (λ both. placed.table.apart s t p old.0 both.0) (index_how t p also)) (index_how s p is);
     };
     covers = λ a condemned le. elim (cases_eq (region_of a) r) [
-      | inl same ↦ ap (λ k. is_some (place_at more k)) same ∙ ap is_some here
+      | inl same ↦ ap (λ k. is_some (index_at more k)) same ∙ ap is_some here
       | inr other ↦ ap is_some (elsewhere (region_of a) other) ∙ ⊎_elim
           (λ later. absurd (let high = next.least a condemned later in omega (arith, high, le, other)))
           (placed.covers a condemned) (cases_lt after (region_of a))
@@ -124,14 +124,14 @@ module _ {h : Heap} {n after r regions : ℕ} (next : IsNextRegion h n after r) 
   }
 
 -- after the last one the table covers the heap
-pub placed_covers : {h : Heap} {n after regions : ℕ} {places : List ℕ} → IsPlaced h n after places regions
+pub placed_covers : {h : Heap} {n after regions : ℕ} {indexes : List ℕ} → IsPlaced h n after indexes regions
     → ((a : Addr) → is_condemned h n a ≡ true → region_of a ≤ after) → (a : Addr) → has_object h a ≡ true
-    → is_some (place_at places (region_of a)) ≡ is_condemned h n a
-placed_covers {h} {n} {after} {regions} {places} placed last a has =
+    → is_some (index_at indexes (region_of a)) ≡ is_condemned h n a
+placed_covers {h} {n} {after} {regions} {indexes} placed last a has =
     ⊎_elim (λ young. placed.covers a young (last a young) ∙ sym young)
     (λ older. ⊎_elim
     (λ some. absurd (both_ways _ older (and_from _ _ has (le-leb _ _
-    (let (p, here) = some_value (place_at places (region_of a)) some in
+    (let (p, here) = some_value (index_at indexes (region_of a)) some in
     omega (arith, placed.young (region_of a) p here, generation_is h a has))))))
-    (λ none. none ∙ sym older) (cases_Bool (is_some (place_at places (region_of a)))))
+    (λ none. none ∙ sym older) (cases_Bool (is_some (index_at indexes (region_of a)))))
     (cases_Bool (is_condemned h n a))

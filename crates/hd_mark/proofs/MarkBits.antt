@@ -1,11 +1,11 @@
 -- Bits read as sets of addresses: what a bit more does to them.
-use Rattle.hd_mark.proofs.Basics.{Addr, BITS, Bool, FinSet, Gains, IsTable, List, None, Option, REGION, Some, ap, arith, bit_or, cases_eq, contains, contains-empty, contains-insert, empty, false, get_or, get_or-set_other, get_or-set_same, index_of, inl, inr, insert, is_set, is_set_in, length, map, nat_cmp, or_cases, or_left, or_right, place_at, refl, same_address, same_set, set, sym, true, ℕ, ⊎_elim, ◌%◌, ◌*◌, ◌+◌, ◌/◌, ◌<◌, ◌==◌, ◌^◌, ◌||◌, ◌∙◌, ◌≡◌, ◌≢◌}
+use Rattle.hd_mark.proofs.Basics.{Addr, BITS, Bool, FinSet, Gains, IsTable, List, None, Option, REGION, Some, ap, arith, bit_or, cases_eq, contains, contains-empty, contains-insert, empty, false, get_or, get_or-set_other, get_or-set_same, index_of, inl, inr, insert, is_set, is_set_in, length, map, nat_cmp, or_cases, or_left, or_right, index_at, refl, same_address, same_set, set, sym, true, ℕ, ⊎_elim, ◌%◌, ◌*◌, ◌+◌, ◌/◌, ◌<◌, ◌==◌, ◌^◌, ◌||◌, ◌∙◌, ◌≡◌, ◌≢◌}
 use Rattle.std.proofs.Math.ListN.{get_or-map}
 use Rattle.std.proofs.lemmas.Grind.{get_or_default_zero}
 use Rattle.std.specs.{Int.bit_at, FinMap.nat_cmp-IsAntisymmetric, Cmp.nat_cmp_total}
 use Rattle.hd_mask.proofs.Bits.{set_same, set_other}
-use Rattle.hd_mark.specs.Inside.{set_of}
-use Rattle.hd_heap.proofs.IndexedLists.{tied, untied, contains-places_of, get_or-tables}
+use Rattle.hd_mark.specs.Fields.{set_of}
+use Rattle.hd_heap.proofs.IndexedLists.{tied, untied, contains-indexes_of, get_or-tables}
 
 -- ---- one bit
 
@@ -64,20 +64,20 @@ same_numbers = same_set nat_cmp_total nat_cmp-IsAntisymmetric
 
 -- ---- sets of addresses
 
-contains-set_of : (places words : List ℕ) (q : ℕ)
-    → contains (set_of places words) q ≡ is_set_in words (place_at places (q / REGION)) (q % REGION)
+contains-set_of : (indexes words : List ℕ) (q : ℕ)
+    → contains (set_of indexes words) q ≡ is_set_in words (index_at indexes (q / REGION)) (q % REGION)
 unfolding set_of
-contains-set_of places words q =
-    contains-places_of _ q
-    ∙ get_or-tables REGION (is_set_in words) false (λ k. refl) (map index_of places) q (q / REGION)
+contains-set_of indexes words q =
+    contains-indexes_of _ q
+    ∙ get_or-tables REGION (is_set_in words) false (λ k. refl) (map index_of indexes) q (q / REGION)
     (q % REGION) (omega arith) (omega arith)
-    ∙ ap (λ o. is_set_in words o (q % REGION)) (get_or-map index_of places (q / REGION) 0)
+    ∙ ap (λ o. is_set_in words o (q % REGION)) (get_or-map index_of indexes (q / REGION) 0)
 
 -- where no bit is set, no address is a member
-pub set_of_none : (places words : List ℕ) → ((i : ℕ) → is_set words i ≡ false) → set_of places words ≡ empty
-set_of_none places words none =
+pub set_of_none : (indexes words : List ℕ) → ((i : ℕ) → is_set words i ≡ false) → set_of indexes words ≡ empty
+set_of_none indexes words none =
     same_numbers _ _ (λ q.
-    contains-set_of places words q ∙ in_region (place_at places (q / REGION)) (q % REGION)
+    contains-set_of indexes words q ∙ in_region (index_at indexes (q / REGION)) (q % REGION)
     ∙ sym (contains-empty nat_cmp q))
   where
     in_region : (o : Option ℕ) (k : ℕ) → is_set_in words o k ≡ false
@@ -85,30 +85,30 @@ set_of_none places words none =
     in_region (Some p) k = none (p * REGION + k)
 
 -- the bit of an address in a region with an index
-module _ (places : List ℕ) (a p : ℕ) (here : place_at places (a / REGION) ≡ Some p) {bit : ℕ}
+module _ (indexes : List ℕ) (a p : ℕ) (here : index_at indexes (a / REGION) ≡ Some p) {bit : ℕ}
     (is : p * REGION + a % REGION ≡ bit) where
   -- whether it is set says whether the address is a member
-  pub bit_read : (words : List ℕ) → is_set words bit ≡ contains (set_of places words) a
+  pub bit_read : (words : List ℕ) → is_set words bit ≡ contains (set_of indexes words) a
   bit_read words =
       ap (is_set words) (sym is) ∙ ap (λ o. is_set_in words o (a % REGION)) (sym here)
-      ∙ sym (contains-set_of places words a)
+      ∙ sym (contains-set_of indexes words a)
 
   -- to set it is to insert the address
-  pub bit_joins : {regions : ℕ} (words after : List ℕ) → IsTable places regions → is_set after bit ≡ true
+  pub bit_joins : {regions : ℕ} (words after : List ℕ) → IsTable indexes regions → is_set after bit ≡ true
       → ((k : ℕ) → k ≢ bit → is_set after k ≡ is_set words k)
-      → set_of places after ≡ insert (set_of places words) a
+      → set_of indexes after ≡ insert (set_of indexes words) a
   bit_joins words after table joins others =
       same_numbers _ _ (λ q.
       elim (cases_eq q a) [
         | inl same ↦
-            ap (contains (set_of places after)) same ∙ sym (bit_read after) ∙ joins
-            ∙ sym (insert_here (set_of places words) a q same)
+            ap (contains (set_of indexes after)) same ∙ sym (bit_read after) ∙ joins
+            ∙ sym (insert_here (set_of indexes words) a q same)
         | inr apart ↦
-            contains-set_of places after q ∙ elsewhere q apart (place_at places (q / REGION)) refl
-            ∙ sym (contains-set_of places words q) ∙ sym (insert_elsewhere (set_of places words) a q apart)
+            contains-set_of indexes after q ∙ elsewhere q apart (index_at indexes (q / REGION)) refl
+            ∙ sym (contains-set_of indexes words q) ∙ sym (insert_elsewhere (set_of indexes words) a q apart)
       ])
     where
-      elsewhere : (q : ℕ) → q ≢ a → (r : Option ℕ) → place_at places (q / REGION) ≡ r
+      elsewhere : (q : ℕ) → q ≢ a → (r : Option ℕ) → index_at indexes (q / REGION) ≡ r
           → is_set_in after r (q % REGION) ≡ is_set_in words r (q % REGION)
       elsewhere q apart None there = refl
       elsewhere q apart (Some r) there = others (r * REGION + q % REGION) (λ e.

@@ -1,42 +1,42 @@
 -- What marks keep of their bits and their log.
-use Rattle.hd_mark.proofs.Basics.{Addr, AreMarks, Basis, FinSet, Heap, IsNextDone, IsTraced, List, MarksOf, REGION, Some, [], advanced, and_parts, ap, arith, bit_of, contains, drop, drop-append-le, drop_more, false, first_marks, if◌then◌else◌, insert, is_condemned, is_object, is_older, is_set, is_some, le-ltb, leb-true, left, length, length-append, length-drop, mapped_value, marked_also, nat_cmp, objects_of, offset_of, or_parts, pinned_also, pinned_in, place_at, promoted_in, pushed, refl, seen, set_of, subst, sym, take, take-append-le, take_more, true, ℕ, ◌*◌, ◌++◌, ◌+◌, ◌<◌, ◌||◌, ◌∙◌, ◌∷◌, ◌≡◌, ◌≢◌, ◌≤◌}
+use Rattle.hd_mark.proofs.Basics.{Addr, AreMarks, Basis, FinSet, Heap, IsNextDone, IsTraced, List, MarksOf, REGION, Some, [], advanced, and_parts, ap, arith, bit_of, contains, drop, drop-append-le, drop_more, false, first_marks, if◌then◌else◌, insert, is_condemned, is_object, is_older, is_set, is_some, le-ltb, leb-true, left, length, length-append, length-drop, mapped_value, marked_also, nat_cmp, objects_of, offset_of, or_parts, pinned_also, pinned_in, index_at, promoted_in, pushed, refl, seen, set_of, subst, sym, take, take-append-le, take_more, true, ℕ, ◌*◌, ◌++◌, ◌+◌, ◌<◌, ◌||◌, ◌∙◌, ◌∷◌, ◌≡◌, ◌≢◌, ◌≤◌}
 use Rattle.hd_model.specs.Heap.{region_of}
-use Rattle.hd_mark.specs.declared.places.Places.{Places}
+use Rattle.hd_mark.specs.declared.indexes.Indexes.{Indexes}
 use Rattle.hd_mark.proofs.MarkBits.{bit_read, bit_joins, set_of_none}
 use Rattle.hd_mark.proofs.{UnmarkedCount.left_falls, MarkPush.mark_traced}
 use Rattle.hd_mark.proofs.MarkDrain.{advance_traced, pin_traced}
 
 -- no bit is set at first, and nothing is logged
-pub first_seen : (h : Heap) (n : ℕ) (places marks pins : List ℕ) {log : List Addr}
+pub first_seen : (h : Heap) (n : ℕ) (indexes marks pins : List ℕ) {log : List Addr}
     → ((i : ℕ) → is_set marks i ≡ false) → ((i : ℕ) → is_set pins i ≡ false) → log ≡ []
-    → seen (record { heap = h; condemned = n }) places marks pins log 0 ≡ first_marks h n
-first_seen h n places marks pins unmarked unpinned none = λ i. record {
+    → seen (record { heap = h; condemned = n }) indexes marks pins log 0 ≡ first_marks h n
+first_seen h n indexes marks pins unmarked unpinned none = λ i. record {
   basis = record { heap = h; condemned = n };
-  marks = set_of_none places marks unmarked i;
-  pins = set_of_none places pins unpinned i;
+  marks = set_of_none indexes marks unmarked i;
+  pins = set_of_none indexes pins unpinned i;
   scanned = take 0 (none i);
   unscanned = drop 0 (none i);
 }
 
-module _ {b : Basis} {p : Places} {marks pins : List ℕ} {log : List Addr} {next room : ℕ}
+module _ {b : Basis} {p : Indexes} {marks pins : List ℕ} {log : List Addr} {next room : ℕ}
     (t : AreMarks b p marks pins log next room) {m : MarksOf}
-    (view : seen b p.places.items marks pins log next ≡ m) where
-  abbrev places : List ℕ
-  places = p.places.items
+    (view : seen b p.indexes.items marks pins log next ≡ m) where
+  abbrev indexes : List ℕ
+  indexes = p.indexes.items
 
   abbrev shown : (marks pins : List ℕ) → List Addr → ℕ → MarksOf
-  shown marks pins log from = seen b places marks pins log from
+  shown marks pins log from = seen b indexes marks pins log from
 
   known : IsTraced m
   known = subst IsTraced view t.traced
 
   again : (marked pinned : List ℕ) (logged : List Addr) (from : ℕ) → length marked ≡ length marks
       → length pinned ≡ length pins
-      → length logged + left (set_of places marked) t.condemned.members ≤ room → from ≤ length logged
+      → length logged + left (set_of indexes marked) t.condemned.members ≤ room → from ≤ length logged
       → {k : MarksOf} → shown marked pinned logged from ≡ k → IsTraced k
       → AreMarks b p marked pinned logged from room
   again marked pinned logged from same_marks same_pins fits within is traced = record {
-    places = t.places;
+    indexes = t.indexes;
     marks_long = same_marks ∙ t.marks_long;
     pins_long = same_pins ∙ t.pins_long;
     number = t.number;
@@ -68,7 +68,7 @@ module _ {b : Basis} {p : Places} {marks pins : List ℕ} {log : List Addr} {nex
         again marks pins log (next + 1) refl refl t.room_left (let w = next_within in omega arith)
         advance_seen (advance_traced m done known)
 
-    -- and nothing is left to scan: the next place is the end of the log
+    -- and nothing is left to scan: the next index is the end of the log
     module _ (last : drop 1 m.unscanned ≡ []) (end : ℕ) (whole : end ≡ length log) where
       passed : next + 1 ≡ end
       passed =
@@ -86,15 +86,15 @@ module _ {b : Basis} {p : Places} {marks pins : List ℕ} {log : List Addr} {nex
     there = subst (λ (k : MarksOf). is_object (objects_of k.basis) at ≡ true) (sym view) object
 
     -- its region is in the table
-    pub spanned : region_of at < length places
-    spanned = t.places.span at there
+    pub spanned : region_of at < length indexes
+    spanned = t.indexes.span at there
 
-    module _ {bit : ℕ} (is : bit_of places at ≡ Some bit) where
-      place : (q : ℕ) × ((place_at places (region_of at) ≡ Some q) × (q * REGION + offset_of at ≡ bit))
-      place = mapped_value (λ q. q * REGION + offset_of at) (place_at places (region_of at)) bit is
+    module _ {bit : ℕ} (is : bit_of indexes at ≡ Some bit) where
+      index : (q : ℕ) × ((index_at indexes (region_of at) ≡ Some q) × (q * REGION + offset_of at ≡ bit))
+      index = mapped_value (λ q. q * REGION + offset_of at) (index_at indexes (region_of at)) bit is
 
       condemned_here : is_condemned b.heap b.condemned at ≡ true
-      condemned_here = sym (t.places.covers at there) ∙ ap is_some place.1.0
+      condemned_here = sym (t.indexes.covers at there) ∙ ap is_some index.1.0
 
       not_older : is_older m.basis at ≡ false
       not_older =
@@ -105,14 +105,14 @@ module _ {b : Basis} {p : Places} {marks pins : List ℕ} {log : List Addr} {nex
       pub promoted_read : is_set marks bit ≡ promoted_in m at
       unfolding region_of
       promoted_read =
-          bit_read places at.0 place.0 place.1.0 place.1.1 marks
+          bit_read indexes at.0 index.0 index.1.0 index.1.1 marks
           ∙ ap (λ (k : MarksOf). contains k.marks at.0) view
           ∙ sym (ap (λ b. b || contains m.marks at.0) not_older)
 
       pub pinned_read : is_set pins bit ≡ pinned_in m at
       unfolding region_of
       pinned_read =
-          bit_read places at.0 place.0 place.1.0 place.1.1 pins
+          bit_read indexes at.0 index.0 index.1.0 index.1.1 pins
           ∙ ap (λ (k : MarksOf). contains k.pins at.0) view
           ∙ sym (ap (λ b. b || contains m.pins at.0) not_older)
 
@@ -122,16 +122,16 @@ module _ {b : Basis} {p : Places} {marks pins : List ℕ} {log : List Addr} {nex
 
       module _ (after : List ℕ) (joins : is_set after bit ≡ true) where
         more : (words : List ℕ) → ((k : ℕ) → k ≢ bit → is_set after k ≡ is_set words k)
-            → set_of places after ≡ insert (set_of places words) at.0
+            → set_of indexes after ≡ insert (set_of indexes words) at.0
         unfolding region_of
-        more words = bit_joins places at.0 place.0 place.1.0 place.1.1 words after t.places.table joins
+        more words = bit_joins indexes at.0 index.0 index.1.0 index.1.1 words after t.indexes.table joins
 
         -- it is pinned
         module _ (others : (k : ℕ) → k ≢ bit → is_set after k ≡ is_set pins k) where
           pub pin_seen : shown marks after log next ≡ pinned_also m at
           pin_seen =
               let one : shown marks after log next ≡ record (shown marks pins log next) {
-                pins = insert (set_of places pins) at.0;
+                pins = insert (set_of indexes pins) at.0;
               } =
               λ i. record (shown marks pins log next) { pins = more pins others i } in
               one ∙ ap (λ (k : MarksOf). record k { pins = insert k.pins at.0 }) view
@@ -144,12 +144,12 @@ module _ {b : Basis} {p : Places} {marks pins : List ℕ} {log : List Addr} {nex
         -- it is marked and logged, and had room there
         module _ (others : (k : ℕ) → k ≢ bit → is_set after k ≡ is_set marks k)
             (unmarked : promoted_in m at ≡ false) where
-          fewer_left : left (set_of places after) t.condemned.members + 1
-              ≤ left (set_of places marks) t.condemned.members
+          fewer_left : left (set_of indexes after) t.condemned.members + 1
+              ≤ left (set_of indexes marks) t.condemned.members
           fewer_left =
               subst (λ (s : FinSet nat_cmp). left s t.condemned.members + 1
-              ≤ left (set_of places marks) t.condemned.members) (sym (more marks others))
-              (left_falls (set_of places marks) at t.condemned.members t.condemned.apart
+              ≤ left (set_of indexes marks) t.condemned.members) (sym (more marks others))
+              (left_falls (set_of indexes marks) at t.condemned.members t.condemned.apart
               (ap (λ (k : MarksOf). contains k.marks at.0) view ∙ (or_parts _ _ unmarked).1)
               (t.condemned.all at condemned_here))
 

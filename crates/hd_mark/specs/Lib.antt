@@ -1,3 +1,3 @@
 pub mod Marks
+pub mod Fields
 pub mod Inside
-pub mod Steps

@@ -80,7 +80,3 @@ marked_also m a = record m { marks = set.insert m.marks a.0; unscanned = m.unsca
 
 abbrev pub pushed : MarksOf → Addr → MarksOf
 pushed m a = if promoted_in m a then m else marked_also m a
-
--- an object is pinned, unless it is older
-abbrev pub pinned_also : MarksOf → Addr → MarksOf
-pinned_also m a = if is_older m.basis a then m else (record m { pins = set.insert m.pins a.0 })

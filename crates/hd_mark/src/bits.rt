@@ -1,6 +1,6 @@
 // Sets of small numbers, a bit for each.
 ghost use Rattle.std.specs.Prelude.{◌≡◌, ◌≢◌, ℕ, ◌*◌, ◌<◌, ◌≤◌, true, false, length, IfOk};
-ghost use Rattle.hd_mark.specs.Inside.{is_set};
+ghost use Rattle.hd_mark.specs.Fields.{is_set};
 
 use hd_mask::bit;
 use hd_model::limits::{REGION, REGIONS};
@@ -10,7 +10,7 @@ use std::alloc::Global;
 // The numbers of one word.
 const BITS: u32 = 64;
 
-// The 64-bit words of one region: a bit for each word of the region.
+// The 64-bit words of one region: a bit for each cell of the region.
 const WORDS: u32 = REGION / BITS;
 
 /// A set of numbers, each below BITS times the number of words.
@@ -20,7 +20,7 @@ pub(crate) struct Bits {
 }
 
 impl Bits {
-    /// The empty set, with room for a number for each word of `regions` regions.
+    /// The empty set, with room for a number for each cell of `regions` regions.
     pub(crate) fn open(alloc: Global, regions: u32) -> Result<Bits, Memory>
         requires { regions ≤ REGIONS }
         ensures long { IfOk result (λ b. length b.words.items ≡ WORDS * regions) }

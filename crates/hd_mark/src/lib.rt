@@ -3,7 +3,7 @@
 #![tactic(auto)]
 
 mod bits;
+mod indexes;
 mod marks;
-mod places;
 
 pub use marks::Marks;

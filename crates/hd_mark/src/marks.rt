@@ -3,12 +3,12 @@ ghost use Rattle.std.specs.Prelude.{◌≡◌, ◌∷◌, [], ℕ, Bool, true, f
 ghost use Rattle.hd_model.specs.{Leads.Grows, Heap.object_at, Heap.objects_of, Names.HasClosedFields};
 ghost use Rattle.hd_model.specs.Scene.{fields_at, is_object, IsYoungField};
 ghost use Rattle.hd_heap.specs.Calls.{IsExtent};
-ghost use Rattle.hd_mark.specs.Marks.{first_marks, pushed, pinned_also, promoted_in, GoesOn};
+ghost use Rattle.hd_mark.specs.{Marks.first_marks, Marks.pushed, Marks.promoted_in, Marks.GoesOn, Inside.pinned_also};
 ghost use Rattle.hd_mark.specs.Marks.{HasNoneYet, IsSettledMarks};
-ghost use Rattle.hd_mark.specs.Steps.{scanned, advanced, IsTraced, IsNextDone, Marked};
+ghost use Rattle.hd_mark.specs.Inside.{scanned, advanced, IsTraced, IsNextDone, Marked};
 
 use crate::bits::Bits;
-use crate::places::Places;
+use crate::indexes::Indexes;
 use hd_heap::{Extent, Heap};
 use hd_model::{Addr, Marker, Memory, PromotionLog};
 use std::alloc::Global;
@@ -24,7 +24,7 @@ use std::marker::Model;
 pub struct Marks<'h> {
     heap: &'h Heap,
     condemned: u8,
-    places: Places,
+    indexes: Indexes,
     marks: Bits,
     pins: Bits,
     // What was marked, with room for each condemned object, and how many of these were scanned.
@@ -34,17 +34,17 @@ pub struct Marks<'h> {
 
 impl<'h> Model for Marks<'h> {
     ghost use Rattle.std.specs.Prelude.{vec_capacity};
-    ghost use Rattle.hd_mark.specs.{Marks.MarksOf, Marks.marks_code, Inside.seen, Inside.AreMarks};
+    ghost use Rattle.hd_mark.specs.{Marks.MarksOf, Marks.marks_code, Fields.seen, Inside.AreMarks};
 
     ghost Value = { MarksOf };
 
     ghost coded = { marks_code };
 
     ghost view = { λ m. seen (record { heap = m.heap.now; condemned = m.condemned })
-        m.places.places.items m.marks.words.items m.pins.words.items m.log.items m.next };
+        m.indexes.indexes.items m.marks.words.items m.pins.words.items m.log.items m.next };
 
     ghost invariant = { λ m. AreMarks (record { heap = m.heap.now; condemned = m.condemned })
-        m.places m.marks.words.items m.pins.words.items m.log.items m.next
+        m.indexes m.marks.words.items m.pins.words.items m.log.items m.next
         (vec_capacity m.log) };
 }
 
@@ -68,16 +68,16 @@ impl<'h> Marks<'h> {
         ensures settled { IfOk result IsSettledMarks }
         ensures none { IfOk result HasNoneYet }
     {
-        let places = Places::of(alloc, heap, n, extent)?;
-        let marks = Bits::open(alloc, places.regions)?;
-        let pins = Bits::open(alloc, places.regions)?;
+        let indexes = Indexes::of(alloc, heap, n, extent)?;
+        let marks = Bits::open(alloc, indexes.regions)?;
+        let pins = Bits::open(alloc, indexes.regions)?;
         let Ok(log) = Vec::with_capacity(alloc, extent.objects as usize) else {
             return Err(Memory);
         };
         Ok(Marks {
             heap,
             condemned: n,
-            places,
+            indexes,
             marks,
             pins,
             log,
@@ -102,7 +102,7 @@ impl<'h> Marks<'h> {
         ensures is_new { result ≡ true → promoted_in self.old at ≡ false }
         ensures is_old { result ≡ false → promoted_in self.old at ≡ true }
     {
-        let Some(bit) = self.places.bit(at) else {
+        let Some(bit) = self.indexes.bit(at) else {
             return false;
         };
         if self.marks.has(bit) {
@@ -200,7 +200,7 @@ impl<'h> Marks<'h> {
         requires { is_object (objects_of self.old.basis) at ≡ true }
         ensures { self.new ≡ pinned_also self.old at }
     {
-        if let Some(bit) = self.places.bit(at) {
+        if let Some(bit) = self.indexes.bit(at) {
             self.pins.insert(bit);
         }
     }
@@ -220,7 +220,7 @@ impl<'h> Marker for Marks<'h> {
     // All that has no bit is older.
     #[inline(always)]
     fn promoted(&self, at: Addr) -> bool {
-        match self.places.bit(at) {
+        match self.indexes.bit(at) {
             Some(bit) => self.marks.has(bit),
             None => true,
         }
@@ -233,7 +233,7 @@ impl<'h> Marker for Marks<'h> {
 
     #[inline(always)]
     fn pinned(&self, at: Addr) -> bool {
-        if let Some(bit) = self.places.bit(at) {
+        if let Some(bit) = self.indexes.bit(at) {
             self.pins.has(bit)
         } else {
             true

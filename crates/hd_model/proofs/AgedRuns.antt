@@ -1,7 +1,7 @@
 -- The ages that a run leaves are sound: a step lowers or raises them as the machine changes what they bound.
-use Rattle.hd_model.proofs.Basics.{Aged, AgedStep, AgesOfRunsAreSound, Chain, Cmd, Entry, Extra, Handle, HasSoundAges, Id, IsSome, IsWellFormed, List, Make, None, Numbers, Object, Objects, Option, Reply, Rows, Slot, Some, State, WeakEntry, age_of, aged_by_command, ap, arith, cond, count, empty, false, fresh_object, generation_at, generation_in, get, get-empty, inl, inr, insert, is_refused, is_some, le_trans, link, loaded, lowered, lowered_at, lowered_by_new, lowered_to, made_extra, made_handle, nat_cmp, none-some, nothing, object_by_id, option_and_then, option_map, option_map_or, option_or, refl, register_of, row_of, same_Some, scene_of, secondary, secondary_of, secondary_register, start_of, stay, strength, subst, sym, true, true≢false, unwrap_or, weak_handle, with_handle, with_weak, without_handle, without_secondary, ℕ, ⊎_elim, ◌∙◌, ◌≡◌, ◌≤◌, ◌⊎◌}
+use Rattle.hd_model.proofs.Basics.{Aged, AgedStep, AgesOfRunsAreSound, Chain, Cmd, Entry, Extra, Handle, HasSoundAges, Id, IsSome, IsWellFormed, List, Make, None, Numbers, Object, Objects, Option, Reply, Rows, Slot, Some, State, WeakEntry, age_of, aged_by_command, ap, arith, cond, count, empty, false, fresh_object, generation_at, generation_in, get, get-empty, inl, inr, insert, is_refused, is_some, le_trans, link, load_reply, lowered, lowered_at, lowered_by_new, lowered_to, made_extra, made_handle, nat_cmp, none-some, nothing, object_by_id, option_and_then, option_map, option_map_or, option_or, refl, register_of, row_of, same_Some, scene_of, secondary, secondary_of, secondary_register, start_of, stay, strength, subst, sym, true, true≢false, unwrap_or, weak_handle, with_handle, with_weak, without_handle, without_secondary, ℕ, ⊎_elim, ◌∙◌, ◌≡◌, ◌≤◌, ◌⊎◌}
 use Rattle.hd_model.proofs.{ReadAfterWrite.insert_cases, ReadAfterWrite.remove_cases, WeakSlots.handle_row, WeakSlots.row_cases, WellFormedWrites.live_not_weak, KindTests.made_secondary, WholeScenes.whole_scene, RunCounts.fresh, WellFormedSteps.step_keeps, WellFormedSteps.start_is_well_formed}
-use Rattle.hd_model.proofs.Effects.{Effect, next_identity, effect, refused, makes_object, sets_field, gets_field, sets_value, reads_value, copies, clears, puts_static, gets_static, reads_generation, suppresses, reregisters, finds_none, takes_first, collects, makes_handle, gets_target, sets_target, sets_secondary, gets_secondary, sets_strength, raises_count, lowers_count, frees_handle, puts_board, picks_board, replies_place, gives_back, gives_none, adds_entry, finds_value, finds_no_entry, removes_entry, removes_none}
+use Rattle.hd_model.proofs.Effects.{Effect, next_identity, effect, refused, makes_object, sets_field, gets_field, sets_value, reads_value, copies, clears, puts_static, gets_static, reads_generation, suppresses, reregisters, finds_none, takes_first, collects, makes_handle, gets_target, sets_target, sets_secondary, gets_secondary, sets_strength, raises_count, lowers_count, frees_handle, puts_board, picks_board, replies_address, gives_back, gives_none, adds_entry, finds_value, finds_no_entry, removes_entry, removes_none}
 use Rattle.hd_model.proofs.Ages.{lowered_below, lowered_here, grown_sound}
 use Rattle.hd_model.proofs.Effects.{replies_root}
 
@@ -142,7 +142,7 @@ without_none (strength given) = refl
 without_none (secondary o) = refl
 without_none (count c) = refl
 
-not_refused : (o : Option Id) → is_refused (loaded o) ≡ false
+not_refused : (o : Option Id) → is_refused (load_reply o) ≡ false
 not_refused None = refl
 not_refused (Some x) = refl
 
@@ -245,7 +245,7 @@ module _ (n : Numbers) (s : State) (e : Entry) (ages : List ℕ) (w : IsWellForm
       (freed s ages sound slot (live_not_weak s w.weak slot.0 handle f.live))
   by_effect c t (puts_board p) = does c t _ p refl sound
   by_effect c t (picks_board p) = does c t _ p refl sound
-  by_effect c t (replies_place slot handle id place f target may p) = does c t _ p refl sound
+  by_effect c t (replies_address slot handle id address f target may p) = does c t _ p refl sound
   by_effect c t (gives_back block free p) = does c t _ p refl sound
   by_effect c t (gives_none p) = does c t _ p refl sound
   by_effect c t (adds_entry {v = v} key slot f none may p q) =

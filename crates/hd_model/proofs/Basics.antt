@@ -18,26 +18,26 @@ pub use Rattle.std.specs.declared.cmp.Ordering.TheVariants.{Equal, Greater, Less
 pub use Rattle.hd_model.specs.Ages.{HasSoundAges, HasSoundCards, age_of, clump_of, due_clumps, grown, is_due, lowered, raised, visits}
 pub use Rattle.hd_model.specs.Aging.{Aged, AgedRun, AgedStep, aged_by, aged_by_class, aged_by_command, aged_start, is_refused, lowered_at, lowered_by_new, lowered_to}
 pub use Rattle.hd_model.specs.Collect.{Collects, CollectsState, Decision, GoesBy, IsRemoved, IsReport, IsSurviving, LosesAs, cleared, is_attaching, is_lost, left_by, loses, loses_by, survivor, swept}
-pub use Rattle.hd_model.specs.CollectionLaws.{AgesHideNothing, AgesOfRunsAreSound, Collected, CollectionsExist, CollectionsKeepWellFormed, DependentsKeepNoTarget, DependentsUseNoTarget, FareAlike, FareApart, FinalizationPartsWeakHandles, Follows, GarbageGoes, GenerationsRiseOnce, Goes, GrownAgesAreSound, HasCollection, HasTarget, InUseIsLeftAlone, InUseIsReached, IsDependent, IsGone, IsLeftAlone, IsUnregistered, IsWeakPair, Joins, KeepsContents, LosesTarget, LoweredAgesAreSound, NoneDanglesAfter, ObjectsAreResurrectedOnce, OlderObjectsStay, QueueGrowsInTurn, ReadingsKeepWhatIsKept, ReportSays, RescuedObjectsStay, ResurrectsOnce, RisesOnce, SecondCollectionIsIdle, SecondariesFollowTargets, Stays, UsedObjectsStay, WeakHandlesFareAlike}
-pub use Rattle.hd_model.specs.Command.{Adding, Outcome, adding_key, adding_of, reply_place, reply_with, entry_value, fresh_object, has_key, idle_slot, in_idle, in_new, is_idle, loaded, made_extra, made_handle, new_object, on_field, on_handle, on_handle_of, on_object, read_generation, refuses, set_registered, slot_of_key, take_first, take_queued, value_at, weak_slot_where, with_count, with_entry}
+pub use Rattle.hd_model.specs.CollectionLaws.{AgesOfRunsAreSound, Collected, CollectionsKeepWellFormed, DependentsKeepNoTarget, DependentsUseNoTarget, Follows, GarbageGoes, GenerationsRiseOnce, Goes, GrownAgesAreSound, HasTarget, InUseIsLeftAlone, InUseIsReached, IsDependent, IsGone, IsLeftAlone, IsUnregistered, Joins, KeepsContents, LosesTarget, LoweredAgesAreSound, NoneDanglesAfter, ObjectsAreResurrectedOnce, OlderObjectsStay, QueueGrowsInTurn, ReadingsKeepWhatIsKept, ReportSays, RescuedObjectsStay, ResurrectsOnce, RisesOnce, SecondCollectionIsIdle, SecondariesFollowTargets, Stays, UsedObjectsStay}
+pub use Rattle.hd_model.specs.Command.{Adding, Outcome, adding_key, adding_of, reply_address, reply_with, entry_value, fresh_object, has_key, idle_slot, in_idle, in_new, is_idle, load_reply, made_extra, made_handle, new_object, on_field, on_handle, on_handle_of, on_object, read_generation, refuses, set_registered, slot_of_key, take_first, take_queued, value_at, weak_slot_where, with_count, with_entry}
 pub use Rattle.hd_model.specs.Counting.{Counts}
 pub use Rattle.hd_model.specs.Data.{Addr, Class, Cmd, Entry, Grown, Id, Kind, Make, Refusal, Reply, Report, Slot, Strength}
 pub use Rattle.hd_model.specs.InUse.{IsGarbage, IsInUse, IsLedTo, IsOlder, IsRescued, IsResurrected, IsUsed, by_dependent, by_field, by_handle, from_start, in_queue, in_register, in_static}
 pub use Rattle.hd_model.specs.Kinds.{all_kinds, is_kind, is_paired, kind_number, kind_of, secondary_register}
 pub use Rattle.hd_model.specs.Laws.{AgedRunsAreRuns, ReturnsCount, BoardIsReadBack, CountIsReadBack, FieldIsReadBack, FreedIsNotLive, GivesCount, GivesSecondary, GivesStrength, GivesTarget, HandleRegisterIsReadBack, HandlesAreMadeLessFreed, IsDoneOn, MakesIn, NewFieldIsNull, NewValueIsZero, ObjectsAreMadeLessRemoved, OneStateAfter, RegisterIsReadBack, RunsHaveAges, SecondaryIsReadBack, Since, SoloRunsAreOne, SoloTextIsOne, StaticIsReadBack, StrengthIsKept, TargetIsReadBack, UntouchedStays, ValueIsReadBack, WritesCount, WritesField, WritesSecondary, WritesStrength, WritesTarget, WritesValue, frees_handle, is_done, lowering_reply, object_returned, put_in_handle_register, put_in_register, removed_in}
 pub use Rattle.hd_model.specs.Leads.{Grows, IsClosed, Leads}
-pub use Rattle.hd_model.specs.Places.{IsFreePlace, MayReturn, Meet, Range, is_pinned, is_target, with_places}
+pub use Rattle.hd_model.specs.PinnedAddresses.{IsFreeAddress, MayReturn, Meet, Range, is_pinned, is_target, with_pinned}
 pub use Rattle.hd_model.specs.Reach.{IsAttached, IsEdge, IsHeld, IsKept, IsPinned, IsReached, IsRoot, IsToBeFinalized, held, named, older, queued}
 pub use Rattle.hd_model.specs.Role.{Role, attaches, holds, long, pins, pins_by, pins_by_strength, pins_with, role, role_by, role_of, role_of_count, role_of_strength, short}
 pub use Rattle.hd_model.specs.Run.{AddsLeast, Chain, GivesBackLeast, GivesLeast, IsLeastFree, NoneAllFree, NoneFree, Run, SoloRun, SoloStep, TakesLeast, commands_of, link, part_of, stay}
 pub use Rattle.hd_model.specs.Scene.{IsCondemned, IsField, IsReading, IsWhole, Objects, Rows, Scene, fields_in, generation_at, generation_in, is_object, joined, scene_of}
-pub use Rattle.hd_model.specs.State.{BlockUse, Extra, Handle, IsAllFree, IsFree, Numbers, Object, State, WeakEntry, block_of, board_of, count, count_of, extra_data, field_of, first_slot, given_of, handle_at, handle_register_of, handles_of, identity_of, last_serial, nothing, object_by_id, register_of, rename_extra, rename_handle, rename_object, row_of, secondary, secondary_of, size_of, start_of, static_of, strength, strength_in, total_size, use_of, weak_handle, with_board, with_handle, with_handle_register, with_object, with_place, with_queue, with_register, with_serial, with_static, with_use, with_weak, without_handle, without_secondary, without_use}
-pub use Rattle.hd_model.specs.Step.{AddsEntry, RepliesPlace, DoesCollect, FindsTableFull, GivesBack, IsLeastUnused, IsOutcome, MakesHandle, MayGive, Step, StepOf, TakesWay, Way, adds_entry, replies_place, blocks_needed, collects, decided, gives_back, makes_handle, makes_object, pinned_by, pinned_target, way_of, way_of_adding, with_growth, with_made}
+pub use Rattle.hd_model.specs.State.{BlockUse, Extra, Handle, IsAllFree, IsFree, Numbers, Object, State, WeakEntry, block_of, board_of, count, count_of, extra_data, field_of, first_slot, given_of, handle_at, handle_register_of, handles_of, identity_of, last_serial, nothing, object_by_id, register_of, rename_extra, rename_handle, rename_object, row_of, secondary, secondary_of, size_of, start_of, static_of, strength, strength_in, total_size, use_of, weak_handle, with_board, with_handle, with_handle_register, with_object, with_address, with_queue, with_register, with_serial, with_static, with_use, with_weak, without_handle, without_secondary, without_use}
+pub use Rattle.hd_model.specs.Step.{AddsEntry, RepliesAddress, DoesCollect, FindsTableFull, GivesBack, IsLeastUnused, IsOutcome, MakesHandle, MayGive, Step, StepOf, TakesWay, Way, adds_entry, replies_address, blocks_needed, collects, decided, gives_back, makes_handle, makes_object, pinned_by, pinned_target, way_of, way_of_adding, with_growth, with_made}
 pub use Rattle.hd_model.specs.Text.{newline, reply_text, text_of}
 pub use Rattle.hd_model.specs.Touched.{Untouched, touched_by}
-pub use Rattle.hd_model.specs.UserLaws.{ChangesQueue, Does, EveryCommandHasAStep, FinalTakesTheFirst, GenReturnsTheGeneration, GenerationIsReadBack, GivesGeneration, GivesRegistration, HasPlacesApart, HasWay, HeapIsWithinItsLimit, IsCollection, IsDoneTo, JoinsBy, JoinsOnce, NewIsRefusedWhereFull, NewReturns, PinnedObjectsDoNotOverlap, PinnedPlaceIsReadBack, PinsBy, PlaceIsReturnedAgain, QueueGoesInTurn, QueueIsLeft, RegistrationIsKept, RunsAreNeverStuck, TakesCells, Unpins, WritesRegistration, by_gen, by_joining, by_reregister, by_suppress, joins, reregisters, suppresses, taken, taken_by, takes}
+pub use Rattle.hd_model.specs.UserLaws.{ChangesQueue, Does, FinalTakesTheFirst, HasPinnedApart, PinnedObjectsDoNotOverlap, QueueGoesInTurn, QueueIsLeft, TakesCells, taken, taken_by, takes}
 pub use Rattle.hd_model.specs.Valid.{IsValid}
-pub use Rattle.hd_model.specs.WeakLaws.{AddIsRefusedWhereAttached, EntriesFollowKeys, EntriesKeepNoKey, EntriesUseNoKey, FindReturnsWhatIsAttached, IsOnKey, NullKeysAreRefused, RemoveReturnsWhetherAttached, TextsLeaveTheWeakTableOut, WeakSlotsAreNotLive, WeakSlotsStayHeld, adds, attached, attached_by, finds, removes}
+pub use Rattle.hd_model.specs.WeakLaws.{EntriesFollowKeys, EntriesKeepNoKey, EntriesUseNoKey}
 pub use Rattle.hd_model.specs.WellFormed.{FitsKind, HasHandles, HasObjects, HasSerials, HasShape, HasSoundReferences, HasWeakTable, IsWellFormed, Names}
 pub use Rattle.hd_model.specs.declared.data.Grown.TheVariants.{Back, One, Two, Zero}
 pub use Rattle.hd_model.specs.declared.limits.TheConstants.{FIELDS, HEAP, OLDEST, REGISTERS, ROWS}

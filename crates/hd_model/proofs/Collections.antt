@@ -57,8 +57,8 @@ one_collection n s t u r q a b =
     (λ x. a.weak x ∙ (λ i. option_map (swept (same i).kept) (get s.weak x)) ∙ sym (b.weak x)) in
     let queue : t.queue ≡ u.queue =
     same_queue rank n (scene_of s) (scene_of t) (scene_of u) r q a.scene b.scene in
-    let places : t.places ≡ u.places =
-    same_map nat_cmp_total nat_cmp-IsAntisymmetric t.places u.places (λ x. a.places x ∙ sym (b.places x)) in
+    let pinned : t.pinned ≡ u.pinned =
+    same_map nat_cmp_total nat_cmp-IsAntisymmetric t.pinned u.pinned (λ x. a.pinned x ∙ sym (b.pinned x)) in
     let registers : t.registers ≡ u.registers = a.registers ∙ sym b.registers in
     let handle_registers : t.handle_registers ≡ u.handle_registers = a.handle_registers
     ∙ sym b.handle_registers in
@@ -75,7 +75,7 @@ one_collection n s t u r q a b =
         statics = statics i;
         board = board i;
         queue = queue i;
-        places = places i;
+        pinned = pinned i;
         blocks = blocks i;
         serials = serials i;
       },

@@ -1,6 +1,6 @@
 -- What holds of the outcome of each command that the state alone decides: one case for each command, in two
 -- states that have the same parts but the pinned addresses.
-use Rattle.hd_model.proofs.Basics.{Adding, Bool, Cmd, FinMap, Handle, Id, Kind, List, None, Option, Outcome, Reply, Slot, Some, State, Way, [], adding_key, adds_entry, collects, count_of, decided, gives_back, handle_at, handle_register_of, idle_slot, if◌then◌else◌, in_idle, in_new, is_kind, is_some, length, loaded, makes_handle, makes_object, nat_cmp, nat_lt, object_by_id, on_field, on_handle, on_handle_of, on_object, option_map_or, refl, refuses, register_of, replies_place, reply_with, slot_of_key, subst, sym, take_first, true, false, way_of, way_of_adding, with_places, ℕ, ◌&&◌, ◌==◌, ◌∷◌, ◌≡◌}
+use Rattle.hd_model.proofs.Basics.{Adding, Bool, Cmd, FinMap, Handle, Id, Kind, List, None, Option, Outcome, Reply, Slot, Some, State, Way, [], adding_key, adds_entry, collects, count_of, decided, gives_back, handle_at, handle_register_of, idle_slot, if◌then◌else◌, in_idle, in_new, is_kind, is_some, length, load_reply, makes_handle, makes_object, nat_cmp, nat_lt, object_by_id, on_field, on_handle, on_handle_of, on_object, option_map_or, refl, refuses, register_of, replies_address, reply_with, slot_of_key, subst, sym, take_first, true, false, way_of, way_of_adding, with_pinned, ℕ, ◌&&◌, ◌==◌, ◌∷◌, ◌≡◌}
 use Rattle.hd_model.specs.Command.{add_entry, is_refused}
 use Rattle.hd_model.specs.Step.{replies_root}
 use Rattle.hd_model.specs.declared.command.Cmd.TheVariants as cmd
@@ -14,7 +14,7 @@ IsDecided (reply.Place p) = ⊥
 IsDecided (reply.Refused (refusal.TableFull given)) = ⊥
 IsDecided r = Unit {0}
 
-loaded_decided : (o : Option Id) → IsDecided (loaded o)
+loaded_decided : (o : Option Id) → IsDecided (load_reply o)
 loaded_decided None = tt
 loaded_decided (Some id) = tt
 
@@ -28,7 +28,7 @@ SameWay P (decided o) w = (q : Outcome) × ((w ≡ decided q) × P o q)
 SameWay P (makes_object d fields fin) w = w ≡ makes_object d fields fin
 SameWay P (makes_handle d make t) w = w ≡ makes_handle d make t
 SameWay P (collects k) w = w ≡ collects k
-SameWay P (replies_place h) w = w ≡ replies_place h
+SameWay P (replies_address h) w = w ≡ replies_address h
 SameWay P (gives_back given) w = w ≡ gives_back given
 SameWay P (adds_entry v key) w = w ≡ adds_entry v key
 SameWay P (replies_root r) w = w ≡ replies_root r
@@ -49,14 +49,14 @@ module _ (P : Outcome → Outcome → Type 0) where
   outcomes o q h = (q, (refl, h))
 
   module _ (p : FinMap nat_cmp ℕ) (s : State) (c : ℕ)
-      (leaf : (r : Reply) (t : State) → IsDecided r → P (reply_with r (with_places t p)) (reply_with r t))
+      (leaf : (r : Reply) (t : State) → IsDecided r → P (reply_with r (with_pinned t p)) (reply_with r t))
       (frees : (slot : Slot) (x : Handle Id) → handle_at s slot ≡ Some x → (t : State)
-      → P (freed slot (with_places t p)) (freed slot t))
+      → P (freed slot (with_pinned t p)) (freed slot t))
       (adds : (v : ℕ) (slot : Slot) (key : Id) → idle_slot s ≡ Some slot
-      → P (add_entry (with_places s p) c v slot key) (add_entry s c v slot key))
+      → P (add_entry (with_pinned s p) c v slot key) (add_entry s c v slot key))
     where
       abbrev at : State
-      at = with_places s p
+      at = with_pinned s p
 
       object_both : (o : ℕ) (f g : Id → Outcome) → ((id : Id) → P (f id) (g id))
           → P (on_object at c o f) (on_object s c o g)
@@ -162,5 +162,5 @@ pub decided_has : (Q : Outcome → Type 0) (s : State) (c : ℕ)
     → ((v : ℕ) (slot : Slot) (key : Id) → idle_slot s ≡ Some slot → Q (add_entry s c v slot key))
     → (command : Cmd) → DecidedHas Q (way_of s c command)
 decided_has Q s c leaf frees adds command =
-    one_way Q (way_of (with_places s s.places) c command) (way_of s c command)
-    (way_both (λ x y. Q y) s.places s c leaf frees adds command)
+    one_way Q (way_of (with_pinned s s.pinned) c command) (way_of s c command)
+    (way_both (λ x y. Q y) s.pinned s c leaf frees adds command)

@@ -1,5 +1,5 @@
 -- What each command does where it is not refused, one case for each way.
-use Rattle.hd_model.proofs.Basics.{Adding, AddsEntry, RepliesPlace, Back, Bool, Cmd, DoesCollect, Entry, Extra, FitsKind, GivesBack, Grown, Handle, Id, IsAllFree, IsOutcome, IsSome, Kind, List, Make, MakesHandle, MayReturn, MayGive, None, Numbers, Object, One, Option, Outcome, Refusal, Slot, Some, State, Step, StepOf, Strength, TakesWay, Two, Zero, [], adding_key, adding_of, reply_with, ap, board_of, cond, count, count_of, false, field_of, fresh_object, get, handle_at, handle_register_of, identity_of, idle_slot, in_idle, in_new, inl, inr, is_kind, is_some, kind_of, last_serial, length, loaded, made_handle, object_by_id, on_handle, on_handle_of, option_and_then, pinned_by, pins, refl, refuses, register_of, secondary, secondary_of, set, set_registered, slot_of_key, static_of, strength, subst, sym, take_first, true, value_at, way_of_adding, with_board, with_entry, with_growth, with_handle, with_handle_register, with_object, with_place, with_queue, with_register, with_serial, with_static, with_weak, without_handle, without_secondary, without_use, ℕ, ⊎_elim, ◌&&◌, ◌+◌, ◌-◌, ◌<◌, ◌==◌, ◌^◌, ◌∙◌, ◌∷◌, ◌≡◌, ◌⊎◌}
+use Rattle.hd_model.proofs.Basics.{Adding, AddsEntry, RepliesAddress, Back, Bool, Cmd, DoesCollect, Entry, Extra, FitsKind, GivesBack, Grown, Handle, Id, IsAllFree, IsOutcome, IsSome, Kind, List, Make, MakesHandle, MayReturn, MayGive, None, Numbers, Object, One, Option, Outcome, Refusal, Slot, Some, State, Step, StepOf, Strength, TakesWay, Two, Zero, [], adding_key, adding_of, reply_with, ap, board_of, cond, count, count_of, false, field_of, fresh_object, get, handle_at, handle_register_of, identity_of, idle_slot, in_idle, in_new, inl, inr, is_kind, is_some, kind_of, last_serial, length, load_reply, made_handle, object_by_id, on_handle, on_handle_of, option_and_then, pinned_by, pins, refl, refuses, register_of, secondary, secondary_of, set, set_registered, slot_of_key, static_of, strength, subst, sym, take_first, true, value_at, way_of_adding, with_board, with_entry, with_growth, with_handle, with_handle_register, with_object, with_address, with_queue, with_register, with_serial, with_static, with_weak, without_handle, without_secondary, without_use, ℕ, ⊎_elim, ◌&&◌, ◌+◌, ◌-◌, ◌<◌, ◌==◌, ◌^◌, ◌∙◌, ◌∷◌, ◌≡◌, ◌⊎◌}
 use Rattle.hd_model.specs.Command.{is_refused}
 use Rattle.hd_model.specs.Anchors.{ReturnsRoot}
 use Rattle.hd_model.proofs.KindTests.{same_kind}
@@ -53,7 +53,7 @@ pub data Effect (n : Numbers) (s : State) (e : Entry) : Cmd → State → Type 0
       → i < length (object_by_id s id).fields → e.reply ≡ reply.Done → Effect n s e (cmd.Set o i v)
       (with_object s id (with_field (object_by_id s id) i (register_of s e.caller v)))
   gets_field : {d o i : ℕ} (id : Id) → register_of s e.caller o ≡ Some id
-      → i < length (object_by_id s id).fields → e.reply ≡ loaded (field_of (object_by_id s id) i)
+      → i < length (object_by_id s id).fields → e.reply ≡ load_reply (field_of (object_by_id s id) i)
       → Effect n s e (cmd.Get d o i) (with_register s e.caller d (field_of (object_by_id s id) i))
   sets_value : {o v : ℕ} (id : Id) → register_of s e.caller o ≡ Some id → e.reply ≡ reply.Done
       → Effect n s e (cmd.Val o v) (with_object s id (record (object_by_id s id) { value = v }))
@@ -64,7 +64,7 @@ pub data Effect (n : Numbers) (s : State) (e : Entry) : Cmd → State → Type 0
   clears : {d : ℕ} → e.reply ≡ reply.Done → Effect n s e (cmd.Clear d) (with_register s e.caller d None)
   puts_static : {k r : ℕ} → e.reply ≡ reply.Done
       → Effect n s e (cmd.SPut k r) (with_static s k (register_of s e.caller r))
-  gets_static : {d k : ℕ} → e.reply ≡ loaded (static_of s k)
+  gets_static : {d k : ℕ} → e.reply ≡ load_reply (static_of s k)
       → Effect n s e (cmd.SGet d k) (with_register s e.caller d (static_of s k))
   reads_generation : {o : ℕ} (id : Id) → register_of s e.caller o ≡ Some id
       → e.reply ≡ reply.Generation (object_by_id s id).generation → Effect n s e (cmd.Gen o) s
@@ -81,7 +81,7 @@ pub data Effect (n : Numbers) (s : State) (e : Entry) : Cmd → State → Type 0
       → MayGive n s (kind_of given) e.grown slot → e.reply ≡ reply.Done
       → Effect n s e (cmd.HNew d given t) (with_made_parts s e.caller e.grown d given t slot)
   gets_target : {d h : ℕ} (slot : Slot) (handle : Handle Id) → Finds s e.caller h slot handle
-      → e.reply ≡ loaded handle.target → Effect n s e (cmd.HGet d h)
+      → e.reply ≡ load_reply handle.target → Effect n s e (cmd.HGet d h)
       (with_register s e.caller d handle.target)
   sets_target : {h t : ℕ} (slot : Slot) (handle : Handle Id) → Finds s e.caller h slot handle
       → e.reply ≡ reply.Done → Effect n s e (cmd.HSet h t)
@@ -94,7 +94,7 @@ pub data Effect (n : Numbers) (s : State) (e : Entry) : Cmd → State → Type 0
       → e.reply ≡ reply.Done
       → Effect n s e (cmd.HSec h r) (with_extra s slot handle (secondary (register_of s e.caller r)))
   gets_secondary : {d h : ℕ} (slot : Slot) (handle : Handle Id) → Finds s e.caller h slot handle
-      → e.reply ≡ loaded (secondary_of handle.extra)
+      → e.reply ≡ load_reply (secondary_of handle.extra)
       → Effect n s e (cmd.HDep d h) (with_register s e.caller d (secondary_of handle.extra))
   sets_strength : {h : ℕ} {given : Strength} (slot : Slot) (handle : Handle Id)
       → Finds s e.caller h slot handle → FitsKind {N = Id} handle.kind (strength given) → e.reply ≡ reply.Done
@@ -114,16 +114,16 @@ pub data Effect (n : Numbers) (s : State) (e : Entry) : Cmd → State → Type 0
       → Effect n s e (cmd.HPut k h) (with_board s k (handle_register_of s e.caller h))
   picks_board : {d k : ℕ} → e.reply ≡ reply.Done
       → Effect n s e (cmd.HPick d k) (with_handle_register s e.caller d (board_of s k))
-  replies_place : {h : ℕ} (slot : Slot) (handle : Handle Id) (id : Id) (p : ℕ)
+  replies_address : {h : ℕ} (slot : Slot) (handle : Handle Id) (id : Id) (p : ℕ)
       → Finds s e.caller h slot handle → handle.target ≡ Some id → MayReturn s id p → e.reply ≡ reply.Place p
-      → Effect n s e (cmd.AddrOf h) (with_place s id p)
+      → Effect n s e (cmd.AddrOf h) (with_address s id p)
   gives_back : {given : Kind} (block : ℕ) → IsAllFree s given block → e.reply ≡ reply.Value 1
       → Effect n s e (cmd.Trim given) (without_use s block)
   adds_entry : {k v : ℕ} (key : Id) (slot : Slot) → register_of s e.caller k ≡ Some key → HasNoKey s key
       → MayHold n s e.grown slot → e.reply ≡ reply.Done → e.slot ≡ Some slot → Effect n s e (cmd.CAdd k v)
       (with_entry (record s { blocks = (with_growth s kind.Dependent e.grown).blocks }) s e.caller v slot key)
   finds_value : {d k : ℕ} (key : Id) (slot : Slot) (has : HasKey s key slot.0)
-      → register_of s e.caller k ≡ Some key → e.reply ≡ loaded has.entry.value
+      → register_of s e.caller k ≡ Some key → e.reply ≡ load_reply has.entry.value
       → Effect n s e (cmd.CFind d k) (with_register s e.caller d has.entry.value)
   finds_no_entry : {d k : ℕ} (key : Id) → register_of s e.caller k ≡ Some key → HasNoKey s key
       → e.reply ≡ reply.Absent → Effect n s e (cmd.CFind d k) (with_register s e.caller d None)
@@ -176,12 +176,12 @@ module _ (n : Numbers) (s : State) (e : Entry) (t : State) where
   takes_it d [] is = comes _ _ (λ p _. finds_none p)
   takes_it d (id ∷ rest) is = comes _ _ (λ p _. takes_first id rest is p)
 
-  replies_it : (h : ℕ) → RepliesPlace s e t h → Effect n s e (cmd.AddrOf h) t
+  replies_it : (h : ℕ) → RepliesAddress s e t h → Effect n s e (cmd.AddrOf h) t
   replies_it h a =
       on_handle_cases (Comes (cmd.AddrOf h)) s e.caller h _ (λ _. refuses_it _ _) (λ _ _ _. refuses_it _ _)
       (λ slot handle f g. test_cases (Comes (cmd.AddrOf h)) (pins handle) _ _
       (λ same. option_cases (Comes (cmd.AddrOf h)) _ handle.target _ (λ _. refuses_it _ _)
-      (λ id target. comes _ _ (λ p _. replies_place slot handle id a.place
+      (λ id target. comes _ _ (λ p _. replies_address slot handle id a.address
       (record { names = f; live = g }) target (a.may id (found slot handle id f g same target)) p)))
       (λ _. refuses_it _ _)) a.outcome
     where
@@ -240,10 +240,10 @@ module _ (n : Numbers) (s : State) (e : Entry) (t : State) where
       (λ _ _. refuses_it _ _))
 
   finds_it : (d k : ℕ) (key : Id) (slot : Slot) → HasKey s key slot.0 → register_of s e.caller k ≡ Some key
-      → Comes (cmd.CFind d k) (reply_with (loaded (value_at s slot)) (with_register s e.caller d
+      → Comes (cmd.CFind d k) (reply_with (load_reply (value_at s slot)) (with_register s e.caller d
       (value_at s slot)))
   finds_it d k key slot has f =
-      subst (λ x. Comes (cmd.CFind d k) (reply_with (loaded x) (with_register s e.caller d x)))
+      subst (λ x. Comes (cmd.CFind d k) (reply_with (load_reply x) (with_register s e.caller d x)))
       (sym (value_is s slot has.entry has.held)) (comes _ _ (λ p _. finds_value key slot has f p))
 
   command_effect : (c : Cmd) → StepOf n s e t c → Effect n s e c t

@@ -1,8 +1,8 @@
 -- The slot that a `cadd` gets, and where the table has none left.
-use Rattle.hd_model.proofs.Basics.{Way, way_of, decided, makes_object, makes_handle, collects, replies_place, gives_back, adds_entry, subst, Adding, AddsEntry, Bool, Cmd, Entry, FindsTableFull, GivesBack, Id, IsOutcome, None, Numbers, Outcome, Refusal, Reply, Slot, Some, State, StepOf, TakesWay, adding_key, ap, adding_of, false, false≢true, get, given_of, idle_slot, in_idle, in_new, is_idle, kind_of, nat_lt, new_object, pins, refl, register_of, slot_of_key, sym, total_size, true, way_of_adding, ℕ, ⊎_elim, ◌+◌, ◌∙◌, ◌≡◌}
+use Rattle.hd_model.proofs.Basics.{Way, way_of, decided, makes_object, makes_handle, collects, replies_address, gives_back, adds_entry, subst, Adding, AddsEntry, Bool, Cmd, Entry, FindsTableFull, GivesBack, Id, IsOutcome, None, Numbers, Outcome, Refusal, Reply, Slot, Some, State, StepOf, TakesWay, adding_key, ap, adding_of, false, false≢true, get, given_of, idle_slot, in_idle, in_new, is_idle, kind_of, nat_lt, new_object, pins, refl, register_of, slot_of_key, sym, total_size, true, way_of_adding, ℕ, ⊎_elim, ◌+◌, ◌∙◌, ◌≡◌}
 use Rattle.hd_model.proofs.DecidedOutcomes.{DecidedHas, IsDecided, decided_has}
 use Rattle.hd_model.proofs.OneState.{CommandOf, way_command}
-use Rattle.hd_model.specs.Command.{is_refused, reply_place, reply_root}
+use Rattle.hd_model.specs.Command.{is_refused, reply_address, reply_root}
 use Rattle.hd_model.specs.Step.{MakesHandle, replies_root}
 use Rattle.hd_model.specs.Anchors.{ReturnsRoot}
 use Rattle.hd_model.specs.WeakEntryLaws.{TakesIdleSlot, IdleSlotsAreTakenFirst, LacksBlocks, for_handle, for_entry, FullTablesLackBlocks}
@@ -104,8 +104,8 @@ module _ (n : Numbers) (s t : State) (e : Entry) (given : ℕ)
   new_lives c d fields fin =
       test_cases Lives (nat_lt n.heap (total_size s + (fields + 3))) _ _ (λ _. refl) (λ _. refl)
 
-  place_lives : (c h p : ℕ) → Lives (reply_place s c h p)
-  place_lives c h p =
+  address_lives : (c h p : ℕ) → Lives (reply_address s c h p)
+  address_lives c h p =
       on_handle_cases Lives s c h _ (λ _. refl) (λ _ _ _. refl)
       (λ slot handle _ _. test_cases Lives (pins handle) _ _
       (λ _. option_cases Lives _ handle.target _ (λ _. refl) (λ _ _. refl)) (λ _. refl))
@@ -121,7 +121,7 @@ module _ (n : Numbers) (s t : State) (e : Entry) (given : ℕ)
         for_handle d r make f.few,
       )) h
   lacks c (collects k) is of lives h = never c _ refl h.reply
-  lacks c (replies_place r) is of lives h = never_by c _ (place_lives e.caller r h.place) h.outcome
+  lacks c (replies_address r) is of lives h = never_by c _ (address_lives e.caller r h.address) h.outcome
   lacks c (gives_back k) is of lives h =
       ⊎_elim (λ (g : GivesBack s e t k). never c _ refl g.reply) (never_by c _ refl) h
   lacks c (adds_entry v key) is of lives h =

@@ -1,5 +1,5 @@
 -- What a handle has is read back, and a freed slot is not live.
-use Rattle.hd_model.proofs.Basics.{ReturnsCount, Bool, Cmd, CountIsReadBack, Entry, Extra, FitsKind, FreedIsNotLive, GivesCount, GivesSecondary, GivesStrength, GivesTarget, Handle, Id, IsDoneOn, IsOutcome, IsSome, IsSomeAnd, IsWellFormed, Kind, Make, MakesIn, None, Numbers, Option, Outcome, Refusal, Reply, SecondaryIsReadBack, Slot, Some, State, Step, StepOf, Strength, StrengthIsKept, TargetIsReadBack, WritesCount, WritesSecondary, WritesStrength, WritesTarget, ap, cond, count, count_of, false, get, handle_at, handle_register_of, if◌then◌else◌, inl, inr, insert, is_attaching, is_kind, is_lost, is_refused, loaded, loses, lowering_reply, made_handle, none-some, on_handle, on_handle_of, option_and_then, option_map, option_map_or, refl, refuses, register_of, role, same_Some, secondary, secondary_of, strength, subst, sym, touched_by, true, true≢false, with_count, with_handle, without_secondary, ℕ, ⊎_elim, ◌&&◌, ◌+◌, ◌-◌, ◌==◌, ◌∙◌, ◌≡◌, ◌⊎◌}
+use Rattle.hd_model.proofs.Basics.{ReturnsCount, Bool, Cmd, CountIsReadBack, Entry, Extra, FitsKind, FreedIsNotLive, GivesCount, GivesSecondary, GivesStrength, GivesTarget, Handle, Id, IsDoneOn, IsOutcome, IsSome, IsSomeAnd, IsWellFormed, Kind, Make, MakesIn, None, Numbers, Option, Outcome, Refusal, Reply, SecondaryIsReadBack, Slot, Some, State, Step, StepOf, Strength, StrengthIsKept, TargetIsReadBack, WritesCount, WritesSecondary, WritesStrength, WritesTarget, ap, cond, count, count_of, false, get, handle_at, handle_register_of, if◌then◌else◌, inl, inr, insert, is_attaching, is_kind, is_lost, is_refused, load_reply, loses, lowering_reply, made_handle, none-some, on_handle, on_handle_of, option_and_then, option_map, option_map_or, refl, refuses, register_of, role, same_Some, secondary, secondary_of, strength, subst, sym, touched_by, true, true≢false, with_count, with_handle, without_secondary, ℕ, ⊎_elim, ◌&&◌, ◌+◌, ◌-◌, ◌==◌, ◌∙◌, ◌≡◌, ◌⊎◌}
 use Rattle.hd_model.specs.Laws.{makes_handle as is_making}
 use Rattle.hd_model.proofs.{ReadAfterWrite.get_inserted, ReadAfterWrite.get_removed, OneState.done_or_refused, KindExtras.attaching_kind, StateReadBack.step_of, StateReadBack.effect_of}
 use Rattle.hd_model.proofs.KindTests.{variable_or_dependent, variable_or_counted, counted_or_dependent}
@@ -135,7 +135,7 @@ target_is_read_back n old now new written reading slot v d h since gives done st
     let found : (handle : Handle Id) × ((handle_at now slot ≡ Some handle) × TargetIs v handle) =
     some_handle (handle_at now slot) kept.1 in
     comes.reply ∙ ap (λ (y : Outcome). y.reply) (on_handle_is now reading.caller h _ slot found.0 named
-    found.1.0) ∙ ap loaded found.1.1
+    found.1.0) ∙ ap load_reply found.1.1
 
 -- a handle has an extra
 abbrev ExtraIs : Extra Id → Handle Id → Type 0
@@ -327,7 +327,7 @@ secondary_is_read_back n old now new written reading slot v d h since gives done
     comes.reply
     ∙ ap (λ (y : Outcome). y.reply) (on_handle_of_is now reading.caller h kind.Dependent _ slot found.0 named
     found.1.0 (kind_with n now slot found.0 (secondary v) kept.0 found.1.0 found.1.1) refl)
-    ∙ ap (λ x. loaded (secondary_of x)) found.1.1
+    ∙ ap (λ x. load_reply (secondary_of x)) found.1.1
 
 pub strength_is_kept : StrengthIsKept
 strength_is_kept n old now written slot given since gives done =

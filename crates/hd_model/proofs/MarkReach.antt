@@ -42,20 +42,20 @@ module _ {N : Type 0} (o : Objects N) (n : ℕ) where
         (attaching_lost _ _ (kept_target kept h.target (λ x e. stays x (undue_target x e))))
 
     -- and so does a relocation
-    pub undue_in_place : (place : N → N) → ((x : N) → n < generation_at o x → place x ≡ x)
-        → rename_handle place h ≡ h
-    undue_in_place place still = λ i. record {
+    pub undue_in_place : (forwarding : N → N) → ((x : N) → n < generation_at o x → forwarding x ≡ x)
+        → rename_handle forwarding h ≡ h
+    undue_in_place forwarding still = λ i. record {
       kind = h.kind;
       target = same_option h.target (λ x e. still x (undue_target x e)) i;
       extra = same_extra h.extra (λ x e. still x (undue_secondary x e)) i;
     }
       where
-        same_option : (v : Option N) → ((x : N) → v ≡ Some x → place x ≡ x) → option_map place v ≡ v
+        same_option : (v : Option N) → ((x : N) → v ≡ Some x → forwarding x ≡ x) → option_map forwarding v ≡ v
         same_option None each = refl
         same_option (Some x) each = ap (λ y. Some y) (each x refl)
 
-        same_extra : (v : Extra N) → ((x : N) → secondary_of v ≡ Some x → place x ≡ x)
-            → rename_extra place v ≡ v
+        same_extra : (v : Extra N) → ((x : N) → secondary_of v ≡ Some x → forwarding x ≡ x)
+            → rename_extra forwarding v ≡ v
         same_extra nothing each = refl
         same_extra (strength given) each = refl
         same_extra (secondary v) each = ap secondary (same_option v each)

@@ -20,30 +20,31 @@ module _ {N : Type 0} {rank : N → ℕ} {n : ℕ} {s : Scene N} {d : Decision N
   pub whole_in_place : IsWhole (left_by n d s)
   whole_in_place = whole_after rank n s (left_by n d s) r w collects_in_place
 
-  -- Where t is what a collection leaves of s, with each kept object x at its forwarding address `place x` and
-  -- no two at one address, it is whole and its ages are sound.
-  module _ {t : Scene N} {place : N → N} (m : IsReading place (left_by n d s) t) where
+  -- Where t is what a collection leaves of s, with each kept object x at its forwarding address
+  -- `forwarding x` and no two at one address, it is whole and its ages are sound.
+  module _ {t : Scene N} {forwarding : N → N} (m : IsReading forwarding (left_by n d s) t) where
     pub moved_whole : IsWhole t
-    moved_whole = whole_read place (left_by n d s) t whole_in_place m
+    moved_whole = whole_read forwarding (left_by n d s) t whole_in_place m
 
     pub moved_ages : (ages : List ℕ) → HasSoundAges s.object s.handle ages
         → HasSoundAges t.object t.handle (grown n ages)
     moved_ages ages sound =
-        ages_read place (left_by n d s) t whole_in_place m (grown n ages)
+        ages_read forwarding (left_by n d s) t whole_in_place m (grown n ages)
         (grown_sound rank n s (left_by n d s) r w collects_in_place ages sound)
 
 -- where each kept object has the same identity at its forwarding address, it is a collection by identity
 module _ {N M : Type 0} (f g : N → M) (back : M → Option N) (rank : M → ℕ) (n : ℕ) (s t : Scene N)
-    (u v : Scene M) (d : Decision N) (r : Report) (place : N → N) where
+    (u v : Scene M) (d : Decision N) (r : Report) (forwarding : N → N) where
   pub moved_collects : IsWhole s → IsReading f s u → IsReading g t v → IsBack f back s
-      → GoesBy (λ x. rank (f x)) n s d r → IsReading place (left_by n d s) t
-      → ((x : N) → d.kept x ≡ true → g (place x) ≡ f x) → Collects rank n u v r
+      → GoesBy (λ x. rank (f x)) n s d r → IsReading forwarding (left_by n d s) t
+      → ((x : N) → d.kept x ≡ true → g (forwarding x) ≡ f x) → Collects rank n u v r
   moved_collects w fs gt b by m same =
       let in_place : Scene N = left_by n d s in
       let whole : IsWhole in_place = whole_in_place w by in
-      let after : IsReading (λ x. g (place x)) in_place v = reading_on place g in_place t v whole m gt in
+      let after : IsReading (λ x. g (forwarding x)) in_place v =
+      reading_on forwarding g in_place t v whole m gt in
       let after_f : IsReading f in_place v =
-      reading_like (λ x. g (place x)) f in_place v whole after
+      reading_like (λ x. g (forwarding x)) f in_place v whole after
       (λ x h. let (o, e) = some_value (in_place.object x) h in
       same x (left_from (d.kept x) (survivor n (d.resurrected x)) (s.object x) o e).0) in
       collects_read f back rank n s in_place u v r w (collects_in_place w by) fs after_f b
@@ -97,10 +98,10 @@ module _ {N : Type 0} (f : N → Id) where
 
 -- by identity alone: what the collector promises of addresses is a collection of the machine
 module _ {N : Type 0} (f g : N → Id) (n : ℕ) (s t : Scene N) (u v : Scene Id) (d : Decision N) (r : Report)
-    (place : N → N) where
+    (forwarding : N → N) where
   pub moved_by_identity : (k : ℕ) → Counts (λ x. is_object s.object x ≡ true) k → IsWhole s → IsReading f s u
-      → IsReading g t v → GoesBy (λ x. (f x).0) n s d r → IsReading place (left_by n d s) t
-      → ((x : N) → d.kept x ≡ true → g (place x) ≡ f x) → Collects (λ (x : Id). x.0) n u v r
+      → IsReading g t v → GoesBy (λ x. (f x).0) n s d r → IsReading forwarding (left_by n d s) t
+      → ((x : N) → d.kept x ≡ true → g (forwarding x) ≡ f x) → Collects (λ (x : Id). x.0) n u v r
   moved_by_identity k p w fs gt by m same =
-      moved_collects f g (find_named f p.members) (λ (x : Id). x.0) n s t u v d r place w fs gt
+      moved_collects f g (find_named f p.members) (λ (x : Id). x.0) n s t u v d r forwarding w fs gt
       (back_by_search f s k p fs.apart) by m same

@@ -1,5 +1,5 @@
 -- An entry leaves at most one state.
-use Rattle.hd_model.proofs.Basics.{Adding, AddsEntry, RepliesPlace, Back, Bool, Cmd, DoesCollect, Entry, Id, IsOutcome, Make, MakesHandle, None, Numbers, OneStateAfter, Option, Outcome, Refusal, Reply, Slot, Some, State, TakesWay, Way, Zero, adding_of, adds_entry, reply_place, reply_with, replies_place, ap, collects, decided, false, gives_back, handle_at, handle_register_of, if◌then◌else◌, in_idle, in_new, makes_handle, makes_object, option_map_or, pins, refl, same_Some, sym, true, way_of, way_of_adding, with_entry, with_growth, with_made, with_place, without_use, ℕ, ⊎_elim, ◌∙◌, ◌≡◌}
+use Rattle.hd_model.proofs.Basics.{Adding, AddsEntry, RepliesAddress, Back, Bool, Cmd, DoesCollect, Entry, Id, IsOutcome, Make, MakesHandle, None, Numbers, OneStateAfter, Option, Outcome, Refusal, Reply, Slot, Some, State, TakesWay, Way, Zero, adding_of, adds_entry, reply_address, reply_with, replies_address, ap, collects, decided, false, gives_back, handle_at, handle_register_of, if◌then◌else◌, in_idle, in_new, makes_handle, makes_object, option_map_or, pins, refl, same_Some, sym, true, way_of, way_of_adding, with_entry, with_growth, with_made, with_address, without_use, ℕ, ⊎_elim, ◌∙◌, ◌≡◌}
 use Rattle.hd_model.specs.Command.{is_refused}
 use Rattle.hd_model.proofs.Collections.{one_collection}
 use Rattle.hd_model.specs.declared.command.Cmd.TheVariants as cmd
@@ -16,7 +16,7 @@ CommandOf c (decided r) = Unit {0}
 CommandOf c (makes_object d fields fin) = c ≡ cmd.New d fields fin
 CommandOf c (makes_handle d make t) = c ≡ cmd.HNew d make t
 CommandOf c (collects n) = c ≡ cmd.Collect n
-CommandOf c (replies_place h) = c ≡ cmd.AddrOf h
+CommandOf c (replies_address h) = c ≡ cmd.AddrOf h
 CommandOf c (gives_back kind) = c ≡ cmd.Trim kind
 CommandOf c (adds_entry v key) = (k : ℕ) × (c ≡ cmd.CAdd k v)
 CommandOf c (replies_root r) = c ≡ cmd.GcRoot r
@@ -52,18 +52,18 @@ agree_test : (r : Reply) (f g d : Outcome) (b : Bool) → (r ≡ f.reply → r �
 agree_test r f g d true each x y = each x y
 agree_test r f g d false each x y = refl
 
-same_place : {r : Reply} {p q : ℕ} → r ≡ reply.Place p → r ≡ reply.Place q → p ≡ q
-same_place a b = cc
+same_address : {r : Reply} {p q : ℕ} → r ≡ reply.Place p → r ≡ reply.Place q → p ≡ q
+same_address a b = cc
 
 -- so an outcome with a reply depends on no pinned address that the reply does not have
-places_same : (s : State) (caller h p q : ℕ) (r : Reply) → r ≡ (reply_place s caller h p).reply
-    → r ≡ (reply_place s caller h q).reply → reply_place s caller h p ≡ reply_place s caller h q
-places_same s caller h p q r =
+pinned_same : (s : State) (caller h p q : ℕ) (r : Reply) → r ≡ (reply_address s caller h p).reply
+    → r ≡ (reply_address s caller h q).reply → reply_address s caller h p ≡ reply_address s caller h q
+pinned_same s caller h p q r =
     agree_option r _ _ (handle_register_of s caller h) _
     (λ slot. agree_option r _ _ (handle_at s slot) _
     (λ handle. agree_test r _ _ _ (pins handle)
-    (agree_option r _ _ handle.target _ (λ id a b. ap (λ z. reply_with (reply.Place z) (with_place s id z))
-    (same_place a b)))))
+    (agree_option r _ _ handle.target _ (λ id a b. ap (λ z. reply_with (reply.Place z) (with_address s id z))
+    (same_address a b)))))
 
 -- `gcroot` changes nothing, whatever it replies
 pub root_after : (s : State) (o : Option Id) (r : Reply)
@@ -86,10 +86,11 @@ module _ (n : Numbers) (s : State) (e : Entry) (t u : State) where
       a.after ∙ ap (λ (x : Slot). with_entry (with_growth s kind.Dependent e.grown) s e.caller v x key)
       (same_Some a.slot b.slot (sym a.given ∙ b.given)) ∙ sym b.after
 
-  one_place : (h : ℕ) → RepliesPlace s e t h → RepliesPlace s e u h → t ≡ u
-  one_place h a b =
+  one_address : (h : ℕ) → RepliesAddress s e t h → RepliesAddress s e u h → t ≡ u
+  one_address h a b =
       a.outcome.after ∙ ap (λ (o : Outcome). o.after)
-      (places_same s e.caller h a.place b.place e.reply a.outcome.reply b.outcome.reply) ∙ sym b.outcome.after
+      (pinned_same s e.caller h a.address b.address e.reply a.outcome.reply b.outcome.reply)
+      ∙ sym b.outcome.after
 
   one_collected : (k : ℕ) → DoesCollect s e t k → DoesCollect s e u k → t ≡ u
   one_collected k a b = (one_collection k s t u a.report b.report a.collects b.collects).0
@@ -114,7 +115,7 @@ module _ (n : Numbers) (s : State) (e : Entry) (t u : State) where
       (λ x. ⊎_elim (λ y. absurd (done_or_refused y.reply x.refused.reply))
       (λ y. one_outcome _ x.refused y.refused) b) a
   one_of (collects k) a b = one_collected k a b
-  one_of (replies_place h) a b = one_place h a b
+  one_of (replies_address h) a b = one_address h a b
   one_of (replies_root r) a b =
       a.outcome.after ∙ root_after s (register_of s e.caller r) a.found
       ∙ sym (b.outcome.after ∙ root_after s (register_of s e.caller r) b.found)

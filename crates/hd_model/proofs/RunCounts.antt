@@ -1,10 +1,10 @@
 -- The handles and the objects of a run, counted over its journal.
-use Rattle.hd_model.proofs.Basics.{Bool, Chain, Cmd, DoesCollect, Entry, Handle, HandlesAreMadeLessFreed, Id, IsSome, IsWellFormed, List, None, Numbers, Object, ObjectsAreMadeLessRemoved, Option, Refusal, Reply, Some, State, Step, ap, arith, cleared, cond, false, field_of, frees_handle, fresh_object, get, is_done, is_some, last_serial, len, len-empty, link, loaded, made_handle, nat_cmp, object_returned, object_by_id, option_map, refl, register_of, removed_in, start_of, stay, subst, sum_by, sum_by-cons, sym, touched_by, true, with_handle, ℕ, ◌%◌, ◌&&◌, ◌+◌, ◌/◌, ◌<◌, ◌^◌, ◌∙◌, ◌≡◌, ◌≤◌}
+use Rattle.hd_model.proofs.Basics.{Bool, Chain, Cmd, DoesCollect, Entry, Handle, HandlesAreMadeLessFreed, Id, IsSome, IsWellFormed, List, None, Numbers, Object, ObjectsAreMadeLessRemoved, Option, Refusal, Reply, Some, State, Step, ap, arith, cleared, cond, false, field_of, frees_handle, fresh_object, get, is_done, is_some, last_serial, len, len-empty, link, load_reply, made_handle, nat_cmp, object_returned, object_by_id, option_map, refl, register_of, removed_in, start_of, stay, subst, sum_by, sum_by-cons, sym, touched_by, true, with_handle, ℕ, ◌%◌, ◌&&◌, ◌+◌, ◌/◌, ◌<◌, ◌^◌, ◌∙◌, ◌≡◌, ◌≤◌}
 use Rattle.hd_model.specs.Laws.{makes_handle, makes_object}
 use Rattle.hd_model.proofs.ReadAfterWrite.{len_new, len_again, len_less}
 use Rattle.hd_model.proofs.{PropertyCounts.counts_like, PropertyCounts.counts_once, SceneCollection.mapped_value, Reports.report_says}
 use Rattle.hd_model.proofs.MapEntries.{counts_keys, some_value, none_from}
-use Rattle.hd_model.proofs.Effects.{Effect, refused, makes_object as does_make, sets_field, gets_field, sets_value, reads_value, copies, clears, puts_static, gets_static, reads_generation, suppresses, reregisters, finds_none, takes_first, collects, makes_handle as does_make_handle, gets_target, sets_target, sets_secondary, gets_secondary, sets_strength, raises_count, lowers_count, frees_handle as does_free, puts_board, picks_board, replies_place, gives_back, gives_none, adds_entry, finds_value, finds_no_entry, removes_entry, removes_none, effect, next_identity, with_field}
+use Rattle.hd_model.proofs.Effects.{Effect, refused, makes_object as does_make, sets_field, gets_field, sets_value, reads_value, copies, clears, puts_static, gets_static, reads_generation, suppresses, reregisters, finds_none, takes_first, collects, makes_handle as does_make_handle, gets_target, sets_target, sets_secondary, gets_secondary, sets_strength, raises_count, lowers_count, frees_handle as does_free, puts_board, picks_board, replies_address, gives_back, gives_none, adds_entry, finds_value, finds_no_entry, removes_entry, removes_none, effect, next_identity, with_field}
 use Rattle.hd_model.proofs.WellFormedSteps.{has, given_vacant, step_keeps, start_is_well_formed}
 use Rattle.hd_model.specs.declared.data.Reply.TheVariants as reply
 use Rattle.hd_model.proofs.Basics.{⊎_elim}
@@ -114,7 +114,7 @@ module _ (n : Numbers) (s : State) (e : Entry) (w : IsWellFormed n s) where
   handles_step c t (collects {k = k} did) = ap (λ x. x + 0) (handles_stay n k s t e w did)
   handles_step c t _ = refl
 
-  loaded_removes : (o : Option Id) → removed_in (loaded o) ≡ 0
+  loaded_removes : (o : Option Id) → removed_in (load_reply o) ≡ 0
   loaded_removes None = refl
   loaded_removes (Some id) = refl
 
@@ -178,7 +178,8 @@ module _ (n : Numbers) (s : State) (e : Entry) (w : IsWellFormed n s) where
   removes c t (does_free slot handle f p q) = ap (λ x. len s.objects + removed_in x) p
   removes c t (puts_board p) = ap (λ x. len s.objects + removed_in x) p
   removes c t (picks_board p) = ap (λ x. len s.objects + removed_in x) p
-  removes c t (replies_place slot handle id place f target may p) = ap (λ x. len s.objects + removed_in x) p
+  removes c t (replies_address slot handle id address f target may p) =
+      ap (λ x. len s.objects + removed_in x) p
   removes c t (gives_back block free p) = ap (λ x. len s.objects + removed_in x) p
   removes c t (gives_none p) = ap (λ x. len s.objects + removed_in x) p
   removes c t (adds_entry key slot f none may p q) = ap (λ x. len s.objects + removed_in x) p
@@ -187,8 +188,7 @@ module _ (n : Numbers) (s : State) (e : Entry) (w : IsWellFormed n s) where
   removes c t (removes_entry key slot x f p) = ap (λ x. len s.objects + removed_in x) p
   removes c t (removes_none key f none p) = ap (λ x. len s.objects + removed_in x) p
   removes c t (replies_root goal f is_root) =
-      ap (λ x. len s.objects + x)
-      (⊎_elim (λ x. ap removed_in x.reply_is) (λ x. ap removed_in x.1) is_root)
+      ap (λ x. len s.objects + x) (⊎_elim (λ x. ap removed_in x.reply_is) (λ x. ap removed_in x.1) is_root)
 
 pub handles_are_made_less_freed : HandlesAreMadeLessFreed
 handles_are_made_less_freed n journal s run =

@@ -1,5 +1,5 @@
 -- Two runs of the same lists, each of one caller after another, are one.
-use Rattle.hd_model.proofs.Basics.{Adding, AddsEntry, AddsLeast, All, Back, Chain, Cmd, DoesCollect, Entry, FindsTableFull, GivesBack, GivesBackLeast, GivesLeast, Grown, Id, IsLeastFree, IsNonDecreasingBy, IsOutcome, IsWellFormed, Kind, List, Make, MakesHandle, MayGive, None, NoneAllFree, NoneFree, Numbers, Outcome, Slot, SoloRunsAreOne, SoloStep, SoloTextIsOne, Some, State, Step, TakesLeast, TakesWay, Way, Zero, [], adding_of, adds_entry, reply_with, replies_place, ap, cases_eq, collects, commands_of, cond, decided, eq-eqb, gives_back, in_idle, in_new, inl, inr, kind_of, le_antisymm, le_of_eq, le_trans, link, makes_handle, makes_object, ne_eqb, none-some, part_of, refl, stay, subst, suc, suc-le-suc, sym, text_of, way_of, way_of_adding, zero-le, ℕ, ⊎_elim, ◌∙◌, ◌∷◌, ◌≡◌, ◌≤◌, ◌⊎◌}
+use Rattle.hd_model.proofs.Basics.{Adding, AddsEntry, AddsLeast, All, Back, Chain, Cmd, DoesCollect, Entry, FindsTableFull, GivesBack, GivesBackLeast, GivesLeast, Grown, Id, IsLeastFree, IsNonDecreasingBy, IsOutcome, IsWellFormed, Kind, List, Make, MakesHandle, MayGive, None, NoneAllFree, NoneFree, Numbers, Outcome, Slot, SoloRunsAreOne, SoloStep, SoloTextIsOne, Some, State, Step, TakesLeast, TakesWay, Way, Zero, [], adding_of, adds_entry, reply_with, replies_address, ap, cases_eq, collects, commands_of, cond, decided, eq-eqb, gives_back, in_idle, in_new, inl, inr, kind_of, le_antisymm, le_of_eq, le_trans, link, makes_handle, makes_object, ne_eqb, none-some, part_of, refl, stay, subst, suc, suc-le-suc, sym, text_of, way_of, way_of_adding, zero-le, ℕ, ⊎_elim, ◌∙◌, ◌∷◌, ◌≡◌, ◌≤◌, ◌⊎◌}
 use Rattle.hd_model.specs.Command.{is_refused}
 use Rattle.hd_model.proofs.{Collections.one_collection, StepWrites.same_slot, LeastGrowth.grown_or_full, LeastGrowth.same_growth, WellFormedSteps.step_keeps, WellFormedSteps.start_is_well_formed}
 use Rattle.hd_model.proofs.OneState.{CommandOf, way_command, one_state_after}
@@ -152,7 +152,7 @@ way_same n s e f t u c (adds_entry v key) by is w other a b x y =
     (adds_least s e e.caller v key adding same (subst (TakesLeast s e) is.1 x))
     (adds_least s (with_rest e f) e.caller v key adding same (subst (TakesLeast s (with_rest e f)) is.1 y))
 way_same n s e f t u c (collects k) by is w other a b x y = collected_same s e (with_rest e f) t u k a b
-way_same n s e f t u c (replies_place h) by is w other a b x y = absurd (other h is)
+way_same n s e f t u c (replies_address h) by is w other a b x y = absurd (other h is)
 way_same n s e f t u c (replies_root r) by is w other a b x y =
     roots_same s e (with_rest e f) t u r a.found b.found (register_of s e.caller r) a.is_root b.is_root
     a.outcome

@@ -1,5 +1,5 @@
 -- What is stored in fields, values, statics, on the board and in registers is read back.
-use Rattle.hd_model.proofs.Basics.{BoardIsReadBack, Bool, Cmd, Entry, FieldIsReadBack, HandleRegisterIsReadBack, Id, IsOutcome, IsSomeAnd, IsValid, IsWellFormed, List, NewFieldIsNull, NewValueIsZero, None, Numbers, Object, Option, Outcome, REGISTERS, Refusal, RegisterIsReadBack, Reply, Slot, Some, State, StaticIsReadBack, Step, StepOf, ValueIsReadBack, WritesField, WritesValue, [], ap, board_of, false, field_of, fresh_object, get, get_or, get_or-set_other, get_or-set_same, handle_register_of, if◌then◌else◌, inr, is_refused, length, length-replicate, length-set, loaded, lt-ltb, none-some, object_returned, object_by_id, on_field, on_object, option_map_or, put_in_handle_register, put_in_register, refl, refuses, register_of, same_Some, set, static_of, subst, sym, touched_by, true≢false, ℕ, ◌<◌, ◌∙◌, ◌≡◌}
+use Rattle.hd_model.proofs.Basics.{BoardIsReadBack, Bool, Cmd, Entry, FieldIsReadBack, HandleRegisterIsReadBack, Id, IsOutcome, IsSomeAnd, IsValid, IsWellFormed, List, NewFieldIsNull, NewValueIsZero, None, Numbers, Object, Option, Outcome, REGISTERS, Refusal, RegisterIsReadBack, Reply, Slot, Some, State, StaticIsReadBack, Step, StepOf, ValueIsReadBack, WritesField, WritesValue, [], ap, board_of, false, field_of, fresh_object, get, get_or, get_or-set_other, get_or-set_same, handle_register_of, if◌then◌else◌, inr, is_refused, length, length-replicate, length-set, load_reply, lt-ltb, none-some, object_returned, object_by_id, on_field, on_object, option_map_or, put_in_handle_register, put_in_register, refl, refuses, register_of, same_Some, set, static_of, subst, sym, touched_by, true≢false, ℕ, ◌<◌, ◌∙◌, ◌≡◌}
 use Rattle.hd_model.proofs.ReadAfterWrite.{cell_here, replicate_cases, get_inserted}
 use Rattle.hd_model.proofs.OneState.{done_or_refused}
 use Rattle.hd_model.proofs.Effects.{Effect, refused, makes_object, sets_field, gets_field, sets_value, copies, clears, gets_static, finds_none, takes_first, makes_handle, gets_target, gets_secondary, frees_handle, picks_board, finds_value, finds_no_entry, effect, with_field, next_identity}
@@ -78,12 +78,12 @@ field_since n id i v s e t w does apart had =
 -- `get` returns what the field references
 field_reads : (n : Numbers) (s : State) (e : Entry) (t : State) (id : Id) (d p i : ℕ) (x : Option Id)
     → IsWellFormed n s → Step n s e t → e.cmd ≡ cmd.Get d p i → register_of s e.caller p ≡ Some id
-    → OrGone s id (FieldIs i x) → e.reply ≡ loaded x
+    → OrGone s id (FieldIs i x) → e.reply ≡ load_reply x
 field_reads n s e t id d p i x w step gets named is =
     let there : FieldIs i x (object_by_id s id) = named_has n s e.caller p id (FieldIs i x) w named is in
     let comes : IsOutcome e _ t = step_of n s e t (cmd.Get d p i) step gets in
     comes.reply ∙ ap (λ (r : Outcome). r.reply) (on_field_is s e.caller p i _ id named there.0)
-    ∙ ap loaded there.1
+    ∙ ap load_reply there.1
 
 pub field_is_read_back : FieldIsReadBack
 field_is_read_back n old now new written reading id o i v d p since sets done names step gets named =
@@ -177,7 +177,7 @@ static_is_read_back n old now new written reading k r d since puts step gets =
     (cmd.SPut k r) since.first puts).after
     ∙ get_or-set_same old.statics k x None (subst (λ l. k < l) (sym since.well_formed.shape.statics) small) in
     let kept = still (λ s. static_of s k ≡ x) (λ s e t _ did. static_kept n s e e.cmd t k x did) since put in
-    (step_of n now reading new (cmd.SGet d k) step gets).reply ∙ ap loaded kept.1
+    (step_of n now reading new (cmd.SGet d k) step gets).reply ∙ ap load_reply kept.1
 
 pub board_is_read_back : BoardIsReadBack
 board_is_read_back n old now new written reading k h d since puts step picks =
@@ -195,7 +195,7 @@ board_is_read_back n old now new written reading k h d since puts step picks =
     ∙ cell_here now.handle_registers reading.caller d (board_of now k) None row cell
     ∙ kept.1
 
-loaded_object : (o : Option Id) → o ≡ object_returned (loaded o)
+loaded_object : (o : Option Id) → o ≡ object_returned (load_reply o)
 loaded_object None = refl
 loaded_object (Some id) = refl
 

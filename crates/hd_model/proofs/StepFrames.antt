@@ -1,6 +1,6 @@
 -- A step changes no part of the state that its command does not touch.
 use Rattle.hd_model.proofs.Basics.{Cmd, Entry, None, Numbers, State, Untouched, UntouchedStays, false, none-some, refl, sym, touched_by, true≢false, ◌≡◌}
-use Rattle.hd_model.proofs.Effects.{Effect, makes_object, sets_field, gets_field, sets_value, copies, clears, puts_static, gets_static, suppresses, reregisters, finds_none, takes_first, collects, makes_handle, gets_target, sets_target, sets_secondary, gets_secondary, sets_strength, raises_count, lowers_count, frees_handle, puts_board, picks_board, replies_place, gives_back, adds_entry, finds_value, finds_no_entry, removes_entry, effect}
+use Rattle.hd_model.proofs.Effects.{Effect, makes_object, sets_field, gets_field, sets_value, copies, clears, puts_static, gets_static, suppresses, reregisters, finds_none, takes_first, collects, makes_handle, gets_target, sets_target, sets_secondary, gets_secondary, sets_strength, raises_count, lowers_count, frees_handle, puts_board, picks_board, replies_address, gives_back, adds_entry, finds_value, finds_no_entry, removes_entry, effect}
 
 module _ (n : Numbers) (s : State) (e : Entry) where
   objects_stay : (c : Cmd) (t : State) → Effect n s e c t → (touched_by c).objects ≡ false
@@ -71,10 +71,10 @@ module _ (n : Numbers) (s : State) (e : Entry) where
   queue_stays c t (collects did) h = absurd (true≢false h)
   queue_stays c t _ h = refl
 
-  places_stay : (c : Cmd) (t : State) → Effect n s e c t → (touched_by c).places ≡ false → t.places ≡ s.places
-  places_stay c t (replies_place slot handle id p f target may r) h = absurd (true≢false h)
-  places_stay c t (collects did) h = absurd (true≢false h)
-  places_stay c t _ h = refl
+  pinned_stay : (c : Cmd) (t : State) → Effect n s e c t → (touched_by c).pinned ≡ false → t.pinned ≡ s.pinned
+  pinned_stay c t (replies_address slot handle id p f target may r) h = absurd (true≢false h)
+  pinned_stay c t (collects did) h = absurd (true≢false h)
+  pinned_stay c t _ h = refl
 
   blocks_stay : (c : Cmd) (t : State) → Effect n s e c t → (touched_by c).blocks ≡ false → t.blocks ≡ s.blocks
   blocks_stay c t (makes_handle slot given may p) h = absurd (true≢false h)
@@ -99,7 +99,7 @@ module _ (n : Numbers) (s : State) (e : Entry) where
     statics = statics_stay c t does;
     board = board_stays c t does;
     queue = queue_stays c t does;
-    places = places_stay c t does;
+    pinned = pinned_stay c t does;
     blocks = blocks_stay c t does;
     serials = serials_stay c t does;
   }

@@ -1,5 +1,5 @@
 -- What a step does to one part of the state: it stays but for the commands that write it.
-use Rattle.hd_model.proofs.Basics.{Bool, Cmd, Entry, Extra, FitsKind, Handle, Id, IsSome, IsSomeAnd, IsWellFormed, List, Make, None, Numbers, Object, Option, Since, Slot, Some, State, Strength, [], ap, arith, board_of, cleared, cond, count, count_of, false, fresh_object, get, get_or, handle_at, handle_register_of, inl, inr, insert, is_refused, is_some, last_serial, le_trans, length, loaded, made_handle, none-some, object_by_id, option_map, refl, register_of, secondary, set, static_of, strength, subst, survivor, sym, touched_by, true, true≢false, unwrap_or, without_secondary, ℕ, ⊎_elim, ◌%◌, ◌+◌, ◌-◌, ◌/◌, ◌<◌, ◌^◌, ◌∙◌, ◌≡◌, ◌≤◌, ◌⊎◌}
+use Rattle.hd_model.proofs.Basics.{Bool, Cmd, Entry, Extra, FitsKind, Handle, Id, IsSome, IsSomeAnd, IsWellFormed, List, Make, None, Numbers, Object, Option, Since, Slot, Some, State, Strength, [], ap, arith, board_of, cleared, cond, count, count_of, false, fresh_object, get, get_or, handle_at, handle_register_of, inl, inr, insert, is_refused, is_some, last_serial, le_trans, length, load_reply, made_handle, none-some, object_by_id, option_map, refl, register_of, secondary, set, static_of, strength, subst, survivor, sym, touched_by, true, true≢false, unwrap_or, without_secondary, ℕ, ⊎_elim, ◌%◌, ◌+◌, ◌-◌, ◌/◌, ◌<◌, ◌^◌, ◌∙◌, ◌≡◌, ◌≤◌, ◌⊎◌}
 use Rattle.hd_model.proofs.ReadAfterWrite.{set_cases, cell_cases, write_cases, removal_cases}
 use Rattle.hd_model.proofs.{StepChains.chain_keeps, RunCounts.fresh}
 use Rattle.hd_model.proofs.Effects.{Effect, Finds, makes_object, sets_field, gets_field, sets_value, copies, clears, puts_static, gets_static, suppresses, reregisters, finds_none, takes_first, collects, makes_handle, gets_target, sets_target, sets_secondary, gets_secondary, sets_strength, raises_count, lowers_count, frees_handle, puts_board, picks_board, finds_value, finds_no_entry, effect, next_identity, with_field}
@@ -30,7 +30,7 @@ at_some Q (Some x) d h = h
 pub not_none : {A : Type 0} (Q : A → Type 0) (o : Option A) → o ≡ None → IsSomeAnd o Q → ⊥
 not_none Q o e h = subst (λ x. IsSomeAnd x Q) e h
 
-loaded_done : (o : Option Id) → is_refused (loaded o) ≡ false
+loaded_done : (o : Option Id) → is_refused (load_reply o) ≡ false
 loaded_done None = refl
 loaded_done (Some id) = refl
 

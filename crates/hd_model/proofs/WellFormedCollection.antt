@@ -27,10 +27,10 @@ module _ (n : Numbers) (k : ℕ) (s t : State) (r : Report) (w : IsWellFormed n 
   was_object id h =
       let (o, e) = some_value (get t.objects id) h in let (p, both) = (before id o e).1 in ap is_some both.0
 
-  pinned_stays : (id : ℕ) → IsSome (get t.places id) → IsSome (get t.objects id)
+  pinned_stays : (id : ℕ) → IsSome (get t.pinned id) → IsSome (get t.objects id)
   pinned_stays id h =
-      let (pinning, place) = passed (is_pinned s.handles id) (get s.places id)
-      (subst IsSome (c.places id) h) in
+      let (pinning, address) = passed (is_pinned s.handles id) (get s.pinned id)
+      (subst IsSome (c.pinned id) h) in
       let x : Id = record { 0 = id } in
       still_object (λ (y : Id). y.0) k (scene_of s) (scene_of t) r (whole_scene n s w) c.scene x
       (keeps_root (λ (y : Id). y.0) k (scene_of s) (scene_of t) r (whole_scene n s w) c.scene x

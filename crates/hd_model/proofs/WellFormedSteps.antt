@@ -2,10 +2,10 @@
 use Rattle.hd_model.proofs.Basics.{AllPairs, Back, BlockUse, Bool, Cmd, Contains, Entry, Extra, FIELDS, FitsKind, Grown, Handle, Id, IsSome, IsValid, IsWellFormed, Kind, List, Make, MayGive, Names, None, Numbers, OLDEST, Object, One, Option, REGISTERS, ROWS, Run, Slot, Some, State, Step, Two, WeakEntry, Zero, [], ap, arith, empty, extra_data, false, field_of, first_slot, fresh_object, get, get-empty, get_or, get_or-replicate, get_or-set_same, handle_at, handles_of, is_some, kind_of, last_serial, le_of_eq, length, length-replicate, length-set, lit<, made_extra, made_handle, nat_cmp, none-some, object_by_id, option_and_then, refl, register_of, same_Some, secondary_of, secondary_register, start_of, subst, sym, true, true≢false, unwrap_or, use_of, with_entry, with_growth, with_handle, with_handle_register, with_object, with_queue, with_register, with_serial, with_use, without_handle, ℕ, ⊎_elim, ◌%◌, ◌*◌, ◌+◌, ◌/◌, ◌<◌, ◌^◌, ◌∙◌, ◌≡◌, ◌≢◌, ◌≤◌}
 use Rattle.hd_model.proofs.ReadAfterWrite.{set_cases, replicate_cases, get_inserted, get_beside, still_some}
 use Rattle.hd_model.proofs.KindTests.{without_secondary_fits, without_secondary_has_none, made_fits, made_secondary}
-use Rattle.hd_model.proofs.WellFormedWrites.{names_more, register_keeps, handle_register_keeps, static_keeps, board_keeps, object_keeps, serial_keeps, handle_keeps, removal_keeps, use_keeps, without_use_keeps, weak_keeps, live_not_weak, queue_keeps, place_keeps}
+use Rattle.hd_model.proofs.WellFormedWrites.{names_more, register_keeps, handle_register_keeps, static_keeps, board_keeps, object_keeps, serial_keeps, handle_keeps, removal_keeps, use_keeps, without_use_keeps, weak_keeps, live_not_weak, queue_keeps, address_keeps}
 use Rattle.hd_model.proofs.Members.{first_in, later_in, pairs_rest}
 use Rattle.hd_model.proofs.{MapEntries.none_from, MapEntries.some_value, WeakSlots.HasNoKey, StepChains.chain_keeps, WellFormedCollection.collection_keeps_well_formed}
-use Rattle.hd_model.proofs.Effects.{Effect, Finds, growth_is, refused, makes_object, sets_field, gets_field, sets_value, reads_value, copies, clears, puts_static, gets_static, reads_generation, suppresses, reregisters, finds_none, takes_first, collects, makes_handle, gets_target, sets_target, sets_secondary, gets_secondary, sets_strength, raises_count, lowers_count, frees_handle, puts_board, picks_board, replies_place, gives_back, gives_none, MayHold, adds_entry, finds_value, finds_no_entry, removes_entry, removes_none, effect, next_identity}
+use Rattle.hd_model.proofs.Effects.{Effect, Finds, growth_is, refused, makes_object, sets_field, gets_field, sets_value, reads_value, copies, clears, puts_static, gets_static, reads_generation, suppresses, reregisters, finds_none, takes_first, collects, makes_handle, gets_target, sets_target, sets_secondary, gets_secondary, sets_strength, raises_count, lowers_count, frees_handle, puts_board, picks_board, replies_address, gives_back, gives_none, MayHold, adds_entry, finds_value, finds_no_entry, removes_entry, removes_none, effect, next_identity}
 use Rattle.hd_model.specs.declared.data.Kind.TheVariants as kind
 use Rattle.hd_model.proofs.Effects.{replies_root}
 
@@ -265,8 +265,8 @@ module _ (n : Numbers) (s : State) (w : IsWellFormed n s) (e : Entry) (l : e.cal
       handle_register_keeps n (without_handle s slot) (removal_keeps n s w slot) e.caller h None l
   effect_keeps c t v (puts_board {k = k} p) = board_keeps n s w k _
   effect_keeps c t v (picks_board {d = d} p) = handle_register_keeps n s w e.caller d _ l
-  effect_keeps c t v (replies_place slot handle id p f target may r) =
-      place_keeps n s w id p (subst (Names s) target (w.names.targets slot.0 handle f.live))
+  effect_keeps c t v (replies_address slot handle id p f target may r) =
+      address_keeps n s w id p (subst (Names s) target (w.names.targets slot.0 handle f.live))
   effect_keeps c t v (gives_back block free p) =
       without_use_keeps n s w block (λ slot here. (free (record { 0 = slot }) here).no_handle)
       (λ slot here. (free (record { 0 = slot }) here).not_weak)
@@ -310,7 +310,7 @@ start_is_well_formed n = record {
     targets = λ slot handle e. absurd (nothing_at slot handle e);
     secondaries = λ slot handle e. absurd (nothing_at slot handle e);
     queue = λ id h. absurd (omega (arith, h.1));
-    places = λ id h. absurd (none_has _ id h);
+    pinned = λ id h. absurd (none_has _ id h);
     keys = λ slot x e. absurd (nothing_at slot (Some x) e);
     values = λ slot x e. absurd (nothing_at slot (Some x) e);
   };

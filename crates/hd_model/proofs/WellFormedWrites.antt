@@ -1,5 +1,5 @@
 -- A write to one part of a state keeps it well formed.
-use Rattle.hd_model.proofs.Basics.{AllPairs, BlockUse, Contains, FIELDS, FinMap, FitsKind, Handle, HasHandles, HasObjects, HasSerials, HasShape, HasSoundReferences, HasWeakTable, Id, IsSome, IsWellFormed, List, Names, None, Numbers, OLDEST, Object, Option, ROWS, Slot, Some, State, WeakEntry, [], ap, field_of, get, get_or, handles_of, is_some, last_serial, le_trans, length, length-set, nat_cmp, none-some, refl, register_of, secondary_of, static_of, subst, sym, true≢false, use_of, with_board, with_handle, with_handle_register, with_object, with_place, with_queue, with_register, with_serial, with_static, with_use, with_weak, without_handle, without_use, ℕ, ⊎_elim, ◌%◌, ◌/◌, ◌<◌, ◌^◌, ◌∙◌, ◌≡◌, ◌≢◌, ◌≤◌}
+use Rattle.hd_model.proofs.Basics.{AllPairs, BlockUse, Contains, FIELDS, FinMap, FitsKind, Handle, HasHandles, HasObjects, HasSerials, HasShape, HasSoundReferences, HasWeakTable, Id, IsSome, IsWellFormed, List, Names, None, Numbers, OLDEST, Object, Option, ROWS, Slot, Some, State, WeakEntry, [], ap, field_of, get, get_or, handles_of, is_some, last_serial, le_trans, length, length-set, nat_cmp, none-some, refl, register_of, secondary_of, static_of, subst, sym, true≢false, use_of, with_board, with_handle, with_handle_register, with_object, with_address, with_queue, with_register, with_serial, with_static, with_use, with_weak, without_handle, without_use, ℕ, ⊎_elim, ◌%◌, ◌/◌, ◌<◌, ◌^◌, ◌∙◌, ◌≡◌, ◌≢◌, ◌≤◌}
 use Rattle.hd_model.proofs.ReadAfterWrite.{set_cases, cell_cases, rows_keep, insert_all, remove_all, still_some, some_cases, insert_cases, remove_cases, get_beside, inserted_from}
 use Rattle.hd_model.proofs.MapEntries.{none_from}
 use Rattle.hd_model.specs.declared.data.Kind.TheVariants as kind
@@ -34,18 +34,18 @@ references : {t : State}
     → ((slot : ℕ) (h : Handle Id) → get t.handles slot ≡ Some h → Names t h.target)
     → ((slot : ℕ) (h : Handle Id) → get t.handles slot ≡ Some h → Names t (secondary_of h.extra))
     → ((id : Id) → Contains t.queue id → Names t (Some id))
-    → ((id : ℕ) → IsSome (get t.places id) → IsSome (get t.objects id))
+    → ((id : ℕ) → IsSome (get t.pinned id) → IsSome (get t.objects id))
     → ((slot : ℕ) (x : WeakEntry Id) → get t.weak slot ≡ Some (Some x) → Names t (Some x.key))
     → ((slot : ℕ) (x : WeakEntry Id) → get t.weak slot ≡ Some (Some x) → Names t x.value)
     → HasSoundReferences t
-references fields registers statics targets secondaries queue places keys values = record {
+references fields registers statics targets secondaries queue pinned keys values = record {
   fields = fields;
   registers = registers;
   statics = statics;
   targets = targets;
   secondaries = secondaries;
   queue = queue;
-  places = places;
+  pinned = pinned;
   keys = keys;
   values = values;
 }
@@ -60,7 +60,7 @@ names_again : (s : State) (handle_registers : List (List (Option Slot))) (board 
       serials = serials;
     })
 names_again s handle_registers board blocks serials h = references h.fields h.registers h.statics h.targets
-    h.secondaries h.queue h.places h.keys h.values
+    h.secondaries h.queue h.pinned h.keys h.values
 
 objects_again : (s t : State) → t.objects ≡ s.objects → t.queue ≡ s.queue → HasObjects s → HasObjects t
 objects_again s t o q h = record {
@@ -136,7 +136,7 @@ module _ (n : Numbers) (s : State) (w : IsWellFormed n s) where
       refl refl refl w.shape)
       (references w.names.fields
       (λ i j. cell_cases (Names s) s.registers c d i j v None (λ _ _. h) (w.names.registers i j))
-      w.names.statics w.names.targets w.names.secondaries w.names.queue w.names.places w.names.keys
+      w.names.statics w.names.targets w.names.secondaries w.names.queue w.names.pinned w.names.keys
       w.names.values)
 
   pub handle_register_keeps : (c d : ℕ) (v : Option Slot) → c < n.callers
@@ -153,7 +153,7 @@ module _ (n : Numbers) (s : State) (w : IsWellFormed n s) where
       (shape_again n s _ refl (λ _. refl) refl (λ _. refl) (length-set s.statics k v) refl refl w.shape)
       (references w.names.fields w.names.registers
       (λ j. set_cases (Names s) s.statics k j v None (λ _. h) (w.names.statics j)) w.names.targets
-      w.names.secondaries w.names.queue w.names.places w.names.keys w.names.values)
+      w.names.secondaries w.names.queue w.names.pinned w.names.keys w.names.values)
 
   pub board_keeps : (k : ℕ) (v : Option Slot) → IsWellFormed n (with_board s k v)
   board_keeps k v =
@@ -178,7 +178,7 @@ module _ (n : Numbers) (s : State) (w : IsWellFormed n s) where
             (λ slot handle e. more _ (w.names.targets slot handle e))
             (λ slot handle e. more _ (w.names.secondaries slot handle e))
             (λ x h. more (Some x) (w.names.queue x h))
-            (λ q h. still_some s.objects id.0 object q (w.names.places q h))
+            (λ q h. still_some s.objects id.0 object q (w.names.pinned q h))
             (λ slot x e. more (Some x.key) (w.names.keys slot x e))
             (λ slot x e. more x.value (w.names.values slot x e));
         objects = record {
@@ -224,7 +224,7 @@ module _ (n : Numbers) (s : State) (w : IsWellFormed n s) where
         (insert_all s.handles slot.0 (λ _ x. Names s x.target) handle target w.names.targets)
         (insert_all s.handles slot.0 (λ _ x. Names s (secondary_of x.extra)) handle second
         w.names.secondaries)
-        w.names.queue w.names.places w.names.keys w.names.values;
+        w.names.queue w.names.pinned w.names.keys w.names.values;
     objects = objects_again s _ refl refl w.objects;
     serials = serials_again s _ refl refl w.serials;
     handles = record {
@@ -250,7 +250,7 @@ module _ (n : Numbers) (s : State) (w : IsWellFormed n s) where
     names = references w.names.fields w.names.registers w.names.statics
         (remove_all s.handles slot.0 (λ _ x. Names s x.target) w.names.targets)
         (remove_all s.handles slot.0 (λ _ x. Names s (secondary_of x.extra)) w.names.secondaries)
-        w.names.queue w.names.places w.names.keys w.names.values;
+        w.names.queue w.names.pinned w.names.keys w.names.values;
     objects = objects_again s _ refl refl w.objects;
     serials = serials_again s _ refl refl w.serials;
     handles = record {
@@ -335,7 +335,7 @@ module _ (n : Numbers) (s : State) (w : IsWellFormed n s) where
   weak_keeps slot content named alone in_use vacant = record {
     shape = shape_again n s _ refl (λ _. refl) refl (λ _. refl) refl refl refl w.shape;
     names = references w.names.fields w.names.registers w.names.statics w.names.targets w.names.secondaries
-        w.names.queue w.names.places
+        w.names.queue w.names.pinned
         (λ q x e. insert_all s.weak slot.0 (λ _ c. (y : WeakEntry Id) → c ≡ Some y → Names s (Some y.key))
         content (λ y is. (named y is).0) (λ k c f y is. w.names.keys k y (f ∙ ap Some is)) q (Some x) e
         x refl)
@@ -365,7 +365,7 @@ module _ (n : Numbers) (s : State) (w : IsWellFormed n s) where
   queue_keeps queue named once = record {
     shape = shape_again n s _ refl (λ _. refl) refl (λ _. refl) refl refl refl w.shape;
     names = references w.names.fields w.names.registers w.names.statics w.names.targets w.names.secondaries
-        named w.names.places w.names.keys w.names.values;
+        named w.names.pinned w.names.keys w.names.values;
     objects = record {
       sizes = w.objects.sizes;
       generations = w.objects.generations;
@@ -377,10 +377,10 @@ module _ (n : Numbers) (s : State) (w : IsWellFormed n s) where
   }
 
   -- an object gets a pinned address
-  pub place_keeps : (id : Id) (p : ℕ) → IsSome (get s.objects id.0) → IsWellFormed n (with_place s id p)
-  place_keeps id p there =
+  pub address_keeps : (id : Id) (p : ℕ) → IsSome (get s.objects id.0) → IsWellFormed n (with_address s id p)
+  address_keeps id p there =
       others_again _ refl refl refl refl refl refl
       (shape_again n s _ refl (λ _. refl) refl (λ _. refl) refl refl refl w.shape)
       (references w.names.fields w.names.registers w.names.statics w.names.targets w.names.secondaries
-      w.names.queue (some_cases s.places id.0 (λ q. IsSome (get s.objects q)) p there w.names.places)
+      w.names.queue (some_cases s.pinned id.0 (λ q. IsSome (get s.objects q)) p there w.names.pinned)
       w.names.keys w.names.values)

@@ -119,8 +119,8 @@ whole_scene n s w = record {
 -- a state with a whole scene, whose pinned addresses are those of objects, references objects
 pub names_of_whole : (s : State) → IsWhole (scene_of s)
     → ((slot : ℕ) → IsSome (get s.weak slot) → get s.handles slot ≡ None)
-    → ((id : ℕ) → IsSome (get s.places id) → IsSome (get s.objects id)) → HasSoundReferences s
-names_of_whole s w apart places = record {
+    → ((id : ℕ) → IsSome (get s.pinned id) → IsSome (get s.objects id)) → HasSoundReferences s
+names_of_whole s w apart pinned = record {
   fields = λ id object is_stored i. if_some_from (λ (x : Id). IsSome (get s.objects x.0)) (field_of object i)
       (λ y e. w.fields (record { 0 = id }) y (field_in s id object i y is_stored e));
   registers = λ c d. if_some_from (λ (x : Id). IsSome (get s.objects x.0)) (register_of s c d)
@@ -133,7 +133,7 @@ names_of_whole s w apart places = record {
       if_some_from (λ (x : Id). IsSome (get s.objects x.0)) (secondary_of h.extra)
       (λ x e. w.secondaries slot h x (handle_row s slot h is_stored) e);
   queue = λ id h. w.queue id h;
-  places = places;
+  pinned = pinned;
   keys = λ slot c is. w.targets slot (weak_handle (Some c)) c.key
       (weak_row s slot (Some c) (apart slot (ap is_some is)) is) refl;
   values = λ slot c is. if_some_from (λ (x : Id). IsSome (get s.objects x.0)) c.value

@@ -10,7 +10,7 @@ abbrev pub class_of : Cmd → Class
 class_of c = (row_of c).class
 
 -- whether a command of the class may take memory: an object is made, a collection moves objects, or a search
--- keeps what it came by
+-- keeps what it found
 abbrev pub class_takes_memory : Class → Bool
 class_takes_memory (class.MakesObject fields) = true
 class_takes_memory (class.TakesSlot make t) = false
@@ -19,7 +19,7 @@ class_takes_memory (class.StoresSecondary h) = false
 class_takes_memory class.Frees = false
 class_takes_memory (class.GivesBack kind) = false
 class_takes_memory (class.Collects n) = true
-class_takes_memory (class.RepliesPlace h) = false
+class_takes_memory (class.RepliesAddress h) = false
 class_takes_memory (class.AddsEntry k v) = false
 class_takes_memory (class.LooksUp k) = false
 class_takes_memory (class.Searches s) = true
@@ -34,7 +34,7 @@ class_collects (class.StoresSecondary h) = false
 class_collects class.Frees = false
 class_collects (class.GivesBack kind) = false
 class_collects (class.Collects n) = true
-class_collects (class.RepliesPlace h) = false
+class_collects (class.RepliesAddress h) = false
 class_collects (class.AddsEntry k v) = false
 class_collects (class.LooksUp k) = false
 class_collects (class.Searches s) = false

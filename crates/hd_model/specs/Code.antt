@@ -117,7 +117,7 @@ state_code =
     code_by Parts parts_code
     (λ s.
     let last : List Id × (FinMap nat_cmp ℕ × (FinMap nat_cmp BlockUse × List ℕ)) =
-    (s.queue, (s.places, (s.blocks, s.serials))) in
+    (s.queue, (s.pinned, (s.blocks, s.serials))) in
     (s.objects, (s.handles, (s.weak, (s.registers, (s.handle_registers, (s.statics, (s.board, last))))))))
     (λ p. record {
       objects = p.0;
@@ -128,7 +128,7 @@ state_code =
       statics = p.1.1.1.1.1.0;
       board = p.1.1.1.1.1.1.0;
       queue = p.1.1.1.1.1.1.1.0;
-      places = p.1.1.1.1.1.1.1.1.0;
+      pinned = p.1.1.1.1.1.1.1.1.0;
       blocks = p.1.1.1.1.1.1.1.1.1.0;
       serials = p.1.1.1.1.1.1.1.1.1.1;
     })
@@ -150,8 +150,8 @@ heap_code =
     code_by (FinMap nat_cmp Placed × (FinMap nat_cmp Region × (List ℕ × (ℕ × set.FinSet nat_cmp))))
     (coded× (map.code coded_ℕ placed_code) (coded× (map.code coded_ℕ region_code)
     (coded× (coded_list coded_ℕ) (coded× coded_ℕ (set.code coded_ℕ)))))
-    (λ h. (h.objects, (h.regions, (h.spare, (h.limit, h.cards)))))
-    (λ p. record { objects = p.0; regions = p.1.0; spare = p.1.1.0; limit = p.1.1.1.0; cards = p.1.1.1.1 })
+    (λ h. (h.objects, (h.regions, (h.free, (h.limit, h.cards)))))
+    (λ p. record { objects = p.0; regions = p.1.0; free = p.1.1.0; limit = p.1.1.1.0; cards = p.1.1.1.1 })
     (λ _. refl)
 
 abbrev pub basis_code : Coded Basis

@@ -10,7 +10,7 @@ use Rattle.hd_model.specs.Counting.{Counts}
 use Rattle.hd_model.specs.Scene.{Scene, scene_of, is_object, IsCondemned}
 use Rattle.hd_model.specs.Ages.{raised}
 use Rattle.hd_model.specs.Reach.{IsReached, IsToBeFinalized, IsKept}
-use Rattle.hd_model.specs.Places.{is_pinned}
+use Rattle.hd_model.specs.PinnedAddresses.{is_pinned}
 
 -- whether a target is outside a set; null is outside none
 abbrev pub is_lost : {N : Type 0} → (N → Bool) → Option N → Bool
@@ -135,7 +135,7 @@ pub record CollectsState (n : ℕ) (s t : State) (report : Report) : Type 0 wher
   pub handles : (slot : ℕ) → get t.handles slot ≡ option_map (cleared scene.reach scene.kept)
       (get s.handles slot)
   pub weak : (slot : ℕ) → get t.weak slot ≡ option_map (swept scene.kept) (get s.weak slot)
-  pub places : (x : ℕ) → get t.places x ≡ cond (is_pinned s.handles x) (get s.places x) None
+  pub pinned : (x : ℕ) → get t.pinned x ≡ cond (is_pinned s.handles x) (get s.pinned x) None
   pub registers : t.registers ≡ s.registers
   pub statics : t.statics ≡ s.statics
   pub handle_registers : t.handle_registers ≡ s.handle_registers

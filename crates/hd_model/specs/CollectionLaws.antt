@@ -10,17 +10,11 @@ use Rattle.hd_model.specs.Role.{Role, short, long, attaches, role}
 use Rattle.hd_model.specs.Scene.{Objects, Rows, Scene, scene_of, is_object, generation_at, IsCondemned, IsWhole, IsReading}
 use Rattle.hd_model.specs.Reach.{IsReached, IsToBeFinalized, IsKept}
 use Rattle.hd_model.specs.InUse.{IsUsed, IsInUse, IsResurrected, IsRescued, IsGarbage}
-use Rattle.hd_model.specs.DueClumps.{HidesNothing}
 use Rattle.hd_model.specs.Counting.{Counts}
 use Rattle.hd_model.specs.Collect.{CollectsState}
 use Rattle.hd_model.specs.Ages.{HasSoundAges, lowered, grown}
 use Rattle.hd_model.specs.Aging.{AgedRun}
 use Rattle.hd_model.specs.WellFormed.{Names, IsWellFormed}
-
--- from a state, a collection leads to at most one state, with one report
-abbrev pub OneCollection : Type 0
-OneCollection =
-    (n : ℕ) (s t u : State) (r q : Report) → CollectsState n s t r → CollectsState n s u q → (t ≡ u) × (r ≡ q)
 
 -- a collection of n leads from a well formed state s to t
 pub record Collected (m : Numbers) (n : ℕ) (s t : State) (r : Report) : Type 0 where
@@ -83,9 +77,6 @@ pub record ReportSays (n : ℕ) (s t : State) (r : Report) : Type 0 where
   pub long : Counts (LosesTarget s t long) r.long
   pub dep : Counts (LosesTarget s t attaches) r.dep
   pub resurrected : length t.queue ≡ length s.queue + r.revived
-
-abbrev pub ReportsAddUp : Type 0
-ReportsAddUp = (m : Numbers) (n : ℕ) (s t : State) (r : Report) → Collected m n s t r → ReportSays n s t r
 
 -- a collection that did nothing but raise generations
 pub record IsIdle (t u : State) (q : Report) : Type 0 where
@@ -242,40 +233,6 @@ GenerationsRiseOnce =
     (m : Numbers) (n : ℕ) (s t : State) (r : Report) (id : ℕ) (old new : Object Id) → Collected m n s t r
     → get s.objects id ≡ Some old → get t.objects id ≡ Some new → RisesOnce n old.generation new.generation
 
--- a weak short handle and a weak long one with one target
-pub record IsWeakPair (s : State) (short_slot long_slot : ℕ) (x : Id) : Type 0 where
-  pub weak_short : Handle Id
-  pub weak_long : Handle Id
-  pub short_is_stored : get s.handles short_slot ≡ Some weak_short
-  pub long_is_stored : get s.handles long_slot ≡ Some weak_long
-  pub short_role : role weak_short ≡ short
-  pub long_role : role weak_long ≡ long
-  pub short_target : weak_short.target ≡ Some x
-  pub long_target : weak_long.target ≡ Some x
-
--- both have one target, or null
-pub record FareAlike (t : State) (short_slot long_slot : ℕ) : Type 0 where
-  pub target : Option Id
-  pub by_short : HasTarget t short_slot target
-  pub by_long : HasTarget t long_slot target
-
--- the short one is null, and the long one has the target
-pub record FareApart (t : State) (short_slot long_slot : ℕ) (x : Id) : Type 0 where
-  pub by_short : HasTarget t short_slot None
-  pub by_long : HasTarget t long_slot (Some x)
-
--- over a collection that resurrects nothing, a short and a long handle keep the same
-abbrev pub WeakHandlesFareAlike : Type 0
-WeakHandlesFareAlike =
-    (m : Numbers) (n : ℕ) (s t : State) (r : Report) (a b : ℕ) (x : Id) → Collected m n s t r
-    → r.revived ≡ 0 → IsWeakPair s a b x → FareAlike t a b
-
--- what is kept for finalization alone stays the target of a long handle, and not of a short one
-abbrev pub FinalizationPartsWeakHandles : Type 0
-FinalizationPartsWeakHandles =
-    (m : Numbers) (n : ℕ) (s t : State) (r : Report) (a b : ℕ) (x : Id) → Collected m n s t r
-    → IsRescued n s x → IsWeakPair s a b x → FareApart t a b x
-
 -- a dependent handle of a state, by its slot, and its target
 pub record IsDependent (s : State) (slot : Slot) (x : Id) : Type 0 where
   pub handle : Handle Id
@@ -311,19 +268,3 @@ DependentsKeepNoTarget =
     (m : Numbers) (n : ℕ) (s t u : State) (r q : Report) (slot : Slot) (x : Id) → Collected m n s t r
     → CollectsState n (without_handle s slot) u q → IsDependent s slot x
     → IsSome (get t.objects x.0) ↔ IsSome (get u.objects x.0)
-
--- ages that are sound hide nothing: a collection of n that visits due clumps alone does what one of all does
-abbrev pub AgesHideNothing : Type 0
-AgesHideNothing =
-    (m : Numbers) (n : ℕ) (s t : State) (r : Report) (ages : List ℕ) → Collected m n s t r
-    → HasSoundAges (scene_of s).object (scene_of s).handle ages → HidesNothing ages n s t
-
--- a collection of n has a state after it and a report
-pub record HasCollection (n : ℕ) (s : State) : Type 0 where
-  pub after : State
-  pub report : Report
-  pub collects : CollectsState n s after report
-
--- no collection is stuck: one leads on from every well formed state, for each n
-abbrev pub CollectionsExist : Type 0
-CollectionsExist = (m : Numbers) (n : ℕ) (s : State) → IsWellFormed m s → HasCollection n s

@@ -11,7 +11,7 @@ use Rattle.hd_model.specs.declared.data.Make.TheVariants as make
 use Rattle.hd_model.specs.declared.data.Refusal.TheVariants as refusal
 use Rattle.hd_model.specs.declared.data.Reply.TheVariants as reply
 use Rattle.hd_model.specs.Kinds.{kind_of, is_kind}
-use Rattle.hd_model.specs.State.{Numbers, Object, Extra, nothing, strength, secondary, count, Handle, WeakEntry, State, secondary_of, count_of, without_secondary, register_of, handle_register_of, static_of, board_of, last_serial, object_by_id, field_of, handle_at, with_weak, total_size, identity_of, with_register, with_handle_register, with_static, with_board, with_object, with_handle, without_handle, with_queue, with_place, with_serial}
+use Rattle.hd_model.specs.State.{Numbers, Object, Extra, nothing, strength, secondary, count, Handle, WeakEntry, State, secondary_of, count_of, without_secondary, register_of, handle_register_of, static_of, board_of, last_serial, object_by_id, field_of, handle_at, with_weak, total_size, identity_of, with_register, with_handle_register, with_static, with_board, with_object, with_handle, without_handle, with_queue, with_address, with_serial}
 use Rattle.hd_model.specs.Role.{pins}
 
 -- the outcome of a command that the state decides: its reply, the slot that it gives or frees, and the state
@@ -30,9 +30,9 @@ abbrev pub refuses : Refusal → State → Outcome
 refuses refusal s = reply_with (reply.Refused refusal) s
 
 -- the reply of a load: the object, or null
-abbrev pub loaded : Option Id → Reply
-loaded None = reply.Nothing
-loaded (Some id) = reply.Object id
+abbrev pub load_reply : Option Id → Reply
+load_reply None = reply.Nothing
+load_reply (Some id) = reply.Object id
 
 -- on the object in register o, which is refused where it is null
 abbrev pub on_object : State → ℕ → ℕ → (Id → Outcome) → Outcome
@@ -86,7 +86,7 @@ set_field s caller o i v =
 abbrev pub get_field : State → ℕ → ℕ → ℕ → ℕ → Outcome
 get_field s caller d o i =
     on_field s caller o i
-    (λ id. let v = field_of (object_by_id s id) i in reply_with (loaded v) (with_register s caller d v))
+    (λ id. let v = field_of (object_by_id s id) i in reply_with (load_reply v) (with_register s caller d v))
 
 -- `val rO n`: the value of rO becomes n
 abbrev pub set_value : State → ℕ → ℕ → ℕ → Outcome
@@ -112,7 +112,7 @@ put_static s caller k r = reply_with reply.Done (with_static s k (register_of s 
 
 -- `sget rD k`: rD gets what static k references
 abbrev pub get_static : State → ℕ → ℕ → ℕ → Outcome
-get_static s caller d k = reply_with (loaded (static_of s k)) (with_register s caller d (static_of s k))
+get_static s caller d k = reply_with (load_reply (static_of s k)) (with_register s caller d (static_of s k))
 
 -- `gen rS`: the generation of rS
 abbrev pub read_generation : State → ℕ → ℕ → Outcome
@@ -139,7 +139,7 @@ take_queued s caller d = take_first s caller d s.queue
 abbrev pub get_target : State → ℕ → ℕ → ℕ → Outcome
 get_target s caller d h =
     on_handle s caller h
-    (λ slot handle. reply_with (loaded handle.target) (with_register s caller d handle.target))
+    (λ slot handle. reply_with (load_reply handle.target) (with_register s caller d handle.target))
 
 -- `hset hS rT`: the target becomes what rT references. A dependent handle may get null alone, and then its
 -- secondary is null too (the setter of .NET's DependentHandle.Target takes null alone).
@@ -163,7 +163,7 @@ set_secondary s caller h r =
 abbrev pub get_secondary : State → ℕ → ℕ → ℕ → Outcome
 get_secondary s caller d h =
     on_handle_of s caller h kind.Dependent (λ slot handle.
-    let v = secondary_of handle.extra in reply_with (loaded v) (with_register s caller d v))
+    let v = secondary_of handle.extra in reply_with (load_reply v) (with_register s caller d v))
 
 -- `hvar hS STRENGTH`: a variable handle gets the strength
 abbrev pub set_strength : State → ℕ → ℕ → Strength → Outcome
@@ -207,11 +207,11 @@ abbrev pub pick_board : State → ℕ → ℕ → ℕ → Outcome
 pick_board s caller d k = reply_with reply.Done (with_handle_register s caller d (board_of s k))
 
 -- `addr hS` with p as the address of the object that the handle pins: it becomes the object's pinned address
-abbrev pub reply_place : State → ℕ → ℕ → ℕ → Outcome
-reply_place s caller h p =
+abbrev pub reply_address : State → ℕ → ℕ → ℕ → Outcome
+reply_address s caller h p =
     on_handle s caller h (λ slot handle.
     if pins handle then (
-    option_map_or (λ id. reply_with (reply.Place p) (with_place s id p)) handle.target
+    option_map_or (λ id. reply_with (reply.Place p) (with_address s id p)) handle.target
     (refuses refusal.Null s))
     else refuses refusal.WrongKind s)
 
@@ -297,8 +297,8 @@ add_entry s caller v slot key =
 abbrev pub find_entry : State → ℕ → ℕ → ℕ → Outcome
 find_entry s caller d k =
     on_object s caller k (λ key.
-    option_map_or (λ slot. reply_with (loaded (value_at s slot)) (with_register s caller d (value_at s slot)))
-    (slot_of_key s key) (reply_with reply.Absent (with_register s caller d None)))
+    option_map_or (λ slot. reply_with (load_reply (value_at s slot)) (with_register s caller d
+    (value_at s slot))) (slot_of_key s key) (reply_with reply.Absent (with_register s caller d None)))
 
 -- `cremove rK`: the entry of rK leaves the table, and its slot is idle (ConditionalWeakTable.Remove)
 abbrev pub remove_entry : State → ℕ → ℕ → Outcome

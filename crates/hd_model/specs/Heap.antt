@@ -28,7 +28,7 @@ pub record Region : Type 0 where
 pub record Heap : Type 0 where
   pub objects : FinMap nat_cmp Placed
   pub regions : FinMap nat_cmp Region
-  pub spare : List ℕ
+  pub free : List ℕ
   pub limit : ℕ
   pub cards : set.FinSet nat_cmp
 

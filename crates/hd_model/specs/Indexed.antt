@@ -10,5 +10,5 @@ numbered i (None ∷ xs) = numbered (i + 1) xs
 numbered i (Some x ∷ xs) = (i, x) ∷ numbered (i + 1) xs
 
 -- the map from indices to the items that are present
-abbrev pub by_place : {A : Type 0} → List (Option A) → FinMap nat_cmp A
-by_place xs = from_entries (numbered 0 xs)
+abbrev pub by_index : {A : Type 0} → List (Option A) → FinMap nat_cmp A
+by_index xs = from_entries (numbered 0 xs)

@@ -8,7 +8,7 @@ use Rattle.hd_model.specs.declared.data.Refusal.TheVariants as refusal
 use Rattle.hd_model.specs.declared.data.Reply.TheVariants as reply
 use Rattle.hd_model.specs.declared.command.Cmd.TheVariants as cmd
 use Rattle.hd_model.specs.State.{Numbers, State, Extra, Handle, strength, secondary_of, register_of, handle_register_of, board_of, handle_at}
-use Rattle.hd_model.specs.Command.{loaded, made_extra}
+use Rattle.hd_model.specs.Command.{load_reply, made_extra}
 use Rattle.hd_model.specs.Touched.{touched_by, Untouched}
 use Rattle.hd_model.specs.Step.{Step}
 use Rattle.hd_model.specs.Run.{Chain, Run, SoloRun, part_of, commands_of}
@@ -150,7 +150,8 @@ FieldIsReadBack =
     (n : Numbers) (old now new : State) (written reading : Entry) (id : Id) (o i v d p : ℕ)
     → Since n (WritesField id i) old written now → written.cmd ≡ cmd.Set o i v → written.reply ≡ reply.Done
     → register_of old written.caller o ≡ Some id → Step n now reading new → reading.cmd ≡ cmd.Get d p i
-    → register_of now reading.caller p ≡ Some id → reading.reply ≡ loaded (register_of old written.caller v)
+    → register_of now reading.caller p ≡ Some id → reading.reply
+    ≡ load_reply (register_of old written.caller v)
 
 -- after a done `val` and entries that do not write the value, `read` returns the number
 abbrev pub ValueIsReadBack : Type 0
@@ -189,7 +190,7 @@ StaticIsReadBack =
     (n : Numbers) (old now new : State) (written reading : Entry) (k r d : ℕ)
     → Since n (WritesStatic k) old written now → written.cmd ≡ cmd.SPut k r
     → Step n now reading new → reading.cmd ≡ cmd.SGet d k
-    → reading.reply ≡ loaded (register_of old written.caller r)
+    → reading.reply ≡ load_reply (register_of old written.caller r)
 
 -- what writes a board index: `hput` there, by whatever caller
 abbrev pub WritesBoard : ℕ → State → Entry → State → Type 0
@@ -287,7 +288,7 @@ TargetIsReadBack =
     (n : Numbers) (old now new : State) (written reading : Entry) (slot : Slot) (v : Option Id) (d h : ℕ)
     → Since n (WritesTarget slot) old written now → GivesTarget old written slot v
     → written.reply ≡ reply.Done → Step n now reading new → reading.cmd ≡ cmd.HGet d h
-    → handle_register_of now reading.caller h ≡ Some slot → reading.reply ≡ loaded v
+    → handle_register_of now reading.caller h ≡ Some slot → reading.reply ≡ load_reply v
 
 -- what writes the secondary of the handle in a slot: `hsec` of it, `hset`, which makes it null, `hfree` of
 -- it, and a collection that clears it
@@ -311,7 +312,7 @@ SecondaryIsReadBack =
     (n : Numbers) (old now new : State) (written reading : Entry) (slot : Slot) (v : Option Id) (d h : ℕ)
     → Since n (WritesSecondary slot) old written now → GivesSecondary old written slot v
     → written.reply ≡ reply.Done → Step n now reading new → reading.cmd ≡ cmd.HDep d h
-    → handle_register_of now reading.caller h ≡ Some slot → reading.reply ≡ loaded v
+    → handle_register_of now reading.caller h ≡ Some slot → reading.reply ≡ load_reply v
 
 -- the handle in a slot has an extra
 abbrev pub HasExtra : State → Slot → Extra Id → Type 0

@@ -13,7 +13,7 @@ pub mod Run
 pub mod Text
 pub mod WellFormed
 pub mod Role
-pub mod Places
+pub mod PinnedAddresses
 pub mod Compact
 pub mod Aging
 pub mod Scene
@@ -26,9 +26,7 @@ pub mod Ages
 pub mod Marking
 pub mod Names
 pub mod InUse
-pub mod DueClumps
 pub mod CollectionLaws
-pub mod CollectionSamples
 pub mod Heap
 pub mod Table
 pub mod Visits
@@ -37,12 +35,10 @@ pub mod Grammar
 pub mod CommandText
 pub mod RootText
 pub mod FullText
-pub mod Judged
+pub mod RunTexts
 pub mod Laws
 pub mod UserLaws
 pub mod WeakLaws
 pub mod WeakEntryLaws
 pub mod AnchorLaws
-pub mod AnchorSamples
-pub mod Constants
 pub mod Generated

@@ -19,11 +19,12 @@ pub record IsPromotionLog {N : Type 0} (o : Objects N) (n : ℕ) (promoted : N �
 
 -- what is kept, and its forwarding address: objects alone, all of an older generation, which do not move, and
 -- no two to one address
-pub record IsKeeping {N : Type 0} (o : Objects N) (n : ℕ) (kept : N → Bool) (place : N → N) : Type 0 where
+pub record IsKeeping {N : Type 0} (o : Objects N) (n : ℕ) (kept : N → Bool)
+    (forwarding : N → N) : Type 0 where
   pub objects : (x : N) → kept x ≡ true → is_object o x ≡ true
   pub older : (x : N) → n < generation_at o x → kept x ≡ true
-  pub in_place : (x : N) → n < generation_at o x → place x ≡ x
-  pub apart : (x y : N) → kept x ≡ true → kept y ≡ true → place x ≡ place y → x ≡ y
+  pub in_place : (x : N) → n < generation_at o x → forwarding x ≡ x
+  pub apart : (x y : N) → kept x ≡ true → kept y ≡ true → forwarding x ≡ forwarding y → x ≡ y
 
 -- q is p with one member more, and no other
 pub record Gains {N : Type 0} (at : N) (p q : N → Bool) : Type 0 where

@@ -46,6 +46,3 @@ count_text count = codes "roots " ++ decimal count ++ newline
 -- the text of a list of roots, and of those of a state
 abbrev pub list_text : List RootId → List ℕ
 list_text roots = flat_map root_text roots ++ count_text (length roots)
-
-abbrev pub roots_text : State → List ℕ
-roots_text s = list_text (roots_of s)

@@ -64,7 +64,7 @@ pub record Touched : Type 0 where
   pub handles : Bool
   pub weak : Bool
   pub queue : Bool
-  pub places : Bool
+  pub pinned : Bool
   pub blocks : Bool
   pub serials : Bool
   -- whether it is one that makes an object, makes a handle or frees one
@@ -88,7 +88,7 @@ none = record {
   handles = false;
   weak = false;
   queue = false;
-  places = false;
+  pinned = false;
   blocks = false;
   serials = false;
   makes_object = false;
@@ -152,7 +152,7 @@ row_of (cmd.Final d) =
     row (codes "final") (object d ∷ []) class.Plain (record none { register = Some d; queue = true })
 row_of (cmd.Collect n) =
     row (codes "collect") (generation n ∷ []) (class.Collects n)
-    (record none { objects = true; handles = true; weak = true; queue = true; places = true })
+    (record none { objects = true; handles = true; weak = true; queue = true; pinned = true })
 row_of (cmd.HNew d make t) =
     row_with (extra_of make) (codes "hnew") (handle d ∷ makes make ∷ object t ∷ []) (class.TakesSlot make t)
     (record none { handle_register = Some d; handles = true; blocks = true; makes_handle = true })
@@ -180,7 +180,8 @@ row_of (cmd.HPick d k) =
     row (codes "hpick") (handle d ∷ index k ∷ []) class.Plain
     (record none { handle_register = Some d; picked = Some k })
 row_of (cmd.AddrOf s) =
-    row (codes "addr") (handle s ∷ []) (class.RepliesPlace s) (record none { handle = Some s; places = true })
+    row (codes "addr") (handle s ∷ []) (class.RepliesAddress s)
+    (record none { handle = Some s; pinned = true })
 row_of (cmd.HUp s) =
     row (codes "hup") (handle s ∷ []) class.Plain (record none { handle = Some s; handles = true })
 row_of (cmd.HDown s) =

@@ -108,7 +108,7 @@ pub record State : Type 0 where
   pub statics : List (Option Id)
   pub board : List (Option Slot)
   pub queue : List Id
-  pub places : FinMap nat_cmp ℕ
+  pub pinned : FinMap nat_cmp ℕ
   pub blocks : FinMap nat_cmp BlockUse
   pub serials : List ℕ
 
@@ -124,7 +124,7 @@ start_of n = record {
   statics = replicate REGISTERS None;
   board = replicate REGISTERS None;
   queue = [];
-  places = empty;
+  pinned = empty;
   blocks = empty;
   serials = replicate n.callers 0;
 }
@@ -250,8 +250,8 @@ without_use s block = record s { blocks = remove s.blocks block }
 abbrev pub with_queue : State → List Id → State
 with_queue s queue = record s { queue = queue }
 
-abbrev pub with_place : State → Id → ℕ → State
-with_place s id p = record s { places = insert s.places id.0 p }
+abbrev pub with_address : State → Id → ℕ → State
+with_address s id p = record s { pinned = insert s.pinned id.0 p }
 
 abbrev pub with_serial : State → ℕ → ℕ → State
 with_serial s caller serial = record s { serials = slice_set s.serials caller serial }

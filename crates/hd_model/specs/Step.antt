@@ -12,10 +12,10 @@ use Rattle.hd_model.specs.Kinds.{kind_of, is_paired}
 use Rattle.hd_model.specs.Valid.{IsValid}
 use Rattle.hd_model.specs.State.{Numbers, Handle, State, handles_of, extra_data, register_of, handle_register_of, last_serial, handle_at, use_of, given_of, first_slot, IsFree, IsAllFree, with_handle_register, with_handle, with_use, without_use}
 use Rattle.hd_model.specs.Role.{pins}
-use Rattle.hd_model.specs.Places.{MayReturn}
+use Rattle.hd_model.specs.PinnedAddresses.{MayReturn}
 use Rattle.hd_model.specs.Anchors.{ReturnsRoot}
 use Rattle.hd_model.specs.Collect.{CollectsState}
-use Rattle.hd_model.specs.Command.{Outcome, reply_with, refuses, made_handle, new_object, set_field, get_field, set_value, read_value, copy_register, clear_register, put_static, get_static, read_generation, set_registered, take_queued, get_target, set_target, set_secondary, get_secondary, set_strength, raise_count, lower_count, free_handle, put_board, pick_board, reply_place, reply_root, Adding, is_refused, in_idle, in_new, adding_of, with_entry, add_entry, find_entry, remove_entry}
+use Rattle.hd_model.specs.Command.{Outcome, reply_with, refuses, made_handle, new_object, set_field, get_field, set_value, read_value, copy_register, clear_register, put_static, get_static, read_generation, set_registered, take_queued, get_target, set_target, set_secondary, get_secondary, set_strength, raise_count, lower_count, free_handle, put_board, pick_board, reply_address, reply_root, Adding, is_refused, in_idle, in_new, adding_of, with_entry, add_entry, find_entry, remove_entry}
 
 -- an entry of a command that the state decides: its reply and slot are those of the outcome, and the blocks
 -- stay
@@ -94,10 +94,10 @@ pinned_target s caller h =
 
 -- `addr` returns an address that it may return for what the handle pins, or is refused
 -- (GCHandle.AddrOfPinnedObject)
-pub record RepliesPlace (old : State) (e : Entry) (new : State) (h : ℕ) : Type 0 where
-  pub place : ℕ
-  pub may : (id : Id) → pinned_target old e.caller h ≡ Some id → MayReturn old id place
-  pub outcome : IsOutcome e (reply_place old e.caller h place) new
+pub record RepliesAddress (old : State) (e : Entry) (new : State) (h : ℕ) : Type 0 where
+  pub address : ℕ
+  pub may : (id : Id) → pinned_target old e.caller h ≡ Some id → MayReturn old id address
+  pub outcome : IsOutcome e (reply_address old e.caller h address) new
 
 -- `collect n` collects the generations up to n, and reports it (GC.Collect)
 pub record DoesCollect (old : State) (e : Entry) (new : State) (n : ℕ) : Type 0 where
@@ -128,7 +128,7 @@ pub data Way : Type 0 where
   makes_object : (d fields : ℕ) (fin : Bool) → Way
   makes_handle : (d : ℕ) (make : Make) (t : ℕ) → Way
   collects : (n : ℕ) → Way
-  replies_place : (h : ℕ) → Way
+  replies_address : (h : ℕ) → Way
   gives_back : (kind : Kind) → Way
   adds_entry : (v : ℕ) (key : Id) → Way
   replies_root : (r : ℕ) → Way
@@ -164,7 +164,7 @@ way_of s caller (cmd.HVar h given) = decided (set_strength s caller h given)
 way_of s caller (cmd.HFree h) = decided (free_handle s caller h)
 way_of s caller (cmd.HPut k h) = decided (put_board s caller k h)
 way_of s caller (cmd.HPick d k) = decided (pick_board s caller d k)
-way_of s caller (cmd.AddrOf h) = replies_place h
+way_of s caller (cmd.AddrOf h) = replies_address h
 way_of s caller (cmd.HUp h) = decided (raise_count s caller h)
 way_of s caller (cmd.HDown h) = decided (lower_count s caller h)
 way_of s caller (cmd.Trim kind) = gives_back kind
@@ -181,7 +181,7 @@ TakesWay n old e new (makes_object d fields fin) =
 TakesWay n old e new (makes_handle d make t) =
     MakesHandle n old e new d make t ⊎ FindsTableFull n old e new (kind_of make)
 TakesWay n old e new (collects k) = DoesCollect old e new k
-TakesWay n old e new (replies_place h) = RepliesPlace old e new h
+TakesWay n old e new (replies_address h) = RepliesAddress old e new h
 TakesWay n old e new (gives_back kind) =
     GivesBack old e new kind ⊎ IsOutcome e (reply_with (reply.Value 0) old) new
 TakesWay n old e new (adds_entry v key) =

@@ -18,6 +18,6 @@ pub record Untouched (by : Touched) (old new : State) : Type 0 where
   pub statics : by.static ≡ None → new.statics ≡ old.statics
   pub board : by.board ≡ None → new.board ≡ old.board
   pub queue : by.queue ≡ false → new.queue ≡ old.queue
-  pub places : by.places ≡ false → new.places ≡ old.places
+  pub pinned : by.pinned ≡ false → new.pinned ≡ old.pinned
   pub blocks : by.blocks ≡ false → new.blocks ≡ old.blocks
   pub serials : by.serials ≡ false → new.serials ≡ old.serials

@@ -37,6 +37,6 @@ abbrev pub IsValid : Cmd → Type 0
 IsValid c = AreInRange (row_of c).operands
 
 -- the commands that may take memory: an object is made, a collection moves objects, or a search keeps what it
--- came by
+-- found
 abbrev pub takes_memory : Cmd → Bool
 takes_memory c = class_takes_memory (class_of c)

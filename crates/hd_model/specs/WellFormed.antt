@@ -33,7 +33,7 @@ pub record HasSoundReferences (s : State) : Type 0 where
   pub secondaries :
       (slot : ℕ) (handle : Handle Id) → get s.handles slot ≡ Some handle → Names s (secondary_of handle.extra)
   pub queue : (id : Id) → Contains s.queue id → Names s (Some id)
-  pub places : (id : ℕ) → IsSome (get s.places id) → IsSome (get s.objects id)
+  pub pinned : (id : ℕ) → IsSome (get s.pinned id) → IsSome (get s.objects id)
   pub keys : (slot : ℕ) (e : WeakEntry Id) → get s.weak slot ≡ Some (Some e) → Names s (Some e.key)
   pub values : (slot : ℕ) (e : WeakEntry Id) → get s.weak slot ≡ Some (Some e) → Names s e.value
 

@@ -18,7 +18,7 @@ pub enum Class {
     /// It collects a generation and all younger ones.
     Collects(u8),
     /// It returns the address of what the handle in `h` pins.
-    RepliesPlace { h: u8 },
+    RepliesAddress { h: u8 },
     /// It adds an entry to the weak table, with the key in object register `k` and the value in
     /// `v`. Where no slot of the table is idle, it takes one as a dependent handle does.
     AddsEntry { k: u8, v: u8 },

@@ -90,7 +90,7 @@ impl Cmd {
             Cmd::HFree { .. } => Class::Frees,
             Cmd::Trim { kind } => Class::GivesBack(kind),
             Cmd::Collect { n } => Class::Collects(n),
-            Cmd::AddrOf { s } => Class::RepliesPlace { h: s },
+            Cmd::AddrOf { s } => Class::RepliesAddress { h: s },
             Cmd::CAdd { k, v } => Class::AddsEntry { k, v },
             Cmd::CFind { k, .. } | Cmd::CRemove { k } => Class::LooksUp { k },
             Cmd::GcRoot { s } => Class::Searches { s },

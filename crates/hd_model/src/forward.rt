@@ -18,15 +18,15 @@ pub trait Forward {
     ghost kept: { Self → Addr → Bool };
 
     /// The forwarding address of a kept object. One of an older generation does not move.
-    ghost place: { Self → Addr → Addr };
+    ghost forwarding: { Self → Addr → Addr };
 
     /// The forwarding address of a kept object.
     fn moved(&self, at: Addr) -> Addr
         requires laid { laid self.now }
         requires kept { kept self.now at ≡ true }
-        ensures { result ≡ place self.now at };
+        ensures { result ≡ forwarding self.now at };
 
     /// Only objects are kept, all older ones are and do not move, and no two get one address.
     ghost keeps: { (f : Self) → laid f →
-        IsKeeping (objects_of (basis f)) (basis f).condemned (kept f) (place f) };
+        IsKeeping (objects_of (basis f)) (basis f).condemned (kept f) (forwarding f) };
 }

@@ -127,8 +127,8 @@ fn pairs<R: Threads + Wait + Sync>(
     Ok(churn_all(rt, &custody, seat, plan, callers.saturating_sub(1)))
 }
 
-fn number(words: &[String], place: usize) -> Option<u32> {
-    words.get(place)?.parse::<u32>().ok()
+fn number(words: &[String], index: usize) -> Option<u32> {
+    words.get(index)?.parse::<u32>().ok()
 }
 
 fn main(rt: HostRuntime) -> ExitCode {

@@ -1,14 +1,9 @@
 -- Lines of chains and texts of objects, one more at the end.
-use Rattle.std.proofs.Common.{List, Option, Some, [], append-nil, append_assoc, ap, get_or, inl, refl, subst, sym, ℕ, ◌++◌, ◌∙◌, ◌∷◌, ◌≡◌}
-use Rattle.std.proofs.lemmas.Option.{get_or_from_slice_get}
+use Rattle.std.proofs.Common.{List, [], append-nil, append_assoc, ap, refl, subst, sym, ℕ, ◌++◌, ◌∙◌, ◌∷◌, ◌≡◌}
 use Rattle.hd_model.specs.declared.data.Id.{Id}
 use Rattle.hd_model.specs.State.{State}
 use Rattle.hd_path.specs.Lines.{AreLines, last, more}
-use Rattle.hd_seen.specs.declared.SeenObject.{SeenObject}
-use Rattle.hd_path.specs.Names.{LinksToNone, NoPlace}
-use Rattle.hd_path.specs.Searches.{IsStepLine}
-use Rattle.hd_path.specs.declared.links.Link.{Link}
-use Rattle.hd_path.specs.Paths.{ArePathTexts, IsPathText, WritesPath, WritesPaths}
+use Rattle.hd_path.specs.{Paths.ArePathTexts, Paths.IsPathText, Paths.WritesPaths, Inside.WritesPath}
 
 -- the last node of a chain
 abbrev pub last_of : ℕ → List ℕ → ℕ
@@ -67,21 +62,6 @@ paths_more s xs start text after x all same so_far one = (
   subst (λ ys. ArePathTexts s ys (so_far.0 ++ one.0)) (sym same)
       (texts_push s xs so_far.0 x one.0 so_far.2 one.2),
 )
-
--- the line of a step where nothing leads on
-pub step_none : (objects : List SeenObject) (links : List Link) (x y : ℕ) (a b : SeenObject)
-    (fields : List (Option Id)) → a ≡ get_or objects x a → b ≡ get_or objects y b → fields ≡ a.fields.items
-    → NoPlace fields b.id × LinksToNone links a.id (Some b.id) → IsStepLine objects links x y []
-step_none objects links x y a b fields first second are none o p at_o at_p =
-    let from : a ≡ o = first ∙ get_or_from_slice_get objects x o a at_o in
-    let to : b ≡ p = second ∙ get_or_from_slice_get objects y p b at_p in
-    inl (
-      subst (λ (q : SeenObject). NoPlace o.fields.items q.id) to
-          (subst (λ (q : SeenObject). NoPlace q.fields.items b.id) from
-          (subst (λ (l : List (Option Id)). NoPlace l b.id) are none.0)),
-      subst (λ (q : SeenObject). LinksToNone links o.id (Some q.id)) to
-          (subst (λ (q : SeenObject). LinksToNone links q.id (Some b.id)) from none.1),
-    )
 
 -- three texts one after another
 pub three_texts : (start a b c one two three : List ℕ) → one ≡ start ++ a → two ≡ one ++ b → three ≡ two ++ c

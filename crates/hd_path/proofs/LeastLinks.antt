@@ -1,24 +1,17 @@
--- The first place that references an object, and the least link that does what is asked.
-use Rattle.std.proofs.Common.{Bool, Contains, List, None, Option, Some, [], ap, arith, cond, eq-eqb, eqb-true, false, leb, length, refl, slice_index_or, subst, sym, true, ℕ, ⊎_elim, ◌++◌, ◌+◌, ◌<◌, ◌∙◌, ◌∷◌, ◌≡◌, ◌≤◌}
+-- The first field or static that references an object, and the least link that does what is asked.
+use Rattle.std.proofs.Common.{Bool, Contains, List, None, Option, Some, [], ap, arith, cond, false, leb, length, refl, slice_index_or, subst, sym, true, ℕ, ⊎_elim, ◌++◌, ◌+◌, ◌<◌, ◌∙◌, ◌∷◌, ◌≡◌, ◌≤◌}
 use Rattle.std.proofs.lemmas.Bool.{and_from, and_parts, cases_lt, false≢true, leb-false, leb-true}
 use Rattle.std.proofs.lemmas.List.{get_or_past}
 use Rattle.std.proofs.lemmas.List.Elements.{Contains-append_cases, Contains-append_left, Contains-append_right}
-use Rattle.std.proofs.lemmas.Option.{none-some, same_Some}
+use Rattle.std.proofs.lemmas.Option.{none-some}
 use Rattle.hd_model.proofs.Members.{first_in, member_cases, not_in_none}
 use Rattle.hd_model.specs.declared.data.Id.{Id}
-use Rattle.hd_path.specs.declared.links.Link.{Link}
-use Rattle.hd_path.specs.Names.{IsAt, IsLeastLink, LeastOf, LinksTo, NoPlace, is_at, links_to, lower_link, lowest}
+use Rattle.hd_links.specs.declared.links.Link.{Link}
+use Rattle.hd_links.specs.Links.{LinksTo, is_at}
+use Rattle.hd_links.proofs.GraphTargets.{at_from, at_of}
+use Rattle.hd_path.specs.Inside.{IsAt, IsLeastLink, LeastOf, NoIndex, links_to, lower_link, lowest}
 
 -- the tests say what they are to say
-pub at_from : (o : Option Id) (x : Id) → is_at o x ≡ true → o ≡ Some x
-at_from None x h = absurd (false≢true h)
-at_from (Some y) x h =
-    let same : y.0 ≡ x.0 = eqb-true y.0 x.0 h in λ i. Some (record { 0 = same i })
-
-pub at_of : (o : Option Id) (x : Id) → o ≡ Some x → is_at o x ≡ true
-at_of None x h = absurd (none-some x h)
-at_of (Some y) x h = eq-eqb y.0 x.0 (ap (λ (z : Id). z.0) (same_Some y x h))
-
 pub links_from : (l : Link) (x : Id) (to : Option Id) → links_to l x to ≡ true → LinksTo l x to
 links_from l x None h = at_from l.held x h
 links_from l x (Some y) h =
@@ -30,21 +23,21 @@ links_of l x None h = at_of l.held x h
 links_of l x (Some y) h =
     and_from (is_at l.source x) (is_at l.attached y) (at_of l.source x h.0) (at_of l.attached y h.1)
 
--- places that were looked at
-pub none_more : (places : List (Option Id)) (x : Id) (i : ℕ) → ((k : ℕ) → k < i → IsAt places x k → ⊥)
-    → is_at (slice_index_or places i None) x ≡ false → (k : ℕ) → k < i + 1 → IsAt places x k → ⊥
-none_more places x i none here k low at =
+-- fields or statics that were looked at
+pub none_more : (targets : List (Option Id)) (x : Id) (i : ℕ) → ((k : ℕ) → k < i → IsAt targets x k → ⊥)
+    → is_at (slice_index_or targets i None) x ≡ false → (k : ℕ) → k < i + 1 → IsAt targets x k → ⊥
+none_more targets x i none here k low at =
     ⊎_elim (λ less. none k less at)
     (λ ge.
     let same : k ≡ i = omega (arith, ge, low) in
-    false≢true (sym here ∙ at_of (slice_index_or places i None) x
-    (subst (λ j. slice_index_or places j None ≡ Some x) same at))) (cases_lt k i)
+    false≢true (sym here ∙ at_of (slice_index_or targets i None) x
+    (subst (λ j. slice_index_or targets j None ≡ Some x) same at))) (cases_lt k i)
 
-pub none_all : (places : List (Option Id)) (x : Id) (i : ℕ) → length places ≤ i
-    → ((k : ℕ) → k < i → IsAt places x k → ⊥) → NoPlace places x
-none_all places x i end none k at =
+pub none_all : (targets : List (Option Id)) (x : Id) (i : ℕ) → length targets ≤ i
+    → ((k : ℕ) → k < i → IsAt targets x k → ⊥) → NoIndex targets x
+none_all targets x i end none k at =
     ⊎_elim (λ less. none k less at)
-    (λ ge. none-some x (sym (get_or_past places k None (omega (arith, ge, end))) ∙ at)) (cases_lt k i)
+    (λ ge. none-some x (sym (get_or_past targets k None (omega (arith, ge, end))) ∙ at)) (cases_lt k i)
 
 -- one link more
 module _ (links : List Link) (l : Link) (x : Id) (to : Option Id) where
@@ -116,5 +109,3 @@ module _ (links : List Link) (l : Link) (x : Id) (to : Option Id) where
 
 pub least_none : (x : Id) (to : Option Id) → LeastOf [] x to None
 least_none x to m has does = not_in_none m has
-
--- the edge of a link is by its slot, a handle or an entry

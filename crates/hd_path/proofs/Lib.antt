@@ -1,15 +1,9 @@
-pub mod NodeIndex
 pub mod LeastLinks
 pub mod GraphChains
-pub mod NumberedChains
-pub mod SeenLinks
+pub mod ChainEdges
 pub mod ChainLines
-pub mod SeenStates
-pub mod FlatMembers
-pub mod StateGraphs
 pub mod SourceLinks
 pub mod StateNames
 pub mod StatePaths
-pub mod SearchParts
 pub mod RootPaths
 pub mod IdWords

@@ -6,7 +6,8 @@ use Rattle.hd_model.specs.declared.data.Id.{Id}
 use Rattle.hd_model.specs.State.{State}
 use Rattle.hd_path.specs.Chains.{IsLeastChain, IsNoGreater, less, same}
 use Rattle.hd_path.specs.PathLaws.{ChainsBeginAtRoots, NoChainIsUnrooted}
-use Rattle.hd_path.specs.Paths.{BeginsAt, LeadsBy, named}
+use Rattle.hd_links.specs.Graph.{named}
+use Rattle.hd_path.specs.Paths.{BeginsAt, LeadsBy}
 use Rattle.hd_walk.proofs.NamedChains.{leads_walk, unrooted_of, walk_leads}
 
 module _ (s : State) where

@@ -1,11 +1,6 @@
 pub mod Chains
-pub mod Nodes
-pub mod Links
-pub mod Names
-pub mod Sources
-pub mod Graphs
 pub mod Lines
 pub mod Paths
-pub mod Searches
 pub mod PathLaws
 pub mod Words
+pub mod Inside

@@ -5,7 +5,8 @@ use Rattle.hd_model.specs.declared.data.Reply.{Reply}
 use Rattle.hd_model.specs.declared.data.Reply.TheVariants as reply
 use Rattle.hd_model.specs.State.{State}
 use Rattle.hd_path.specs.Chains.{HasNoChain, IsLeastChain}
-use Rattle.hd_path.specs.Paths.{BeginsAt, LeadsBy, named}
+use Rattle.hd_links.specs.Graph.{named}
+use Rattle.hd_path.specs.Paths.{BeginsAt, LeadsBy}
 
 -- the chain that is written begins at the anchor that `gcroot` returns, and has as many edges
 abbrev pub ChainsBeginAtRoots : Type 0

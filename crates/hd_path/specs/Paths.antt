@@ -5,12 +5,9 @@ use Rattle.hd_model.specs.declared.data.Id.{Id}
 use Rattle.hd_model.specs.declared.data.Kind.{Kind}
 use Rattle.hd_model.specs.declared.data.Slot.{Slot}
 use Rattle.hd_model.specs.Anchors.{EdgeOf, AnchorOf}
-use Rattle.hd_model.specs.Heap.{Heap}
-use Rattle.hd_model.specs.Role.{holds, attaches, role}
-use Rattle.hd_model.specs.State.{Numbers, State, Handle, row_of, secondary_of, static_of, field_of, object_by_id, last_serial}
-use Rattle.hd_model.specs.Table.{Table}
-use Rattle.hd_model.specs.WellFormed.{IsWellFormed}
-use Rattle.hd_seen.specs.Seen.{Picture, picture}
+use Rattle.hd_model.specs.State.{State, static_of, field_of, object_by_id, last_serial}
+use Rattle.hd_links.specs.Graph.{named}
+use Rattle.hd_links.specs.Shown.{AttachesIn, HoldsIn}
 use Rattle.hd_path.specs.Chains.{HasNoChain, IsLeastChain}
 use Rattle.hd_path.specs.Lines.{AreLines, anchor_line, edge_line, path_line}
 use Rattle.hd_path.specs.declared.names.Anchor.{Anchor}
@@ -18,39 +15,12 @@ use Rattle.hd_path.specs.declared.names.Anchor.TheVariants as anchor
 use Rattle.hd_path.specs.declared.names.Edge.{Edge}
 use Rattle.hd_path.specs.declared.names.Edge.TheVariants as edge
 
--- a picture is that of a state which a run may reach
-pub record IsPictureOf (p : Picture) (s : State) : Type 0 where
-  pub numbers : Numbers
-  pub ages : List ℕ
-  pub heap : Heap
-  pub table : Table
-  pub well_formed : IsWellFormed numbers s
-  pub shows : p ≡ picture numbers s ages heap table
-
 -- the edges and the anchors of `gcroot`, where an object stands for the number of its identity
-abbrev pub named : ℕ → Id
-named x = record { 0 = x }
-
 abbrev pub LeadsBy : State → ℕ → ℕ → Type 0
 LeadsBy s x y = EdgeOf s (named x) (named y)
 
 abbrev pub BeginsAt : State → ℕ → Type 0
 BeginsAt s x = AnchorOf s (named x)
-
--- a handle in a slot holds an object, and the row of a slot attaches an object to another
-pub record HoldsIn (s : State) (slot : ℕ) (kind : Kind) (x : Id) : Type 0 where
-  pub handle : Handle Id
-  pub is_stored : row_of s slot ≡ Some handle
-  pub kind_is : handle.kind ≡ kind
-  pub holds_it : role handle ≡ holds
-  pub target : handle.target ≡ Some x
-
-pub record AttachesIn (s : State) (slot : ℕ) (x y : Id) : Type 0 where
-  pub handle : Handle Id
-  pub is_stored : row_of s slot ≡ Some handle
-  pub attaches_it : role handle ≡ attaches
-  pub target : handle.target ≡ Some x
-  pub secondary : secondary_of handle.extra ≡ Some y
 
 abbrev pub InNoStatic : State → Id → Type 0
 InNoStatic s x = (k : ℕ) → static_of s k ≡ Some x → ⊥
@@ -108,10 +78,6 @@ pub data ArePathTexts (s : State) : List Id → List ℕ → Type 0 where
   none : ArePathTexts s [] []
   more : {x : Id} {xs : List Id} {one rest : List ℕ} → IsPathText s x one → ArePathTexts s xs rest
       → ArePathTexts s (x ∷ xs) (one ++ rest)
-
--- such a text is appended
-abbrev pub WritesPath : State → Id → List ℕ → List ℕ → Type 0
-WritesPath s x old new = (made : List ℕ) × (new ≡ old ++ made) × IsPathText s x made
 
 abbrev pub WritesPaths : State → List Id → List ℕ → List ℕ → Type 0
 WritesPaths s xs old new = (made : List ℕ) × (new ≡ old ++ made) × ArePathTexts s xs made

@@ -2,13 +2,9 @@
 #![tactic(auto)]
 
 mod chains;
-mod edges;
 mod laws;
-mod links;
 mod names;
-mod nodes;
 mod paths;
-mod sources;
 mod text;
 mod words;
 

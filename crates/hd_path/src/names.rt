@@ -1,12 +1,11 @@
 // What makes an object an anchor, and by what it leads to another.
 ghost use Rattle.std.specs.Prelude.{◌≡◌, MatchOption, Some};
 ghost use Rattle.std.specs.List.Sorted.{IsNonDecreasingBy};
-ghost use Rattle.hd_path.specs.Names.{AnchorIn, EdgeIn, IsFirstPlace, LeastOf, LinksToNone};
-ghost use Rattle.hd_path.specs.Names.{NoPlace, is_at, link_edge, links_to, lower_link};
-ghost use Rattle.hd_path.specs.Sources.{source_number};
+ghost use Rattle.hd_path.specs.Inside.{AnchorIn, EdgeIn, IsFirstIndex, LeastOf, LinksToNone};
+ghost use Rattle.hd_path.specs.Inside.{NoIndex, link_edge, links_to, lower_link};
+ghost use Rattle.hd_links.specs.Sources.{source_number};
 
-use crate::links::Link;
-use crate::sources::links_from;
+use hd_links::{Link, is, links_from};
 use hd_model::{Id, Kind, Slot};
 
 /// What makes an object an anchor.
@@ -29,7 +28,7 @@ pub(crate) enum Edge {
 pub(crate) fn anchor_of(statics: &[Option<Id>], links: &[Link], id: Id) -> Anchor
     ensures { AnchorIn statics.now links.now id result }
 {
-    if let Some(k) = first_place(statics, id) {
+    if let Some(k) = first_index(statics, id) {
         return Anchor::Static(k);
     }
     match least_link(links, id, None) {
@@ -42,10 +41,10 @@ pub(crate) fn anchor_of(statics: &[Option<Id>], links: &[Link], id: Id) -> Ancho
 /// links are in the order of their sources.
 pub(crate) fn edge_of(fields: &[Option<Id>], links: &[Link], from: Id, to: Id) -> Option<Edge>
     requires { IsNonDecreasingBy source_number links.now }
-    ensures { MatchOption result (NoPlace fields.now to × LinksToNone links.now from (Some to))
+    ensures { MatchOption result (NoIndex fields.now to × LinksToNone links.now from (Some to))
         (EdgeIn fields.now links.now from to) }
 {
-    if let Some(i) = first_place(fields, to) {
+    if let Some(i) = first_index(fields, to) {
         return Some(Edge::Field(i));
     }
     match least_from(links, from, to) {
@@ -73,26 +72,16 @@ fn by_link(link: Link) -> Edge
     }
 }
 
-// The first place that references an object.
-fn first_place(places: &[Option<Id>], id: Id) -> Option<usize>
-    ensures { MatchOption result (NoPlace places.now id) (IsFirstPlace places.now id) }
+// The first field or static that references an object.
+fn first_index(targets: &[Option<Id>], id: Id) -> Option<usize>
+    ensures { MatchOption result (NoIndex targets.now id) (IsFirstIndex targets.now id) }
 {
-    for i in 0..places.len() {
-        if is(places[i], id) {
+    for i in 0..targets.len() {
+        if is(targets[i], id) {
             return Some(i);
         }
     }
     None
-}
-
-// Whether a place references an object.
-fn is(place: Option<Id>, id: Id) -> bool
-    ensures { result ≡ is_at place id }
-{
-    match place {
-        Some(other) => other.0 == id.0,
-        None => false,
-    }
 }
 
 // The link of least slot that holds an object, or that attaches one to it.

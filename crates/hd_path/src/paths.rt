@@ -1,25 +1,23 @@
 // Why objects live: for each a chain from an anchor, with all that is on it.
-ghost use Rattle.std.specs.Prelude.{◌≡◌, ℕ, ◌<◌, ◌++◌, All, List, codes, length, IfOk, map};
+ghost use Rattle.std.specs.Prelude.{◌≡◌, ◌++◌, is_some, true, IfOk};
 ghost use Rattle.std.specs.List.Sorted.{IsNonDecreasingBy};
 ghost use Rattle.hd_model.specs.State.{State};
 ghost use Rattle.hd_seen.specs.Seen.{view_seen};
+ghost use Rattle.hd_links.specs.Graph.{object_at};
+ghost use Rattle.hd_links.specs.Shown.{IsPictureOf};
+ghost use Rattle.hd_links.specs.Sources.{source_number};
 ghost use Rattle.hd_path.specs.Lines.{path_line};
-ghost use Rattle.hd_path.specs.Paths.{IsPictureOf, WritesPath, WritesPaths};
-ghost use Rattle.hd_path.specs.Searches.{IsSearchOf, WritesChain, WritesEdge, WritesEdges};
-ghost use Rattle.hd_path.specs.Searches.{ids_in, made_in, missing_word};
-ghost use Rattle.hd_path.specs.Sources.{source_number};
+ghost use Rattle.hd_path.specs.{Inside.WritesPath, Paths.WritesPaths};
+ghost use Rattle.hd_path.specs.Inside.{IsSearchOf, WritesChain, WritesEdge, WritesEdges};
+ghost use Rattle.hd_path.specs.Inside.{made_in, missing_word};
 
-use crate::chains::{Chain, Graph, chain_to, graph_of};
-use crate::edges::{edges_of, starts_of};
-use crate::links::{Link, links_of};
+use crate::chains::{Chain, Search, chain_to, search_of};
 use crate::names::{anchor_of, edge_of};
-use crate::nodes::{index_of, node_at};
-use crate::sources::sort;
 use crate::text::{push_anchor, push_edge, push_length, push_outcome};
+use hd_links::{Graph, fields_at, has};
 use hd_model::{Id, Memory};
-use hd_seen::{SeenObject, Snapshot};
+use hd_seen::Snapshot;
 use std::alloc::{AllocError, Global};
-use std::collections::HashMap;
 
 /// Appends for each object the least of the shortest chains to it, by identities, first to last; or
 /// that none leads to it, that it is gone, or that it was never made. Where memory runs out, the
@@ -56,56 +54,40 @@ fn push_all(
     Ok(())
 }
 
-/// What is looked up for each object.
-#[derive(Drop)]
-pub(crate) struct Search {
-    pub(crate) index: HashMap<u64, u64>,
-    pub(crate) links: Vec<Link>,
-    pub(crate) graph: Graph,
-}
-
-// What is looked up of a snapshot.
-fn search_of(alloc: Global, seen: &Snapshot) -> Result<Search, AllocError>
-    ensures { IfOk result (IsSearchOf seen.now) }
-{
-    let ids = ids_of(alloc, &seen.objects)?;
-    let index = index_of(alloc, &ids)?;
-    let mut links = links_of(alloc, &seen.handles, &seen.entries)?;
-    let edges = edges_of(alloc, &index, &seen.objects, &links)?;
-    let starts = starts_of(alloc, &index, &seen.statics, &seen.queue, &links)?;
-    let graph = graph_of(alloc, ids.len() as u64, edges, starts)?;
-    sort(&mut links);
-    Ok(Search {
-        index,
-        links,
-        graph,
-    })
-}
-
-// The identities of objects.
-fn ids_of(alloc: Global, objects: &[SeenObject]) -> Result<Vec<u64>, AllocError>
-    ensures { IfOk result (λ ids. ids.items ≡ ids_in objects.now) }
-{
-    objects.iter().map(|object| object.id.0).collect(alloc)
-}
-
 // Appends what is found of an object.
 fn push_path(
     alloc: Global,
     text: &mut Vec<u8>,
     seen: &Snapshot,
-    search: &Search,
+    search: &Search<'_>,
     id: Id,
 ) -> Result<(), AllocError>
     requires { IsSearchOf seen.now search.now }
     ensures { IfOk result (λ _. (s : State) → IsPictureOf (view_seen seen.now) s
         → WritesPath s id text.old.items text.new.items) }
 {
-    let Some(node) = node_at(&search.index, Some(id)) else {
-        return push_missing(text, &seen.serials, id);
-    };
-    match chain_to(alloc, &search.graph, node)? {
-        Some(chain) => push_chain(text, seen, &search.links, id, &chain),
+    if has(&search.graph, id.0) {
+        push_found(alloc, text, seen, search, id)
+    } else {
+        push_missing(text, &seen.serials, id)
+    }
+}
+
+// Appends the chain to an object that is there, or that there is none.
+fn push_found(
+    alloc: Global,
+    text: &mut Vec<u8>,
+    seen: &Snapshot,
+    search: &Search<'_>,
+    id: Id,
+) -> Result<(), AllocError>
+    requires search { IsSearchOf seen.now search.now }
+    requires there { is_some (object_at search.now.graph id.0) ≡ true }
+    ensures { IfOk result (λ _. (s : State) → IsPictureOf (view_seen seen.now) s
+        → WritesPath s id text.old.items text.new.items) }
+{
+    match chain_to(alloc, search, id.0)? {
+        Some(chain) => push_chain(text, seen, &search.graph, id, &chain),
         None => push_outcome(text, id, "unrooted"),
     }
 }
@@ -138,64 +120,42 @@ fn was_made(serials: &[u32], id: Id) -> bool
 fn push_chain(
     text: &mut Vec<u8>,
     seen: &Snapshot,
-    links: &[Link],
+    graph: &Graph<'_>,
     id: Id,
     chain: &Chain,
 ) -> Result<(), AllocError>
-    requires first { chain.now.first < length seen.now.objects.items }
-    requires rest { All (λ x. x < length seen.now.objects.items) chain.now.rest.items }
-    requires links { IsNonDecreasingBy source_number links.now }
-    ensures { IfOk result (λ _. WritesChain seen.now links.now id chain.now text.old.items
+    requires { IsNonDecreasingBy source_number graph.now.attaching.items }
+    ensures { IfOk result (λ _. WritesChain seen.now graph.now id chain.now text.old.items
         text.new.items) }
 {
     push_length(text, id, chain.rest.len())?;
-    let first = seen.objects[chain.first as usize].id;
-    push_anchor(text, anchor_of(&seen.statics, links, first), first)?;
-    push_edges(text, &seen.objects, links, chain)
+    let first = Id(chain.first);
+    push_anchor(text, anchor_of(&seen.statics, &graph.links, first), first)?;
+    push_edges(text, graph, chain)
 }
 
 // Appends the edges of a chain.
-fn push_edges(
-    text: &mut Vec<u8>,
-    objects: &[SeenObject],
-    links: &[Link],
-    chain: &Chain,
-) -> Result<(), AllocError>
-    requires first { chain.now.first < length objects.now }
-    requires rest { All (λ x. x < length objects.now) chain.now.rest.items }
-    requires links { IsNonDecreasingBy source_number links.now }
-    ensures { IfOk result (λ _. WritesEdges objects.now links.now chain.now.first
-        chain.now.rest.items text.old.items text.new.items) }
+fn push_edges(text: &mut Vec<u8>, graph: &Graph<'_>, chain: &Chain) -> Result<(), AllocError>
+    requires { IsNonDecreasingBy source_number graph.now.attaching.items }
+    ensures { IfOk result (λ _. WritesEdges graph.now chain.now.first chain.now.rest.items
+        text.old.items text.new.items) }
 {
     let mut from = chain.first;
     let rest = chain.rest.as_slice();
     for i in 0..rest.len() {
-        push_step(text, objects, links, from, rest[i])?;
+        push_step(text, graph, from, rest[i])?;
         from = rest[i];
     }
     Ok(())
 }
 
 // Appends an edge.
-fn push_step(
-    text: &mut Vec<u8>,
-    objects: &[SeenObject],
-    links: &[Link],
-    from: u64,
-    to: u64,
-) -> Result<(), AllocError>
-    requires from { from < length objects.now }
-    requires to { to < length objects.now }
-    requires links { IsNonDecreasingBy source_number links.now }
-    ensures { IfOk result (λ _. WritesEdge objects.now links.now from to text.old.items
-        text.new.items) }
+fn push_step(text: &mut Vec<u8>, graph: &Graph<'_>, from: u64, to: u64) -> Result<(), AllocError>
+    requires { IsNonDecreasingBy source_number graph.now.attaching.items }
+    ensures { IfOk result (λ _. WritesEdge graph.now from to text.old.items text.new.items) }
 {
-    let from = from as usize;
-    let to = to as usize;
-    let source = &objects[from];
-    let target = objects[to].id;
-    match edge_of(&source.fields, links, source.id, target) {
-        Some(edge) => push_edge(text, source.id, edge, target),
+    match edge_of(fields_at(graph, from), &graph.attaching, Id(from), Id(to)) {
+        Some(edge) => push_edge(text, Id(from), edge, Id(to)),
         None => Ok(()),
     }
 }

@@ -139,9 +139,9 @@ IsBefore None b = Unit {0}
 IsBefore (Some a) b = b.0 < a.0
 
 -- no object of a card that is before an address has a field to a younger one
-pub record AreUnneeding (h : Heap) (card : ℕ) (place : Option Addr) : Type 0 where
-  pub here : (a : Addr) → place ≡ Some a → starts_in h card a ≡ true
-  pub before : (b : Addr) → starts_in h card b ≡ true → IsBefore place b → NamesYounger h b → ⊥
+pub record AreUnneeding (h : Heap) (card : ℕ) (forwarding : Option Addr) : Type 0 where
+  pub here : (a : Addr) → forwarding ≡ Some a → starts_in h card a ≡ true
+  pub before : (b : Addr) → starts_in h card b ≡ true → IsBefore forwarding b → NamesYounger h b → ⊥
 
 pub unneeding_starts : (h : Heap) (first : Addr) → has_object h first ≡ true
     → ((b : Addr) → starts_in h (card_of first) b ≡ true → first.0 ≤ b.0)
@@ -152,8 +152,8 @@ unneeding_starts h first is least = record {
   before = λ b starts low needs. (let high = least b starts in absurd (omega arith));
 }
 
-module _ {h : Heap} {card : ℕ} {place : Option Addr} (r : AreUnneeding h card place) (at : Addr)
-    (is : place ≡ Some at) where
+module _ {h : Heap} {card : ℕ} {forwarding : Option Addr} (r : AreUnneeding h card forwarding) (at : Addr)
+    (is : forwarding ≡ Some at) where
   pub unneeding_object : has_object h at ≡ true
   unneeding_object = (starts_parts h card at (r.here at is)).0
 
@@ -194,7 +194,7 @@ module _ {h : Heap} {card : ℕ} {place : Option Addr} (r : AreUnneeding h card 
 
   -- the addresses left are fewer
   pub unneeding_less : (next : Option Addr) → IsSound h → IsWalk (starts_in h (card_of at)) (Some at) next
-      → left_from next < left_from place
+      → left_from next < left_from forwarding
   unneeding_less next sound walk = subst (λ o. left_from next < left_from o) (sym is) (by next walk)
     where
       by : (o : Option Addr) → IsWalk (starts_in h (card_of at)) (Some at) o
@@ -254,7 +254,7 @@ module _ {old h : Heap} {after : Option Addr} {some : Bool} (sound : IsSound h) 
     pub exact_less : (last : Addr) → last.0 + 1 ≡ (card_of at + 1) * CARD
         → 2 ^ 32 - reach_of (Some last) < 2 ^ 32 - reach_of after
     exact_less last is =
-        (let place = r.is in let up = above in let low = (address_low h sound at parts.0).1 in
+        (let forwarding = r.is in let up = above in let low = (address_low h sound at parts.0).1 in
         let card = card_is at in omega arith)
 
     -- no set card is between

@@ -1,6 +1,6 @@
 -- What is removed singly and what is given up with its region come to all that is left.
-use Rattle.hd_plan.proofs.Basics.{Addr, AreGivenUp, AreRemovedIn, AreSettledRegions, Bool, HasPlaces, HasStay, Heap, IsCondemnedRegion, IsLeft, List, None, Option, PlanOf, Some, ap, arith, both_ways, cases_Bool, cases_eq, condemned_at, false, false_from_ne_true, first_at, has-get, has_object, inl, inr, is_in_use, is_pinned, is_some, length, move_at, refl, region_of, subst, sym, true, ℕ, ◌-◌, ◌<◌, ◌∙◌, ◌≡◌, ◌≤◌}
-use Rattle.hd_plan.proofs.{CommitImage.left_there, CommitImage.put_all, CommitShape.AreAtPlaces, CommitShape.AreCleared, CommitShape.IsCommitting, CommitShape.move_listed, CommitShape.regions_now, CommitGenerations.places_same}
+use Rattle.hd_plan.proofs.Basics.{Addr, AreGivenUp, AreRemovedIn, AreSettledRegions, Bool, HasForwards, HasStay, Heap, IsCondemnedRegion, IsLeft, List, None, Option, PlanOf, Some, ap, arith, both_ways, cases_Bool, cases_eq, condemned_at, false, false_from_ne_true, first_at, has-get, has_object, inl, inr, is_in_use, is_pinned, is_some, length, move_at, refl, region_of, subst, sym, true, ℕ, ◌-◌, ◌<◌, ◌∙◌, ◌≡◌, ◌≤◌}
+use Rattle.hd_plan.proofs.{KeptObjectSteps.left_there, KeptObjectSteps.put_all, CommitShape.AreAtNewAddresses, CommitShape.AreCleared, CommitShape.IsCommitting, CommitShape.move_listed, CommitShape.regions_now, CommitGenerations.forwards_same}
 use Rattle.std.specs.FinMap as fin
 
 none_at : (h : Heap) (a : Addr) → has_object h a ≡ false → fin.get h.objects a.0 ≡ None
@@ -10,8 +10,8 @@ none_at h a none = by (fin.get h.objects a.0) (sym (has-get h a) ∙ none)
     by None e = refl
     by (Some x) e = absurd (cc e)
 
-module _ {p : PlanOf} {old h1 h2 h3 : Heap} (c : IsCommitting p old) (m : AreAtPlaces p old h1 h2 h3)
-    {firsts : List ℕ} {cells : List Addr} (table : HasPlaces p.moves p.regions firsts cells) where
+module _ {p : PlanOf} {old h1 h2 h3 : Heap} (c : IsCommitting p old) (m : AreAtNewAddresses p old h1 h2 h3)
+    {firsts : List ℕ} {cells : List Addr} (table : HasForwards p.moves p.regions firsts cells) where
   abbrev here : ℕ → Bool
   here = is_pinned p.regions firsts
 
@@ -38,7 +38,7 @@ module _ {p : PlanOf} {old h1 h2 h3 : Heap} (c : IsCommitting p old) (m : AreAtP
         ap is_some (ap (λ (x : Heap). fin.get x.regions r) (r4.same ∙ ap (λ (x : Heap). record x {
           objects = hr.objects;
           cards = hr.cards;
-        }) (places_same m)) ∙ (put_all c).room.old r held) ∙ held
+        }) (forwards_same m)) ∙ (put_all c).room.old r held) ∙ held
 
     module _ {h5 : Heap} (r5 : AreGivenUp hr h5 p.regions (length p.regions)) where
       same_entry : (j k : ℕ) → j < length p.regions → k < length p.regions

@@ -64,9 +64,9 @@ room_step : (h : Heap) (ms : List Move) (k : ℕ)
 unfolding room_at
 room_step h ms k = ap (room_at h ms) (add-one k)
 
-pub copied_starts : (place : Addr → Addr) (h : Heap) (ms : List Move) → AreCopied place h h ms 0
+pub copied_starts : (forwarding : Addr → Addr) (h : Heap) (ms : List Move) → AreCopied forwarding h h ms 0
 unfolding room_at
-copied_starts place h ms = record {
+copied_starts forwarding h ms = record {
   objects = λ a is. refl;
   copies = λ k low moves. absurd (omega arith);
   only = λ b is. inl is;
@@ -75,11 +75,11 @@ copied_starts place h ms = record {
 
 -- what the fate of the i-th move asks
 abbrev MayHave : Heap → List Move → ℕ → Fate → Type 0
-MayHave old ms i w = Fits w old.spare (room_at old ms i).cursors (move_at ms i).from (move_at ms i).to
+MayHave old ms i w = Fits w old.free (room_at old ms i).cursors (move_at ms i).from (move_at ms i).to
     (move_at ms i).generation (cells_of (placed_at old (move_at ms i).from))
 
-module _ {place : Addr → Addr} {old h : Heap} {ms : List Move} {i : ℕ} (can : CanCopy old ms)
-    (low : i < length ms) (r : AreCopied place old h ms i) where
+module _ {forwarding : Addr → Addr} {old h : Heap} {ms : List Move} {i : ℕ} (can : CanCopy old ms)
+    (low : i < length ms) (r : AreCopied forwarding old h ms i) where
   abbrev m : Move
   m = move_at ms i
 
@@ -89,15 +89,15 @@ module _ {place : Addr → Addr} {old h : Heap} {ms : List Move} {i : ℕ} (can 
   regions_now : h.regions ≡ q.regions
   regions_now = ap (λ (x : Heap). x.regions) r.same
 
-  spare_now : h.spare ≡ drop q.cursors.opened old.spare
-  spare_now = ap (λ (x : Heap). x.spare) r.same
+  free_now : h.free ≡ drop q.cursors.opened old.free
+  free_now = ap (λ (x : Heap). x.free) r.same
 
-  first_spare : slice_index h.spare 0 ≡ slice_index old.spare q.cursors.opened
-  first_spare = ap (λ ns. slice_index ns 0) spare_now ∙ get_or-drop q.cursors.opened old.spare 0 0
-      ∙ ap (slice_index old.spare) (omega arith)
+  first_free : slice_index h.free 0 ≡ slice_index old.free q.cursors.opened
+  first_free = ap (λ ns. slice_index ns 0) free_now ∙ get_or-drop q.cursors.opened old.free 0 0
+      ∙ ap (slice_index old.free) (omega arith)
 
-  fresh_place : MayHave old ms i MovesToNewRegion → region_of m.to ≡ slice_index old.spare q.cursors.opened
-  fresh_place f = region_is m.to _ 0 (omega (arith, f.place)) (omega arith)
+  fresh_address : MayHave old ms i MovesToNewRegion → region_of m.to ≡ slice_index old.free q.cursors.opened
+  fresh_address f = region_is m.to _ 0 (omega (arith, f.address)) (omega arith)
 
   from_same : fin.get h.objects m.from.0 ≡ fin.get old.objects m.from.0
   from_same = r.objects m.from (can.objects i low)
@@ -106,13 +106,13 @@ module _ {place : Addr → Addr} {old h : Heap} {ms : List Move} {i : ℕ} (can 
   cells_same = ap cells_of (placed_alike old h m.from from_same)
 
   region_at_cursor : MayHave old ms i Moves → region_of m.to ≡ (cursor_of q.cursors m.generation).region
-  region_at_cursor f = let fits = f.room in region_is m.to _ _ f.place (omega arith)
+  region_at_cursor f = let fits = f.room in region_is m.to _ _ f.address (omega arith)
 
-  place_now : MayHave old ms i Moves → (is_in_use h (region_of m.to) ≡ true)
+  forwarding_now : MayHave old ms i Moves → (is_in_use h (region_of m.to) ≡ true)
       × (m.to.0 ≡ region_of m.to * REGION + (region_at h (region_of m.to)).fill)
       × ((region_at h (region_of m.to)).fill + cells_of (placed_at h m.from) ≤ REGION)
       × (is_in_use old (region_of m.to) ≡ false)
-  place_now f =
+  forwarding_now f =
       let s = cursor_of q.cursors m.generation in
       let at = (room_cursor old q (can.put i (omega arith)).room m.generation (can.generations i low)).fresh
       f.begun in
@@ -123,7 +123,7 @@ module _ {place : Addr → Addr} {old h : Heap} {ms : List Move} {i : ℕ} (can 
       ∙ at.1 in
       subst P (sym (region_at_cursor f)) (
         ap (λ rs. fin.contains_key rs s.region) regions_now ∙ at.0.held,
-        f.place ∙ ap (λ n. s.region * REGION + n) (sym fill),
+        f.address ∙ ap (λ n. s.region * REGION + n) (sym fill),
         omega (arith, cells_same, fill, f.room),
         at.0.new,
       )
@@ -135,39 +135,39 @@ module _ {place : Addr → Addr} {old h : Heap} {ms : List Move} {i : ℕ} (can 
 
   -- there is room for the object where it goes, which was not in use
   room_now : (w : Fate) → MayHave old ms i w → is_moving w ≡ true
-      → let x = if is_opening w then with_fresh h (slice_index h.spare 0) m.generation else h in
+      → let x = if is_opening w then with_fresh h (slice_index h.free 0) m.generation else h in
       (is_in_use x (region_of m.to) ≡ true)
       × ((region_at x (region_of m.to)).fill + cells_of (placed_at x m.from) ≤ REGION)
       × (is_in_use old (region_of m.to) ≡ false)
   room_now Dead f e = absurd (cc e)
   room_now Pinned f e = absurd (cc e)
   room_now MovesToNewRegion f e =
-      let n = slice_index h.spare 0 in
+      let n = slice_index h.free 0 in
       let x = with_fresh h n m.generation in
       let few = can.sound.few_fields m.from (can.objects i low) in
       let empty = ap {B = ℕ} (λ (y : Region). y.fill) (region_fresh h n m.generation) in
       subst (λ r. (is_in_use x r ≡ true) × ((region_at x r).fill + cells_of (placed_at x m.from) ≤ REGION)
-      × (is_in_use old r ≡ false)) (sym (fresh_place f ∙ sym first_spare)) (
+      × (is_in_use old r ≡ false)) (sym (fresh_address f ∙ sym first_free)) (
         ap is_some (get_same h.regions n n (record { generation = m.generation; fill = 0 }) refl),
         omega (arith, empty, cells_same),
-        ap (is_in_use old) first_spare ∙ can.sound.spare_free _ f.free,
+        ap (is_in_use old) first_free ∙ can.sound.free_unused _ f.free,
       )
-  room_now Moves f e = let now = place_now f in (now.0, now.2, now.3)
+  room_now Moves f e = let now = forwarding_now f in (now.0, now.2, now.3)
 
-  opens_now : (w : Fate) → MayHave old ms i w → is_opening w ≡ true → 0 < length h.spare
+  opens_now : (w : Fate) → MayHave old ms i w → is_opening w ≡ true → 0 < length h.free
   opens_now Dead f e = absurd (cc e)
   opens_now Pinned f e = absurd (cc e)
   opens_now MovesToNewRegion f e =
-      let known = length-drop q.cursors.opened old.spare in
-      omega (arith, f.free, ap {B = ℕ} (λ (ns : List ℕ). length ns) spare_now, known)
+      let known = length-drop q.cursors.opened old.free in
+      omega (arith, f.free, ap {B = ℕ} (λ (ns : List ℕ). length ns) free_now, known)
   opens_now Moves f e = absurd (cc e)
 
   -- an object that does not move
-  stays_on : is_moving m.fate ≡ false → AreCopied place old h ms (i + 1)
+  stays_on : is_moving m.fate ≡ false → AreCopied forwarding old h ms (i + 1)
   stays_on not_moving = record {
     objects = r.objects;
     copies = λ k before. up_to (λ j. is_moving (move_at ms j).fate ≡ true
-        → fin.get h.objects (move_at ms j).to.0 ≡ option_map (forwarded place)
+        → fin.get h.objects (move_at ms j).to.0 ≡ option_map (forwarded forwarding)
         (fin.get old.objects (move_at ms j).from.0)) i r.copies
         (λ moves. absurd (both_ways _ not_moving moves)) k (omega arith);
     only = λ b is. ⊎_elim (λ was. inl was)
@@ -175,24 +175,24 @@ module _ {place : Addr → Addr} {old h : Heap} {ms : List Move} {i : ℕ} (can 
     same = r.same ∙ (λ j. record old {
       objects = h.objects;
       regions = (room j).regions;
-      spare = drop (room j).cursors.opened old.spare;
+      free = drop (room j).cursors.opened old.free;
     });
   }
     where
       room : q ≡ room_at old ms (i + 1)
       room = sym (room_step old ms i
-          ∙ room_rests m.fate not_moving old.spare q m.generation (cells_of (placed_at old m.from)))
+          ∙ room_rests m.fate not_moving old.free q m.generation (cells_of (placed_at old m.from)))
 
   -- an object that moves is at a second address too
   moves_on : (new : Heap) → is_moving m.fate ≡ true
       → new ≡ record h {
-        objects = fin.insert h.objects m.to.0 (forwarded place (placed_at old m.from));
+        objects = fin.insert h.objects m.to.0 (forwarded forwarding (placed_at old m.from));
         regions = (room_at old ms (i + 1)).regions;
-        spare = drop (room_at old ms (i + 1)).cursors.opened old.spare;
+        free = drop (room_at old ms (i + 1)).cursors.opened old.free;
       }
-      → AreCopied place old new ms (i + 1)
+      → AreCopied forwarding old new ms (i + 1)
   moves_on new moves step =
-      let p = forwarded place (placed_at old m.from) in
+      let p = forwarded forwarding (placed_at old m.from) in
       let put = can.put (i + 1) (omega arith) in
       let fresh = (put.put i (omega arith) moves).fresh in
       let same_at : (a : Addr) → a.0 ≡ m.to.0 → fin.get new.objects a.0 ≡ Some p =
@@ -205,12 +205,12 @@ module _ {place : Addr → Addr} {old h : Heap} {ms : List Move} {i : ℕ} (can 
             (sym (same_address a m.to e)) ∙ can.sound.held a is))
             ∙ r.objects a is;
         copies = λ k before. up_to (λ j. is_moving (move_at ms j).fate ≡ true
-            → fin.get new.objects (move_at ms j).to.0 ≡ option_map (forwarded place)
+            → fin.get new.objects (move_at ms j).to.0 ≡ option_map (forwarded forwarding)
             (fin.get old.objects (move_at ms j).from.0)) i
             (λ j below moving. kept_at (move_at ms j).to
             (λ e. put.apart j i below (omega arith) moving moves (same_address (move_at ms j).to m.to e))
             ∙ r.copies j below moving)
-            (λ moving. same_at m.to refl ∙ ap (option_map (forwarded place))
+            (λ moving. same_at m.to refl ∙ ap (option_map (forwarded forwarding))
             (sym (get_placed old m.from (can.objects i low)))) k (omega arith);
         only = λ b is. elim (cases_eq b.0 m.to.0) [
           | inl same ↦ inr (ends_here i moves (sym (same_address b m.to same)))
@@ -221,70 +221,72 @@ module _ {place : Addr → Addr} {old h : Heap} {ms : List Move} {i : ℕ} (can 
         same = step ∙ (λ j. record (r.same j) {
           objects = sym (ap (λ (x : Heap). x.objects) step) j;
           regions = (room_at old ms (i + 1)).regions;
-          spare = drop (room_at old ms (i + 1)).cursors.opened old.spare;
+          free = drop (room_at old ms (i + 1)).cursors.opened old.free;
         });
       }
 
   -- the heap with the object at its new address, where the regions are those of a room
   abbrev moved_with : Room → Heap
   moved_with x = record h {
-    objects = fin.insert h.objects m.to.0 (forwarded place (placed_at old m.from));
+    objects = fin.insert h.objects m.to.0 (forwarded forwarding (placed_at old m.from));
     regions = x.regions;
-    spare = drop x.cursors.opened old.spare;
+    free = drop x.cursors.opened old.free;
   }
 
   moved_room : (w : Fate) → m.fate ≡ w
-      → moved_with (put_fate w old.spare q m.generation (cells_of (placed_at old m.from)))
+      → moved_with (put_fate w old.free q m.generation (cells_of (placed_at old m.from)))
       ≡ moved_with (room_at old ms (i + 1))
   moved_room w is = ap moved_with (sym (room_step old ms i
-      ∙ ap (λ v. put_fate v old.spare q m.generation (cells_of (placed_at old m.from))) is))
+      ∙ ap (λ v. put_fate v old.free q m.generation (cells_of (placed_at old m.from))) is))
 
-  copy_cells : cells_of (forwarded place (placed_at h m.from)) ≡ cells_of (placed_at old m.from)
-  copy_cells = ap (λ n. n + HEADER) (length-map (placed_at h m.from).fields (option_map place)) ∙ cells_same
+  copy_cells : cells_of (forwarded forwarding (placed_at h m.from)) ≡ cells_of (placed_at old m.from)
+  copy_cells = ap (λ n. n + HEADER) (length-map (placed_at h m.from).fields (option_map forwarding))
+      ∙ cells_same
 
   gone_by : (w : Fate) (new : Heap) → m.fate ≡ w → MayHave old ms i w → is_moving w ≡ true
-      → new ≡ with_moved (if is_opening w then with_fresh h (slice_index h.spare 0) m.generation else h)
-      m.from (region_of m.to) place → AreCopied place old new ms (i + 1)
+      → new ≡ with_moved (if is_opening w then with_fresh h (slice_index h.free 0) m.generation else h)
+      m.from (region_of m.to) forwarding → AreCopied forwarding old new ms (i + 1)
   gone_by Dead new is fits moves gone = absurd (cc moves)
   gone_by Pinned new is fits moves gone = absurd (cc moves)
   gone_by MovesToNewRegion new is fits moves gone =
-      let n = slice_index old.spare q.cursors.opened in
+      let n = slice_index old.free q.cursors.opened in
       let start : Region = record { generation = m.generation; fill = 0 } in
       let empty = ap {B = ℕ} (λ (x : Region). x.fill) (region_fresh h n m.generation) in
       let key : n * REGION + (region_at (with_fresh h n m.generation) n).fill ≡ m.to.0 =
-      omega (arith, empty, fits.place) in
+      omega (arith, empty, fits.address) in
       let placed = placed_alike old h m.from from_same in
-      let spare : drop 1 h.spare ≡ drop (q.cursors.opened + 1) old.spare = ap (drop 1) spare_now
-      ∙ drop-drop 1 q.cursors.opened old.spare in
+      let free : drop 1 h.free ≡ drop (q.cursors.opened + 1) old.free = ap (drop 1) free_now
+      ∙ drop-drop 1 q.cursors.opened old.free in
       moves_on new (ap is_moving is) (gone
-      ∙ (λ j. with_moved (with_fresh h (first_spare j) m.generation) m.from (fresh_place fits j) place)
+      ∙ (λ j. with_moved (with_fresh h (first_free j) m.generation) m.from (fresh_address fits j) forwarding)
       ∙ (λ j. record h {
-        objects = fin.insert h.objects (key j) (forwarded place (placed j));
+        objects = fin.insert h.objects (key j) (forwarded forwarding (placed j));
         regions = filled (fin.insert (regions_now j) n start) n (copy_cells j);
-        spare = spare j;
+        free = free j;
       })
       ∙ moved_room MovesToNewRegion is)
   gone_by Moves new is fits moves gone =
-      let at : m.to.0 ≡ region_of m.to * REGION + (region_at h (region_of m.to)).fill = (place_now fits).1 in
+      let at : m.to.0 ≡ region_of m.to * REGION + (region_at h (region_of m.to)).fill =
+      (forwarding_now fits).1 in
       let placed = placed_alike old h m.from from_same in
       moves_on new (ap is_moving is) (gone
       ∙ (λ j. record h {
-        objects = fin.insert h.objects (sym at j) (forwarded place (placed j));
+        objects = fin.insert h.objects (sym at j) (forwarded forwarding (placed j));
         regions = filled (regions_now j) (region_at_cursor fits j) (copy_cells j);
-        spare = spare_now j;
-      })
-      ∙ moved_room Moves is)
+        free = free_now j;
+      }) ∙ moved_room Moves is)
 
   -- an object that moves is copied
   gone_on : (new : Heap) → is_moving m.fate ≡ true
-      → new ≡ with_moved (opened_for h m) m.from (region_of m.to) place → AreCopied place old new ms (i + 1)
+      → new ≡ with_moved (opened_for h m) m.from (region_of m.to) forwarding
+      → AreCopied forwarding old new ms (i + 1)
   gone_on new moves gone = gone_by m.fate new refl (can.fits i low) moves gone
 
 -- a heap where a region was opened, or not, has the same objects
 opened_objects : (h : Heap) (m : Move) → (opened_for h m).objects ≡ h.objects
 opened_objects h m = by (is_opening m.fate)
   where
-    by : (b : Bool) → (if b then with_fresh h (slice_index h.spare 0) m.generation else h).objects ≡ h.objects
+    by : (b : Bool) → (if b then with_fresh h (slice_index h.free 0) m.generation else h).objects ≡ h.objects
     by true = refl
     by false = refl
 
@@ -307,30 +309,30 @@ module _ {ms : List Move} {i : ℕ} (k : ℕ) (run : IsRun ms i (k + 1)) (after 
   goes_there = eqb-true _ _ (and_parts _ _ goes).1
 
 -- the objects of a run are copied one after another
-module _ {place : Addr → Addr} {old h : Heap} {ms : List Move} {i : ℕ} (can : CanCopy old ms)
-    (r : AreCopied place old h ms i) (moves : is_moving (move_at ms i).fate ≡ true) where
+module _ {forwarding : Addr → Addr} {old h : Heap} {ms : List Move} {i : ℕ} (can : CanCopy old ms)
+    (r : AreCopied forwarding old h ms i) (moves : is_moving (move_at ms i).fate ≡ true) where
   abbrev first : Heap
   first = opened_for h (move_at ms i)
 
   run_goes : (n end : ℕ) → end ≡ i + suc n → IsRun ms i end
-      → AreCopied place old (run_copied place first ms i (suc n)) ms end
+      → AreCopied forwarding old (run_copied forwarding first ms i (suc n)) ms end
   unfolding run_copied
   run_goes zero end is run =
       let e : i + 0 ≡ i = omega arith in
-      subst (AreCopied place old (run_copied place first ms i 1) ms) {x = i + 1} {y = end} (omega (arith, is))
-      (gone_on can (let w = run.within in omega arith) r _ moves
-      (λ j. with_moved first (move_at ms (e j)).from (region_of (move_at ms (e j)).to) place))
+      subst (AreCopied forwarding old (run_copied forwarding first ms i 1) ms) {x = i + 1} {y = end}
+      (omega (arith, is)) (gone_on can (let w = run.within in omega arith) r _ moves
+      (λ j. with_moved first (move_at ms (e j)).from (region_of (move_at ms (e j)).to) forwarding))
   run_goes (suc p) end is run =
       let k = i + suc p in
       let low = run.within in
       let at : end ≡ k + 1 = omega (arith, is) in
       let before = run_goes p k refl (run_part ms i k end run (omega arith) (omega arith)) in
-      let mid = run_copied place first ms i (suc p) in
+      let mid = run_copied forwarding first ms i (suc p) in
       let f = follows k (subst (IsRun ms i) at run) (omega arith) in
-      subst (AreCopied place old (run_copied place first ms i (suc (suc p))) ms) (sym at)
+      subst (AreCopied forwarding old (run_copied forwarding first ms i (suc (suc p))) ms) (sym at)
       (gone_on can (omega arith) before _ (ap is_moving f)
-      (ap (λ b. with_moved (if b then with_fresh mid (slice_index mid.spare 0) (move_at ms k).generation else mid)
-      (move_at ms k).from (region_of (move_at ms k).to) place) (sym (ap is_opening f))))
+      (ap (λ b. with_moved (if b then with_fresh mid (slice_index mid.free 0) (move_at ms k).generation else mid)
+      (move_at ms k).from (region_of (move_at ms k).to) forwarding) (sym (ap is_opening f))))
 
   module _ {kept : Addr → Bool} (keeps : (k : ℕ) → k < length ms → is_moving (move_at ms k).fate ≡ true
       → HasKeptFields kept old (move_at ms k).from) (low : i < length ms) where
@@ -347,7 +349,7 @@ module _ {place : Addr → Addr} {old h : Heap} {ms : List Move} {i : ℕ} (can 
     ]
 
     room_run : (n : ℕ) → IsRun ms i (i + n + 1)
-        → (region_at (run_copied place first ms i n) (region_of (move_at ms i).to)).fill
+        → (region_at (run_copied forwarding first ms i n) (region_of (move_at ms i).to)).fill
         + cells_of (placed_at first (move_at ms (i + n)).from) ≤ REGION
     unfolding run_copied
     room_run zero run =
@@ -356,18 +358,18 @@ module _ {place : Addr → Addr} {old h : Heap} {ms : List Move} {i : ℕ} (can 
         ≤ REGION) e (room_now can low r (move_at ms i).fate (can.fits i low) moves).1
     room_run (suc p) run =
         let k = i + suc p in
-        let mid = run_copied place first ms i (suc p) in
+        let mid = run_copied forwarding first ms i (suc p) in
         let before = run_goes p k refl (run_part ms i k (k + 1) run (omega arith) (omega arith)) in
         let from = (move_at ms k).from in
         let there = can.objects k (run_low k run) in
-        let now = place_now can (run_low k run) before
+        let now = forwarding_now can (run_low k run) before
         (subst (MayHave old ms k) (follows k run (omega arith)) (can.fits k (run_low k run))) in
         let same = ap cells_of (placed_alike old mid from (before.objects from there)
         ∙ sym (placed_alike old first from (first_same from there))) in
         let fill = ap (λ q. (region_at mid q).fill) (goes_there k run (omega arith)) in
         omega (arith, now.2, fill, same)
 
-    pub may_run : MayRun kept place first ms i
+    pub may_run : MayRun kept forwarding first ms i
     may_run =
         let room = room_now can low r (move_at ms i).fate (can.fits i low) moves in
         record {
@@ -389,19 +391,19 @@ module _ {place : Addr → Addr} {old h : Heap} {ms : List Move} {i : ℕ} (can 
         ((can.generations i low).1, opens_now can low r (move_at ms i).fate (can.fits i low) opening)
 
 -- the objects of a run of moves are copied, or the object of one move does not move
-pub have_gone : {place : Addr → Addr} {old h new : Heap} {ms : List Move} {i end : ℕ} → CanCopy old ms
-    → i < length ms → AreCopied place old h ms i → i < end → HaveGone place h new ms i end
-    → AreCopied place old new ms end
-have_gone {place} {old} {h} {new} {ms} {i} {end} can low r after gone =
+pub have_gone : {forwarding : Addr → Addr} {old h new : Heap} {ms : List Move} {i end : ℕ} → CanCopy old ms
+    → i < length ms → AreCopied forwarding old h ms i → i < end → HaveGone forwarding h new ms i end
+    → AreCopied forwarding old new ms end
+have_gone {forwarding} {old} {h} {new} {ms} {i} {end} can low r after gone =
     by (is_moving (move_at ms i).fate) refl gone
   where
     by : (b : Bool) → is_moving (move_at ms i).fate ≡ b
-        → MatchBool b (IsRun ms i end × (new ≡ run_copied place (opened_for h (move_at ms i)) ms i (end - i)))
-        ((end ≡ i + 1) × (new ≡ h)) → AreCopied place old new ms end
+        → MatchBool b (IsRun ms i end × (new ≡ run_copied forwarding (opened_for h (move_at ms i)) ms i
+        (end - i))) ((end ≡ i + 1) × (new ≡ h)) → AreCopied forwarding old new ms end
     by true moves is =
         let n : end - i ≡ suc (end - i - 1) = omega arith in
-        subst (λ (x : Heap). AreCopied place old x ms end)
-        (sym (is.1 ∙ ap (run_copied place (opened_for h (move_at ms i)) ms i) n))
+        subst (λ (x : Heap). AreCopied forwarding old x ms end)
+        (sym (is.1 ∙ ap (run_copied forwarding (opened_for h (move_at ms i)) ms i) n))
         (run_goes can r moves (end - i - 1) end (omega arith) is.0)
-    by false rests is = subst (AreCopied place old new ms) (sym is.0)
-        (subst (λ (x : Heap). AreCopied place old x ms (i + 1)) (sym is.1) (stays_on can low r rests))
+    by false rests is = subst (AreCopied forwarding old new ms) (sym is.0)
+        (subst (λ (x : Heap). AreCopied forwarding old x ms (i + 1)) (sym is.1) (stays_on can low r rests))

@@ -1,7 +1,7 @@
 -- The regions and the cards after the moving: what its last steps leave.
 use Rattle.hd_heap.proofs.NextObjects.{generation_is}
-use Rattle.hd_plan.proofs.Basics.{Addr, HasStay, Heap, IsCondemnedRegion, None, Option, PlanOf, Region, Some, ap, arith, both_ways, cases_lt, condemned_at, drop, false, false_from_ne_true, generation_at, inl, inr, is_in_use, is_staying, kept_in, length, move_at, object_at, place_in, raised, raised_older, refl, region_at, region_generation, region_of, room_at, subst, sym, true, unwrap_or, young_raised, ℕ, ◌<◌, ◌∙◌, ◌≡◌, ◌≤◌}
-use Rattle.hd_plan.proofs.{KeptMoves.moving_or_staying, KeptMoves.raised_most, CondemnedAddresses.region_young, CommitCopies.no_region, CommitShape.AreAtPlaces, CommitShape.AreMoved, CommitShape.IsCommitting, CommitShape.moves_now, CommitShape.regions_now, CommitImage.kept_by, CommitImage.place_older, CommitImage.kept_object, CommitImage.from_condemned, CommitImage.stays_there, CommitImage.put_all}
+use Rattle.hd_plan.proofs.Basics.{Addr, HasStay, Heap, IsCondemnedRegion, None, Option, PlanOf, Region, Some, ap, arith, both_ways, cases_lt, condemned_at, drop, false, false_from_ne_true, generation_at, inl, inr, is_in_use, is_staying, kept_in, length, move_at, object_at, forwarding_in, raised, raised_older, refl, region_at, region_generation, region_of, room_at, subst, sym, true, unwrap_or, young_raised, ℕ, ◌<◌, ◌∙◌, ◌≡◌, ◌≤◌}
+use Rattle.hd_plan.proofs.{KeptMoves.moving_or_staying, KeptMoves.raised_most, CondemnedAddresses.region_young, CommitCopies.no_region, CommitShape.AreAtNewAddresses, CommitShape.AreMoved, CommitShape.IsCommitting, CommitShape.moves_now, CommitShape.regions_now, KeptObjectSteps.kept_by, KeptObjectSteps.forwarding_older, KeptObjectSteps.kept_object, KeptObjectSteps.from_condemned, KeptObjectSteps.stays_there, KeptObjectSteps.put_all}
 use Rattle.std.specs.FinMap as fin
 
 pub raised_above : (n g : ℕ) → g ≤ 2 → g ≤ raised n g
@@ -21,13 +21,13 @@ raised_some n g = elim (cases_lt n g) [
 ]
 
 -- what the first steps leave as it was
-pub places_same : {p : PlanOf} {old h1 h2 h3 : Heap} → AreAtPlaces p old h1 h2 h3
+pub forwards_same : {p : PlanOf} {old h1 h2 h3 : Heap} → AreAtNewAddresses p old h1 h2 h3
     → h3 ≡ record old {
       objects = h3.objects;
       regions = (room_at old p.moves (length p.moves)).regions;
-      spare = drop (room_at old p.moves (length p.moves)).cursors.opened old.spare;
+      free = drop (room_at old p.moves (length p.moves)).cursors.opened old.free;
     }
-places_same {p} {old} {h1} {h2} {h3} m =
+forwards_same {p} {old} {h1} {h2} {h3} m =
     m.stayed.same ∙ ap (λ (k : Heap). record k { objects = h3.objects }) m.carded.same
     ∙ ap (λ (k : Heap). record k { objects = h3.objects }) m.copied.same
 
@@ -44,7 +44,7 @@ module _ {p : PlanOf} {old h1 h2 h3 h5 : Heap} (m : AreMoved p old h1 h2 h3 h5) 
 
   -- the regions were those of the room
   region_room : (r : ℕ) → fin.get h3.regions r ≡ fin.get (room_at old p.moves (length p.moves)).regions r
-  region_room r = ap (λ (x : Heap). fin.get x.regions r) (places_same m.places)
+  region_room r = ap (λ (x : Heap). fin.get x.regions r) (forwards_same m.forwards)
 
   region_kept : (r : ℕ) → is_in_use old r ≡ true → fin.get h3.regions r ≡ fin.get old.regions r
   region_kept r held = region_room r ∙ (put_all c).room.old r held
@@ -93,14 +93,14 @@ module _ {p : PlanOf} {old h1 h2 h3 h5 : Heap} (m : AreMoved p old h1 h2 h3 h5) 
       ap (fin.get h5.regions) (sym listed.1) ∙ m.cleared.regions.given_up k listed.0 unpinned
 
   -- each kept object has its generation raised
-  pub place_generation : (a : Addr) → kept_in p a ≡ true
-      → region_generation h5 (region_of (place_in p a)) ≡ raised p.basis.condemned
+  pub forwarding_generation : (a : Addr) → kept_in p a ≡ true
+      → region_generation h5 (region_of (forwarding_in p a)) ≡ raised p.basis.condemned
       (generation_at (object_at old) a)
-  place_generation a kept = elim (kept_by c a kept) [
+  forwarding_generation a kept = elim (kept_by c a kept) [
     | inl older ↦
         let there = kept_object c a kept in
         let same = generation_is old a there in
-        ap (λ (x : Addr). region_generation h5 (region_of x)) (place_older c a older)
+        ap (λ (x : Addr). region_generation h5 (region_of x)) (forwarding_older c a older)
         ∙ ap (λ (o : Option Region). (unwrap_or o no_region).generation)
         (region_still (region_of a) (c.sound.held a there) (λ is. omega (arith, is.young, same, older)))
         ∙ sym same ∙ sym (raised_older p.basis.condemned (generation_at (object_at old) a) older)

@@ -4,8 +4,8 @@ use Rattle.hd_plan.proofs.{MoveEnds.ends_more, MoveEnds.ends_here, MoveEnds.ends
 use Rattle.std.specs.FinMap as map_of
 
 -- one object more is rewritten
-module _ {Those : Addr → Type 0} {place : Addr → Addr} {old h : Heap}
-    (r : AreRewritten Those place old h) where
+module _ {Those : Addr → Type 0} {forwarding : Addr → Addr} {old h : Heap}
+    (r : AreRewritten Those forwarding old h) where
   rewritten_generation : (a : Addr) → generation_at (object_at h) a ≡ generation_at (object_at old) a
   rewritten_generation a =
       generation_alike old h a (r.there a) (ap (λ (x : Heap). region_generation x (region_of a)) r.same)
@@ -14,17 +14,17 @@ module _ {Those : Addr → Type 0} {place : Addr → Addr} {old h : Heap}
   rewritten_field a y other field = field_alike old h a a y (r.others a other) field
 
   pub rewritten_more : (Next : Addr → Type 0) (new : Heap) (x : Addr)
-      → new ≡ with_object h x (forwarded place (placed_at h x))
+      → new ≡ with_object h x (forwarded forwarding (placed_at h x))
       → has_object old x ≡ true → (Those x → ⊥) → Next x
       → ((a : Addr) → Those a → Next a) → ((a : Addr) → Next a → Those a ⊎ (a.0 ≡ x.0))
-      → AreRewritten Next place old new
+      → AreRewritten Next forwarding old new
   rewritten_more Next new x step there fresh joins keeps only =
-      let p = forwarded place (placed_at h x) in
+      let p = forwarded forwarding (placed_at h x) in
       let was : map_of.get h.objects x.0 ≡ map_of.get old.objects x.0 = r.others x fresh in
       let here : (a : Addr) → a.0 ≡ x.0
-      → map_of.get new.objects a.0 ≡ option_map (forwarded place) (map_of.get old.objects a.0) = λ a e.
+      → map_of.get new.objects a.0 ≡ option_map (forwarded forwarding) (map_of.get old.objects a.0) = λ a e.
       ap (λ (k : Heap). map_of.get k.objects a.0) step ∙ get_same h.objects x.0 a.0 p e
-      ∙ ap (option_map (forwarded place)) (sym (get_placed h x (has_alike old h x was ∙ there)) ∙ was
+      ∙ ap (option_map (forwarded forwarding)) (sym (get_placed h x (has_alike old h x was ∙ there)) ∙ was
       ∙ ap (map_of.get old.objects) (sym e)) in
       let beside : (a : Addr) → a.0 ≢ x.0 → map_of.get new.objects a.0 ≡ map_of.get h.objects a.0 = λ a apart.
       ap (λ (k : Heap). map_of.get k.objects a.0) step ∙ get_other h.objects x.0 a.0 p apart in
@@ -52,8 +52,8 @@ abbrev pub IsCardedTo : Heap → ℕ → Option Addr → Addr → Type 0
 IsCardedTo h n after a = (is_old_carded h n a ≡ true) × (is_after after a ≡ false)
 
 -- the objects in set cards, one after another
-module _ {place : Addr → Addr} {old h : Heap} (n : ℕ) (after : Option Addr)
-    (r : AreRewritten (IsCardedTo old n after) place old h) where
+module _ {forwarding : Addr → Addr} {old h : Heap} (n : ℕ) (after : Option Addr)
+    (r : AreRewritten (IsCardedTo old n after) forwarding old h) where
   carded_same : (a : Addr) → is_old_carded h n a ≡ is_old_carded old n a
   carded_same a =
       let generation = rewritten_generation r a in
@@ -61,8 +61,8 @@ module _ {place : Addr → Addr} {old h : Heap} (n : ℕ) (after : Option Addr)
       λ i. (r.there a i && nat_lt n (generation i)) && set i
 
   pub carded_next : (at : Addr) → IsNext (is_old_carded h n) after at → (new : Heap)
-      → new ≡ with_object h at (forwarded place (placed_at h at))
-      → AreRewritten (IsCardedTo old n (Some at)) place old new
+      → new ≡ with_object h at (forwarded forwarding (placed_at h at))
+      → AreRewritten (IsCardedTo old n (Some at)) forwarding old new
   carded_next at found new step =
       let was = sym (carded_same at) ∙ found.member in
       rewritten_more r (IsCardedTo old n (Some at)) new at step (and_parts _ _ (and_parts _ _ was).0).0
@@ -74,13 +74,13 @@ module _ {place : Addr → Addr} {old h : Heap} (n : ℕ) (after : Option Addr)
       ])
 
 -- the objects of the first moves that stay, one after another
-module _ {place : Addr → Addr} {old h : Heap} {ms : List Move} {i : ℕ}
-    (r : AreRewritten (IsStayedAt ms i) place old h) (low : i < length ms) (rising : IsRising ms) where
-  pub stayed_other : is_staying (move_at ms i).fate ≡ false → AreRewritten (IsStayedAt ms (i + 1)) place old h
+module _ {forwarding : Addr → Addr} {old h : Heap} {ms : List Move} {i : ℕ}
+    (r : AreRewritten (IsStayedAt ms i) forwarding old h) (low : i < length ms) (rising : IsRising ms) where
+  pub stayed_other : is_staying (move_at ms i).fate ≡ false
+      → AreRewritten (IsStayedAt ms (i + 1)) forwarding old h
   stayed_other other = record {
     done = λ a e. r.done a (ends_skip i other e);
-    others = λ a none. r.others a
-        (λ e. none (ends_more i (i + 1) (omega arith) e));
+    others = λ a none. r.others a (λ e. none (ends_more i (i + 1) (omega arith) e));
     there = r.there;
     same = r.same;
   }
@@ -98,8 +98,8 @@ module _ {place : Addr → Addr} {old h : Heap} {ms : List Move} {i : ℕ}
 
   pub stayed_next : (new : Heap) → is_staying (move_at ms i).fate ≡ true
       → has_object old (move_at ms i).from ≡ true
-      → new ≡ with_object h (move_at ms i).from (forwarded place (placed_at h (move_at ms i).from))
-      → AreRewritten (IsStayedAt ms (i + 1)) place old new
+      → new ≡ with_object h (move_at ms i).from (forwarded forwarding (placed_at h (move_at ms i).from))
+      → AreRewritten (IsStayedAt ms (i + 1)) forwarding old new
   stayed_next new stays there step =
       rewritten_more r (IsStayedAt ms (i + 1)) new (move_at ms i).from step there stayed_fresh
       (ends_here i stays refl)

@@ -1,14 +1,14 @@
 -- A plan is valid for each heap of the same shape as the one for which it was laid.
-use Rattle.hd_plan.proofs.Basics.{Addr, AllocCursors, AreMoves, AreCopied, AreRegions, AreRewritten, AreSettledRegions, CanCopy, Condemned, Fits, HEADER, HasSoundCards, HasStay, Heap, IsCondemned, IsField, IsLaid, IsLeft, IsSameShape, IsStayedAt, IsSound, List, Move, None, PlanOf, Room, Some, ap, arith, cells_of, condemned_at, fields_at, fields_placed, find_move, generation_at, is_carded, is_condemned, is_in_use, is_old_carded, is_kept_by, is_staying, has_object, kept_in, length, member_same, move_at, nat_le, nat_lt, object_at, place_in, placed_at, put_fate, raised, region_generation, region_of, room_of, subst, suc, sym, true, zero, ℕ, ◌&&◌, ◌+◌, ◌<◌, ◌||◌, ◌∙◌, ◌≡◌}
+use Rattle.hd_plan.proofs.Basics.{Addr, AllocCursors, AreMoves, AreCopied, AreRegions, AreRewritten, AreSettledRegions, CanCopy, Condemned, Fits, HEADER, HasSoundCards, HasStay, Heap, IsCondemned, IsField, IsLaid, IsLeft, IsSameShape, IsStayedAt, IsSound, List, Move, None, PlanOf, Room, Some, ap, arith, cells_of, condemned_at, fields_at, fields_placed, find_move, generation_at, is_carded, is_condemned, is_in_use, is_old_carded, is_kept_by, is_staying, has_object, kept_in, length, member_same, move_at, nat_le, nat_lt, object_at, forwarding_in, placed_at, put_fate, raised, region_generation, region_of, room_of, subst, suc, sym, true, zero, ℕ, ◌&&◌, ◌+◌, ◌<◌, ◌||◌, ◌∙◌, ◌≡◌}
 use Rattle.hd_plan.specs.Layout.{room_at}
 use Rattle.hd_plan.proofs.{CommitCopies.generation_alike, CommitCards.has_from, KeptMoves.generation_some, KeptMoves.are_put, KeptMoves.is_condemned_at, KeptMoves.kept, CondemnedAddresses.region_young}
 use Rattle.std.specs.FinMap as fin
 
 -- the steps up to the removal
-pub record AreAtPlaces (p : PlanOf) (old h1 h2 h3 : Heap) : Type 0 where
-  pub copied : AreCopied (place_in p) old h1 p.moves (length p.moves)
-  pub carded : AreRewritten (λ a. is_old_carded h1 p.basis.condemned a ≡ true) (place_in p) h1 h2
-  pub stayed : AreRewritten (IsStayedAt p.moves (length p.moves)) (place_in p) h2 h3
+pub record AreAtNewAddresses (p : PlanOf) (old h1 h2 h3 : Heap) : Type 0 where
+  pub copied : AreCopied (forwarding_in p) old h1 p.moves (length p.moves)
+  pub carded : AreRewritten (λ a. is_old_carded h1 p.basis.condemned a ≡ true) (forwarding_in p) h1 h2
+  pub stayed : AreRewritten (IsStayedAt p.moves (length p.moves)) (forwarding_in p) h2 h3
 
 -- the objects that do not stay are gone from their old addresses, and the condemned regions are settled;
 -- cards of objects are as before
@@ -39,7 +39,7 @@ module _ {h k : Heap} (s : IsSameShape h k) where
   shape_room ms zero = λ i. record (room_of h) { regions = s.regions i }
   shape_room ms (suc i) =
       let m = move_at ms i in
-      λ j. put_fate m.fate (s.spare j) (shape_room ms i j) m.generation (shape_cells m.from j)
+      λ j. put_fate m.fate (s.free j) (shape_room ms i j) m.generation (shape_cells m.from j)
 
   shape_moves : (n : ℕ) (ms : List Move) → AreMoves h n ms → AreMoves k n ms
   shape_moves n ms moves = record {
@@ -54,10 +54,10 @@ module _ {h k : Heap} (s : IsSameShape h k) where
         let m = move_at ms j in
         let P : List ℕ → AllocCursors → ℕ → Type 0 =
         λ ns c cells. Fits m.fate ns c m.from m.to m.generation cells in
-        subst (λ ns. P ns (room_at k ms j).cursors (cells_of (placed_at k m.from))) (sym s.spare)
-        (subst (λ c. P h.spare c (cells_of (placed_at k m.from)))
+        subst (λ ns. P ns (room_at k ms j).cursors (cells_of (placed_at k m.from))) (sym s.free)
+        (subst (λ c. P h.free c (cells_of (placed_at k m.from)))
         (ap (λ (q : Room). q.cursors) (sym (shape_room ms j)))
-        (subst (λ cells. P h.spare (room_at h ms j).cursors cells) (sym (shape_cells m.from))
+        (subst (λ cells. P h.free (room_at h ms j).cursors cells) (sym (shape_cells m.from))
         (moves.fits j within)));
   }
 
@@ -98,7 +98,7 @@ pub record IsCommitting (p : PlanOf) (old : Heap) : Type 0 where
 -- a plan is carried out on a heap, one step after another
 pub record AreMoved (p : PlanOf) (old h1 h2 h3 h5 : Heap) : Type 0 where
   pub committing : IsCommitting p old
-  pub places : AreAtPlaces p old h1 h2 h3
+  pub forwards : AreAtNewAddresses p old h1 h2 h3
   pub cleared : AreCleared p h3 h5
 
 module _ {p : PlanOf} {old : Heap} (c : IsCommitting p old) where

@@ -1,6 +1,6 @@
 -- How much is condemned, and how many free regions a plan takes.
-use Rattle.hd_plan.proofs.Basics.{Extent, Heap, IsExtent, IsToLay, List, REGION, ℕ, ◌*◌, ◌<◌, ◌^◌, ◌≤◌, arith, SparesAtMost, length, max, refl, ◌+◌, ◌/◌}
-use Rattle.hd_plan.specs.LaySteps.{HasLayRoom}
+use Rattle.hd_plan.proofs.Basics.{Extent, Heap, IsExtent, IsToLay, List, REGION, ℕ, ◌*◌, ◌<◌, ◌^◌, ◌≤◌, arith, FreeAtMost, length, max, refl, ◌+◌, ◌/◌}
+use Rattle.hd_plan.specs.Inside.{HasLayRoom}
 use Rattle.hd_plan.proofs.CondemnedAddresses.{condemned_of, condemned_is}
 use Rattle.hd_model.specs.declared.limits.TheConstants.{LEFT, OPEN}
 
@@ -19,9 +19,9 @@ to_lay h n e is =
     }
 
 -- free regions do not count
-pub extent_spare : (h : Heap) (n : ℕ) (spare : List ℕ) (e : Extent) → IsExtent h n e
-    → IsExtent (record h { spare = spare }) n e
-extent_spare h n spare e is =
+pub extent_free : (h : Heap) (n : ℕ) (free : List ℕ) (e : Extent) → IsExtent h n e
+    → IsExtent (record h { free = free }) n e
+extent_free h n free e is =
     let o = is.objects in
     record {
       objects = record {
@@ -60,10 +60,10 @@ extent_room {h} {n} {e} room_ms room_cs firsts cells is small objects regions en
       span = λ a has. omega (arith, is.above a has, end);
     }
 
-pub spares_at_most : (old new : Heap) (n : ℕ) (e : Extent) → IsToLay old n e
-    → length new.spare ≤ max (e.cells / LEFT + OPEN) (length old.spare) → SparesAtMost old new n
-spares_at_most old new n e is spare = record {
+pub free_at_most : (old new : Heap) (n : ℕ) (e : Extent) → IsToLay old n e
+    → length new.free ≤ max (e.cells / LEFT + OPEN) (length old.free) → FreeAtMost old new n
+free_at_most old new n e is free = record {
   needed = e.cells / LEFT + OPEN;
   needs = record { cells = e.cells; cells_are = is.cells; needed_is = refl };
-  spare = spare;
+  free = free;
 }

@@ -1,6 +1,6 @@
 -- What is kept by moves, and where it goes: objects alone, all that is older and in place, and no two to one
 -- address.
-use Rattle.hd_plan.proofs.Basics.{Addr, AreMoves, ArePut, Bool, Dead, FIELDS, Fate, Fits, HEADER, Heap, IsCondemned, IsKeeping, IsPut, IsSound, List, Move, Moves, MovesToNewRegion, None, Object, Option, Pinned, Some, ap, arith, both_ways, cases_Bool, cases_eq, cases_order, cells_of, false, find_move, generation_at, generation_in, has_object, inl, inr, is_condemned, is_kept_by, is_kept_fate, is_moving, is_some, is_staying, le-ltb, length, lt-ltb, ltb-true, move_at, nat_lt, object_at, or_cases, or_left, place_by, placed_at, raised, refl, subst, suc, sym, true, true≢false, young_raised, zero, ℕ, ◌+◌, ◌<◌, ◌||◌, ◌∙◌, ◌≡◌, ◌≢◌, ◌≤◌, ◌⊎◌}
+use Rattle.hd_plan.proofs.Basics.{Addr, AreMoves, ArePut, Bool, Dead, FIELDS, Fate, Fits, HEADER, Heap, IsCondemned, IsKeeping, IsPut, IsSound, List, Move, Moves, MovesToNewRegion, None, Object, Option, Pinned, Some, ap, arith, both_ways, cases_Bool, cases_eq, cases_order, cells_of, false, find_move, generation_at, generation_in, has_object, inl, inr, is_condemned, is_kept_by, is_kept_fate, is_moving, is_some, is_staying, le-ltb, length, lt-ltb, ltb-true, move_at, nat_lt, object_at, or_cases, or_left, forwarding_by, placed_at, raised, refl, subst, suc, sym, true, true≢false, young_raised, zero, ℕ, ◌+◌, ◌<◌, ◌||◌, ◌∙◌, ◌≡◌, ◌≢◌, ◌≤◌, ◌⊎◌}
 use Rattle.hd_plan.specs.Layout.{room_at}
 use Rattle.hd_plan.proofs.{CondemnedAddresses.condemned_of, MoveEnds.find_at, MoveEnds.find_none, RoomSteps.room_start, RoomSteps.goes}
 
@@ -32,21 +32,21 @@ staying_is Moves e = absurd (true≢false (sym e))
 abbrev pub kept : Heap → ℕ → List Move → Addr → Bool
 kept h n ms a = nat_lt n (generation_at (object_at h) a) || is_kept_by (find_move ms a)
 
-abbrev pub place : List Move → Addr → Addr
-place ms a = place_by (find_move ms a) a
+abbrev pub forwarding : List Move → Addr → Addr
+forwarding ms a = forwarding_by (find_move ms a) a
 
 -- move k is of a, which it keeps
 pub record IsKeptBy (ms : List Move) (a : Addr) (k : ℕ) : Type 0 where
   pub within : k < length ms
   pub from : (move_at ms k).from ≡ a
   pub kept : is_kept_fate (move_at ms k).fate ≡ true
-  pub to : place ms a ≡ (move_at ms k).to
+  pub to : forwarding ms a ≡ (move_at ms k).to
 
 -- a kept object stays in place, or a move puts it at another address
 pub data RestsOrMoves (h : Heap) (ms : List Move) (a : Addr) : Type 0 where
-  rests : has_object h a ≡ true → place ms a ≡ a → RestsOrMoves h ms a
+  rests : has_object h a ≡ true → forwarding ms a ≡ a → RestsOrMoves h ms a
   moves_by : (k : ℕ) → k < length ms → (move_at ms k).from ≡ a → is_moving (move_at ms k).fate ≡ true
-      → place ms a ≡ (move_at ms k).to → RestsOrMoves h ms a
+      → forwarding ms a ≡ (move_at ms k).to → RestsOrMoves h ms a
 
 pub cells_some : {h : Heap} → IsSound h → (a : Addr) → has_object h a ≡ true → (0 < cells_of (placed_at h a))
     × (cells_of (placed_at h a) ≤ FIELDS + HEADER)
@@ -118,8 +118,8 @@ module _ {h : Heap} {n : ℕ} (sound : IsSound h) {ms : List Move} (moves : AreM
   pub older_kept : (a : Addr) → n < generation_at (object_at h) a → kept h n ms a ≡ true
   older_kept a older = or_left _ _ (lt-ltb n (generation_at (object_at h) a) older)
 
-  pub older_place : (a : Addr) → n < generation_at (object_at h) a → place ms a ≡ a
-  older_place a older = ap (λ o. place_by o a) (older_none a older)
+  pub older_forwarding : (a : Addr) → n < generation_at (object_at h) a → forwarding ms a ≡ a
+  older_forwarding a older = ap (λ o. forwarding_by o a) (older_none a older)
 
   pub move_kept : (k : ℕ) → k < length ms → kept h n ms (move_at ms k).from ≡ is_kept_fate (move_at ms k).fate
   move_kept k within =
@@ -127,14 +127,14 @@ module _ {h : Heap} {n : ℕ} (sound : IsSound h) {ms : List Move} (moves : AreM
       i || is_kept_by (find_move ms (move_at ms k).from))
       ∙ ap is_kept_by (find_at ms k moves.rising within)
 
-  pub move_place : (k : ℕ) → k < length ms → place ms (move_at ms k).from ≡ (move_at ms k).to
-  move_place k within = ap (λ o. place_by o (move_at ms k).from) (find_at ms k moves.rising within)
+  pub move_forwarding : (k : ℕ) → k < length ms → forwarding ms (move_at ms k).from ≡ (move_at ms k).to
+  move_forwarding k within = ap (λ o. forwarding_by o (move_at ms k).from) (find_at ms k moves.rising within)
 
   -- what is pinned stays in place
-  pub pinned_place : (k : ℕ) → k < length ms → (move_at ms k).fate ≡ Pinned
+  pub pinned_address : (k : ℕ) → k < length ms → (move_at ms k).fate ≡ Pinned
       → (move_at ms k).to ≡ (move_at ms k).from
-  pinned_place k within pinned =
-      subst (λ w. Fits w h.spare (room_at h ms k).cursors (move_at ms k).from (move_at ms k).to
+  pinned_address k within pinned =
+      subst (λ w. Fits w h.free (room_at h ms k).cursors (move_at ms k).from (move_at ms k).to
       (move_at ms k).generation (cells_of (placed_at h (move_at ms k).from))) pinned (moves.fits k within)
 
   pub kept_cases : (a : Addr) → kept h n ms a ≡ true → (n < generation_at (object_at h) a)
@@ -143,7 +143,7 @@ module _ {h : Heap} {n : ℕ} (sound : IsSound h) {ms : List Move} (moves : AreM
     | inl is ↦
         let (k, at) = moves.all a is in
         let goes = sym (move_kept k at.0) ∙ ap (kept h n ms) at.1 ∙ e in
-        let to = ap (place ms) (sym at.1) ∙ move_place k at.0 in
+        let to = ap (forwarding ms) (sym at.1) ∙ move_forwarding k at.0 in
         inr (k, record { within = at.0; from = at.1; kept = goes; to = to })
     | inr other ↦ elim (or_cases _ _ e) [
       | inl older ↦ inl (ltb-true n (generation_at (object_at h) a) older)
@@ -160,11 +160,11 @@ module _ {h : Heap} {n : ℕ} (sound : IsSound h) {ms : List Move} (moves : AreM
 
   pub rests_or_moves : (a : Addr) → kept h n ms a ≡ true → RestsOrMoves h ms a
   rests_or_moves a e = elim (kept_cases a e) [
-    | inl older ↦ rests (older_object a older) (older_place a older)
+    | inl older ↦ rests (older_object a older) (older_forwarding a older)
     | inr (k, by) ↦ elim (moving_or_staying (move_at ms k).fate by.kept) [
       | inl moving ↦ moves_by k by.within by.from moving by.to
       | inr pinned ↦ rests (ap (has_object h) (sym by.from) ∙ (is_condemned_at k by.within).object)
-          (by.to ∙ pinned_place k by.within pinned ∙ by.from)
+          (by.to ∙ pinned_address k by.within pinned ∙ by.from)
     ]
   ]
 
@@ -177,9 +177,9 @@ module _ {h : Heap} {n : ℕ} (sound : IsSound h) {ms : List Move} (moves : AreM
     | inr none ↦ none
   ]
 
-  pub places_apart : (a b : Addr) → kept h n ms a ≡ true → kept h n ms b ≡ true → place ms a ≡ place ms b
-      → a ≡ b
-  places_apart a b ka kb same = elim (rests_or_moves a ka) [
+  pub forwards_apart : (a b : Addr) → kept h n ms a ≡ true → kept h n ms b ≡ true → forwarding ms a
+      ≡ forwarding ms b → a ≡ b
+  forwards_apart a b ka kb same = elim (rests_or_moves a ka) [
     | rests object rest ↦ elim (rests_or_moves b kb) [
       | rests object2 rest2 ↦ sym rest ∙ same ∙ rest2
       | moves_by k low from moving to ↦ absurd (true≢false (sym object
@@ -204,10 +204,10 @@ module _ {h : Heap} {n : ℕ} (sound : IsSound h) {ms : List Move} (moves : AreM
     | inr (k, by) ↦ ap (has_object h) (sym by.from) ∙ (is_condemned_at k by.within).object
   ]
 
-  pub keeping : IsKeeping (object_at h) n (kept h n ms) (place ms)
+  pub keeping : IsKeeping (object_at h) n (kept h n ms) (forwarding ms)
   keeping = record {
     objects = keeps_objects;
     older = older_kept;
-    in_place = older_place;
-    apart = places_apart;
+    in_place = older_forwarding;
+    apart = forwards_apart;
   }

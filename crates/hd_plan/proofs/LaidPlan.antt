@@ -2,15 +2,15 @@
 use Rattle.std.proofs.lemmas.List.Filters.{length-filter_both}
 use Rattle.hd_heap.proofs.NextObjects.{condemned_has, generation_is}
 use Rattle.hd_model.specs.declared.limits.TheConstants.{REGIONS}
-use Rattle.hd_plan.specs.LaySteps.{HasPlaces, IsLaidTo, place_from}
-use Rattle.hd_plan.proofs.Basics.{Addr, AllocCursors, AreMoves, Bool, Counts, HasNoEmptyCondemned, Heap, IsClosed, IsCondemned, IsField, IsLaid, IsSettled, IsSound, List, Move, PlanOf, REGION, and_from, and_parts, ap, arith, cases_eq, count_by, false, first_at, has_object, inl, inr, is_kept_fate, is_staying, kept_in, length, length-filter, move_at, not, not-true, object_at, objects_of, place_among, place_in, refl, region_generation, region_of, stays_in, subst, suc, sym, true, true≢false, zero, ℕ, ◌+◌, ◌-◌, ◌<◌, ◌^◌, ◌∙◌, ◌≡◌, ◌≤◌}
-use Rattle.hd_plan.proofs.{CondemnedAddresses.condemned_is, CondemnedAddresses.condemned_of, CondemnedAddresses.older_or_young, CondemnedAddresses.region_young, CondemnedAddresses.same_tests, KeptMoves.is_condemned_at, KeptMoves.older_kept, KeptMoves.older_place, KeptMoves.move_kept, KeptMoves.move_place, KeptMoves.kept_cases, KeptMoves.keeping, KeptMoves.pinned_place, KeptMoves.staying_is, MoveWeights.counts_moves, LayStep.address_low, LayStep.moves_like, RegionList.region_condemned, RegionList.regions_like}
+use Rattle.hd_plan.specs.Inside.{HasForwards, IsLaidTo, forwarding_from}
+use Rattle.hd_plan.proofs.Basics.{Addr, AllocCursors, AreMoves, Bool, Counts, HasNoEmptyCondemned, Heap, IsClosed, IsCondemned, IsField, IsLaid, IsSettled, IsSound, List, Move, PlanOf, REGION, and_from, and_parts, ap, arith, cases_eq, count_by, false, first_at, has_object, inl, inr, is_kept_fate, is_staying, kept_in, length, length-filter, move_at, not, not-true, object_at, objects_of, forwarding_among, forwarding_in, refl, region_generation, region_of, stays_in, subst, suc, sym, true, true≢false, zero, ℕ, ◌+◌, ◌-◌, ◌<◌, ◌^◌, ◌∙◌, ◌≡◌, ◌≤◌}
+use Rattle.hd_plan.proofs.{CondemnedAddresses.condemned_is, CondemnedAddresses.condemned_of, CondemnedAddresses.older_or_young, CondemnedAddresses.region_young, CondemnedAddresses.same_tests, KeptMoves.is_condemned_at, KeptMoves.older_kept, KeptMoves.older_forwarding, KeptMoves.move_kept, KeptMoves.move_forwarding, KeptMoves.kept_cases, KeptMoves.keeping, KeptMoves.pinned_address, KeptMoves.staying_is, MoveWeights.counts_moves, LayStep.address_low, LayStep.moves_like, RegionList.region_condemned, RegionList.regions_like}
 
 -- what a plan that was laid promises
 pub record IsLaidFrom (p : PlanOf) (promoted pinned : Addr → Bool) : Type 0 where
   pub laid : IsLaid p
   pub kept : (a : Addr) → kept_in p a ≡ promoted a
-  pub in_place : (a : Addr) → promoted a ≡ true → pinned a ≡ true → place_in p a ≡ a
+  pub in_place : (a : Addr) → promoted a ≡ true → pinned a ≡ true → forwarding_in p a ≡ a
   pub stays : Counts
       (λ a. IsCondemned (objects_of p.basis) p.basis.condemned a × (promoted a ≡ true) × (pinned a ≡ true))
       (stays_in p)
@@ -75,11 +75,11 @@ module _ {p : PlanOf} {promoted pinned : Addr → Bool} {firsts : List ℕ} {cel
         };
         kept = is;
         in_place = λ a e f. elim (older_or_young h n a (settled.objects a e)) [
-          | inl older ↦ older_place sound moves a older
+          | inl older ↦ older_forwarding sound moves a older
           | inr young ↦
               let (k, at) = moves.all a young in
-              subst (λ (x : Addr). place_in p x ≡ x) at.1 (move_place sound moves k at.0
-              ∙ pinned_place sound moves k at.0 (staying_is _ (stays_at k at.0 a at.1 e f)))
+              subst (λ (x : Addr). forwarding_in p x ≡ x) at.1 (move_forwarding sound moves k at.0
+              ∙ pinned_address sound moves k at.0 (staying_is _ (stays_at k at.0 a at.1 e f)))
         ];
         stays = counts_moves p.moves moves.rising (λ m. is_staying m.fate)
             (λ a. IsCondemned (object_at h) n a × (promoted a ≡ true) × (pinned a ≡ true))
@@ -90,10 +90,10 @@ module _ {p : PlanOf} {promoted pinned : Addr → Bool} {firsts : List ℕ} {cel
       }
 
 -- the new address of a kept object is found in the table
-pub place_found : {p : PlanOf} {firsts : List ℕ} {cells : List Addr} → IsLaid p
-    → HasPlaces p.moves p.regions firsts cells → (a : Addr) → kept_in p a ≡ true
-    → place_among firsts cells a ≡ place_in p a
-place_found {p} {firsts} {cells} laid is a kept_is =
+pub forwarding_found : {p : PlanOf} {firsts : List ℕ} {cells : List Addr} → IsLaid p
+    → HasForwards p.moves p.regions firsts cells → (a : Addr) → kept_in p a ≡ true
+    → forwarding_among firsts cells a ≡ forwarding_in p a
+forwarding_found {p} {firsts} {cells} laid is a kept_is =
     let h : Heap = p.basis.heap in
     elim (kept_cases laid.sound laid.moves a kept_is) [
       | inl older ↦
@@ -106,17 +106,17 @@ place_found {p} {firsts} {cells} laid is a kept_is =
                 absurd (let known = generation_is h a (laid.keeping.objects a kept_is) in
                 omega (arith, known, ap (region_generation h) at.1))
           ] in
-          ap (λ x. place_from x cells a) none ∙ sym (older_place laid.sound laid.moves a older)
+          ap (λ x. forwarding_from x cells a) none ∙ sym (older_forwarding laid.sound laid.moves a older)
       | inr (j, by) ↦
-          subst (λ (x : Addr). place_among firsts cells x ≡ place_in p x) by.from (
+          subst (λ (x : Addr). forwarding_among firsts cells x ≡ forwarding_in p x) by.from (
           let from : Addr = (move_at p.moves j).from in
           let (k, at) = laid.regions.all (region_of from)
           (region_young laid.sound from (is_condemned_at laid.sound laid.moves j by.within)) in
           let first : first_at firsts (region_of from) ≡ suc k =
           ap (first_at firsts) (sym at.1) ∙ is.listed k at.0 ∙ omega arith in
-          ap (λ x. place_from x cells from) first
-          ∙ is.places j k by.within at.0 at.1
-          ∙ sym (move_place laid.sound laid.moves j by.within))
+          ap (λ x. forwarding_from x cells from) first
+          ∙ is.forwards j k by.within at.0 at.1
+          ∙ sym (move_forwarding laid.sound laid.moves j by.within))
     ]
 
 module _ {p : PlanOf} (laid : IsLaid p) where

@@ -157,13 +157,13 @@ module _ {h : Heap} {n : ℕ} (sound : IsSound h) {promoted pinned : Addr → Bo
     {cursors : AllocCursors} {bound : ℕ} (laying : IsLaying h n promoted pinned ms cursors bound) where
   pub may_put : (g : ℕ) → HasFreeRegions h n → (0 < g) × (g ≤ 2)
       → CanPutAt h (cursor_of cursors g) cursors.opened
-  may_put g spare young =
+  may_put g free young =
       let fit = cells_fit ms laying.to.rising h n (λ k low.
-      condemned_of h n (move_at ms k).from (laying.to.condemned k low).0) spare.cells spare.cells_are in
+      condemned_of h n (move_at ms k).from (laying.to.condemned k low).0) free.cells free.cells_are in
       let laid = laying.laid in
       subst (λ (s : AllocCursors). CanPutAt h (cursor_of s g) s.opened) laying.cursors_are
-      (can_put h sound (room_at h ms (length ms)) laying.room g young spare.cells (omega arith)
-      spare.small spare.enough)
+      (can_put h sound (room_at h ms (length ms)) laying.room g young free.cells (omega arith)
+      free.small free.enough)
 
   pub laying_next : (new : AllocCursors) (m : Move) → IsNextFrom h n bound m.from
       → IsMoveOf h n (promoted m.from) (pinned m.from) cursors new m
@@ -175,7 +175,7 @@ module _ {h : Heap} {n : ℕ} (sound : IsSound h) {promoted pinned : Addr → Bo
       let young : (0 < m.generation) × (m.generation ≤ 2) =
       subst (λ (x : ℕ). (0 < x) × (x ≤ 2)) (sym is.generation) (raised_most n _ condemned.young) in
       let fits : FitsMove h q m = subst (λ (s : AllocCursors).
-      Fits m.fate h.spare s m.from m.to m.generation cells) (sym laying.cursors_are) is.fits in
+      Fits m.fate h.free s m.from m.to m.generation cells) (sym laying.cursors_are) is.fits in
       let more = room_pushed h ms m in
       record {
         to = to_next h n ms bound m laying.to next is.generation is.fields fits;
@@ -187,7 +187,7 @@ module _ {h : Heap} {n : ℕ} (sound : IsSound h) {promoted pinned : Addr → Bo
         room = subst (IsRoom h) (sym more) (goes h sound q laying.room m.from m.to m.generation cells young
             (cells_some sound m.from condemned.object) m.fate fits).room;
         cursors_are = ap (λ (r : Room). r.cursors) more
-            ∙ ap (λ (s : AllocCursors). put_cursors m.fate h.spare s m.generation cells) laying.cursors_are
+            ∙ ap (λ (s : AllocCursors). put_cursors m.fate h.free s m.generation cells) laying.cursors_are
             ∙ sym is.cursors;
         laid = (let known = ap (λ (r : Room). r.cells) more in
             let also = sum_by_push (λ (x : Move). cells_of (placed_at h x.from)) ms m in

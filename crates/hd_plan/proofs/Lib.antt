@@ -10,7 +10,7 @@ pub mod KeptMoves
 pub mod MoveWeights
 pub mod LayStep
 pub mod CommitShape
-pub mod CommitImage
+pub mod KeptObjectSteps
 pub mod CommitGenerations
 pub mod CommitResult
 pub mod RegionList

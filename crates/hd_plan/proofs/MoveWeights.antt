@@ -1,4 +1,4 @@
--- How many moves there are and the words of their objects, against all that is condemned; and sums over maps.
+-- How many moves there are and the cells of their objects, against all that is condemned; and sums over maps.
 use Rattle.hd_plan.proofs.Basics.{Addr, AllPairs, Bool, Contains, Counts, Heap, IsCondemned, IsRising, List, Move, Takes, [], ap, arith, cases_order, cells_laid, cells_of, count_by, counts_named, fewer, filter, get_or, get_or_default, inl, inr, is_condemned, length, length-filter, length-map, lighter, map, mapped_from, move_at, object_at, pairs_passing, passing_from, passing_in, placed_at, refl, subst, sum_by, sum_by-cons, sym, true, ℕ, ◌+◌, ◌<◌, ◌∙◌, ◌∷◌, ◌≡◌, ◌≢◌, ◌≤◌, FinMap, Some, T, both, entries, entries_sorted, find, first_alone, found_first, found_later, get, get-entries, get_left, is_sorted, nat_cmp, remove, share, sum-remove, values}
 use Rattle.hd_model.proofs.Members.{pairs_mapped}
 use Rattle.hd_plan.proofs.CondemnedAddresses.{condemned_is}
@@ -78,7 +78,7 @@ module _ (ms : List Move) (rising : IsRising ms) where
         pairs_mapped (λ x y. x.from ≢ y.from) (λ x y. x ≢ y) (λ m. m.from) ms (λ x y apart. apart)
         froms_differ
 
-    -- moves of what is condemned take at most as many words as that
+    -- moves of what is condemned take at most as many cells as that
     pub cells_fit : (cells : ℕ) → Takes h (IsCondemned (object_at h) n) cells → cells_laid h ms ≤ cells
     cells_fit cells takes =
         let known =

@@ -1,7 +1,7 @@
 -- The regions that are not older after the moving: each has an object that stays, or was opened.
 use Rattle.hd_plan.proofs.Basics.{Addr, AllPairs, AreMoves, Bool, Contains, FinMap, HasStay, Heap, IsPacked, IsSound, IsYoungRegion, LEFT, List, Move, OPEN, WasFree, [], ap, arith, cases_Bool, cells_of, cond, counts_keys, counts_le, counts_where, false, fewer, filter, first_in, get, get_left, get_or-take, has-get, has_object, inl, inr, is_in_use, is_moving, is_older_region, is_staying, later_in, len, length, length-append, length-filter, length-map, length-take, lighter, map, mapped_in, member_at, member_cases, move_at, nat_cmp, nat_lt, not, not-true, not_in_none, pairs_cons, pairs_first, pairs_none, pairs_passing, pairs_rest, passing_from, passing_in, placed_at, refl, region_at, region_generation, region_of, remove, same_address, share, stays_among, subst, suc, sum-remove, sum_by, sum_by-cons, sym, take, true, used_of, values, zero, ℕ, ⊎_elim, ◌&&◌, ◌++◌, ◌+◌, ◌/◌, ◌<◌, ◌∙◌, ◌∷◌, ◌≡◌, ◌≢◌, ◌≤◌, ◌⊎◌}
 use Rattle.std.proofs.lemmas.List.Elements.{Contains-append_left, Contains-append_right}
-use Rattle.hd_plan.specs.{CommitSteps.IsCopiedTo, Layout.room_at}
+use Rattle.hd_plan.specs.{Inside.IsCopiedTo, Layout.room_at}
 use Rattle.hd_plan.proofs.{CommitCopies.get_placed, KeptMoves.all_put, MoveEnds.ends_more, RoomSteps.begun_most}
 
 -- the addresses to which the first k moves copy
@@ -44,7 +44,7 @@ apart_tos ms (suc k) apart =
       | inr stays ↦ subst (AllPairs (λ x y. x ≢ y)) (sym (tos_step ms k false stays)) rest
     ]
 
--- the words that the first k moves moved, by where they went
+-- the cells that the first k moves moved, by where they went
 cells_tos : (h : Heap) (ms : List Move) (w : Addr → ℕ) (k : ℕ)
     → ((j : ℕ) → j < k → is_moving (move_at ms j).fate ≡ true
     → w (move_at ms j).to ≡ cells_of (placed_at h (move_at ms j).from))
@@ -73,7 +73,7 @@ IsTaken h ms r = HasStay ms r ⊎ WasFree h (room_at h ms (length ms)).cursors.o
 -- the regions in which an object stays, one for each such object, and those that were opened
 taken : Heap → List Move → List ℕ
 taken h ms = map (λ (m : Move). region_of m.from) (filter (λ (m : Move). is_staying m.fate) ms)
-    ++ take (room_at h ms (length ms)).cursors.opened h.spare
+    ++ take (room_at h ms (length ms)).cursors.opened h.free
 
 taken_in : (h : Heap) (ms : List Move) (r : ℕ) → IsTaken h ms r → Contains (taken h ms) r
 unfolding taken
@@ -88,8 +88,8 @@ taken_in h ms r (inr was) =
     let within = was.within in
     Contains-append_right
     (map (λ (m : Move). region_of m.from) (filter (λ (m : Move). is_staying m.fate) ms)) _ r
-    (member_at (take opened h.spare) was.at 0 r (omega (arith, length-take opened h.spare))
-    (get_or-take opened h.spare was.at 0 before ∙ was.number))
+    (member_at (take opened h.free) was.at 0 r (omega (arith, length-take opened h.free))
+    (get_or-take opened h.free was.at 0 before ∙ was.number))
 
 taken_many : (h : Heap) (ms : List Move)
     → length (taken h ms) ≤ stays_among ms + (room_at h ms (length ms)).cursors.opened
@@ -97,10 +97,10 @@ unfolding taken
 taken_many h ms =
     let opened = (room_at h ms (length ms)).cursors.opened in
     let stays = filter (λ (m : Move). is_staying m.fate) ms in
-    let known = length-append (map (λ (m : Move). region_of m.from) stays) (take opened h.spare) in
+    let known = length-append (map (λ (m : Move). region_of m.from) stays) (take opened h.free) in
     let also = length-map stays (λ (m : Move). region_of m.from) in
     let more = length-filter (λ (m : Move). is_staying m.fate) ms in
-    omega (arith, known, also, more, length-take opened h.spare)
+    omega (arith, known, also, more, length-take opened h.free)
 
 -- a heap whose older regions are as they were, and whose others each have an object that stays or were
 -- opened, with what moves in them: packed

@@ -3,7 +3,7 @@ use Rattle.hd_plan.proofs.Basics.{Addr, AllocCursors, IsFirstObject, IsMoveOf, O
 use Rattle.hd_model.specs.Heap.{region_of}
 use Rattle.hd_heap.specs.Walks.{end_in}
 use Rattle.hd_heap.proofs.NextObjects.{IsNextFrom, end_later, next_from, none_inside}
-use Rattle.hd_plan.specs.{declared.cursors.AllocCursor.AllocCursor, LaySteps.AreLaidIn, LaySteps.with_cursor_at}
+use Rattle.hd_plan.specs.{declared.cursors.AllocCursor.AllocCursor, Inside.AreLaidIn, Inside.with_cursor_at}
 use Rattle.hd_plan.proofs.{CondemnedAddresses.condemned_of, LayStep.laying_next, LayStep.laying_past, LayStep.no_move, LayStep.push_before, LayStep.push_each, LayStep.push_found, LayStep.push_last, LayStep.push_length, MoveWeights.moves_fit}
 
 -- the cursors with one of a generation: it is read, replaced by another one, and may be its own

@@ -1,22 +1,22 @@
 -- Condemned regions are laid one after another: each is listed, and its objects have their new addresses in
 -- the table.
-use Rattle.hd_plan.proofs.Basics.{Addr, AllocCursors, AreRegionsOf, Bool, Condemned, Contains, Counts, HasCondemned, HasPlaces, HasStay, Heap, IsCondemnedRegion, IsLaying, IsSound, List, Move, REGION, [], ap, arith, cases_eq, cases_lt, cell_at, condemned_at, false, first_at, fewer, get_or-map, get_or-set_other, get_or-set_same, inl, inr, is_condemned, length, length-map, map, member_cases, move_at, pairs_cons, raised, refl, region_generation, set, slice_index_or, spot_in, subst, sym, true, ℕ, ⊎_elim, ◌*◌, ◌++◌, ◌+◌, ◌<◌, ◌∙◌, ◌∷◌, ◌≡◌, ◌≢◌, ◌≤◌, ◌↔◌}
+use Rattle.hd_plan.proofs.Basics.{Addr, AllocCursors, AreRegionsOf, Bool, Condemned, Contains, Counts, HasCondemned, HasForwards, HasStay, Heap, IsCondemnedRegion, IsLaying, IsSound, List, Move, REGION, [], ap, arith, cases_eq, cases_lt, cell_at, condemned_at, false, first_at, fewer, get_or-map, get_or-set_other, get_or-set_same, inl, inr, is_condemned, length, length-map, map, member_cases, move_at, pairs_cons, raised, refl, region_generation, set, slice_index_or, spot_in, subst, sym, true, ℕ, ⊎_elim, ◌*◌, ◌++◌, ◌+◌, ◌<◌, ◌∙◌, ◌∷◌, ◌≡◌, ◌≢◌, ◌≤◌, ◌↔◌}
 use Rattle.std.proofs.Common.{replicate}
 use Rattle.hd_model.proofs.ReadAfterWrite.{replicate_cases}
 use Rattle.hd_model.specs.{Heap.region_of, declared.limits.TheConstants.REGIONS}
 use Rattle.hd_heap.proofs.NextObjects.{condemned_has}
-use Rattle.hd_plan.specs.{Layout.room_at, LaySteps.AreLaidIn, LaySteps.AreRegionsTo, LaySteps.IsLaidTo}
+use Rattle.hd_plan.specs.{Layout.room_at, Inside.AreLaidIn, Inside.AreRegionsTo, Inside.IsLaidTo}
 use Rattle.hd_plan.proofs.{CondemnedAddresses.condemned_of, CondemnedAddresses.region_young, LayStep.address_low, LayStep.laying_past, LayStep.laying_start, LayStep.push_each, LayStep.push_found, LayStep.push_length, LayStep.push_rising}
 
 -- no region is listed in a new table
-pub places_none : (end : ℕ) (firsts : List ℕ) (cells : List Addr) → firsts ≡ replicate end 0
-    → HasPlaces [] [] firsts cells
-places_none end firsts cells new = record {
+pub forwards_none : (end : ℕ) (firsts : List ℕ) (cells : List Addr) → firsts ≡ replicate end 0
+    → HasForwards [] [] firsts cells
+forwards_none end firsts cells new = record {
   listed = λ k low. absurd (omega arith);
   others = λ r some. absurd (some (ap (λ ns. first_at ns r) new
       ∙ replicate_cases (λ x. x ≡ 0) end r 0 0 refl refl));
   spots = omega arith;
-  places = λ j k low high. absurd (omega arith);
+  forwards = λ j k low high. absurd (omega arith);
 }
 
 abbrev no_region : Condemned
@@ -66,11 +66,11 @@ module _ {h : Heap} (sound : IsSound h) {n : ℕ} where
 
   module _ {promoted pinned : Addr → Bool} where
     -- before the first region
-    pub laid_start : (firsts : List ℕ) (cells : List Addr) → HasPlaces [] [] firsts cells
+    pub laid_start : (firsts : List ℕ) (cells : List Addr) → HasForwards [] [] firsts cells
         → IsLaidTo h n promoted pinned [] [] firsts cells
         (record { first = record { region = 0; fill = 0 }; second = record { region = 0; fill = 0 }; opened = 0 })
         1
-    laid_start firsts cells places = record {
+    laid_start firsts cells forwards = record {
       laying = laying_past sound (laying_start h n promoted pinned) (1 * REGION) (omega arith)
           (λ a is low. omega (arith, (address_low h sound a (condemned_has h n a is)).0));
       regions = record {
@@ -80,7 +80,7 @@ module _ {h : Heap} (sound : IsSound h) {n : ℕ} where
         generations = λ k low. absurd (omega arith);
         pinned = λ k low. absurd (omega arith);
       };
-      places = places;
+      forwards = forwards;
     }
 
     -- no condemned object is in the regions between two numbers
@@ -102,7 +102,7 @@ module _ {h : Heap} (sound : IsSound h) {n : ℕ} where
               absurd (omega (arith, up, has.0.1.1, has.1))
         ],
       ));
-      places = is.places;
+      forwards = is.forwards;
     }
 
     -- none is left
@@ -155,10 +155,10 @@ module _ {h : Heap} (sound : IsSound h) {n : ℕ} where
                 );
           }
 
-      places_more : x.region < length firsts → REGION * (length cs + 1) ≤ length cells
-          → HasPlaces new (cs ++ x ∷ []) (set firsts x.region (length cs + 1)) after
-      places_more span room =
-          let is = so_far.places in
+      forwards_more : x.region < length firsts → REGION * (length cs + 1) ≤ length cells
+          → HasForwards new (cs ++ x ∷ []) (set firsts x.region (length cs + 1)) after
+      forwards_more span room =
+          let is = so_far.forwards in
           let there : (q : ℕ) → q ≢ x.region → first_at (set firsts x.region (length cs + 1)) q ≡ first_at firsts q =
           λ q apart. get_or-set_other firsts x.region q (length cs + 1) 0 apart in
           record {
@@ -171,13 +171,13 @@ module _ {h : Heap} (sound : IsSound h) {n : ℕ} where
               | inr other ↦ inr (is.others q (λ e. first (there q other ∙ e)))
             ]);
             spots = omega (arith, room, push_length no_region cs x, these.long);
-            places = λ j k low high. push_each no_region cs x
+            forwards = λ j k low high. push_each no_region cs x
                 (λ i y. y.region ≡ region_of (move_at new j).from
                 → cell_at after (spot_in i (move_at new j).from) ≡ (move_at new j).to)
                 (λ i inside same. ⊎_elim (λ here. absurd (omega (arith, below i inside, same, here)))
                 (λ was. subst (λ (m : Move). cell_at after (spot_in i m.from) ≡ m.to) (sym was.1)
                 (these.same _ (omega (arith, inside))
-                ∙ is.places j i was.0 inside (same ∙ ap (λ (m : Move). region_of m.from) was.1))) (these.each j low))
+                ∙ is.forwards j i was.0 inside (same ∙ ap (λ (m : Move). region_of m.from) was.1))) (these.each j low))
                 (λ same. these.placed j low (sym same)) k high;
           }
 
@@ -190,5 +190,5 @@ module _ {h : Heap} (sound : IsSound h) {n : ℕ} where
       laid_region laying generation span room = record {
         laying = laying;
         regions = regions_more generation;
-        places = places_more span room;
+        forwards = forwards_more span room;
       }

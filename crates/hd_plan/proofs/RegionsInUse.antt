@@ -33,14 +33,14 @@ still_there h k o a is = elim (cases_eq a.0 k) [
 put_filled : (h : Heap) (at : Addr) (o : Placed)
     → at.0 ≡ region_of at * REGION + (region_at h (region_of at)).fill → HasNoEmptyRegion h
     → HasNoEmptyRegion (with_put h (region_of at) 0 o)
-put_filled h at o place full r held =
+put_filled h at o address full r held =
     elim (cases_eq r (region_of at)) [
       | inl same ↦ record {
         at = at;
         object = has-get (with_put h (region_of at) 0 o) at
             ∙ ap is_some (get_same h.objects (region_of at * REGION + (region_at h (region_of at)).fill) at.0
             o
-            place);
+            address);
         region = sym same;
       }
       | inr other ↦
@@ -56,7 +56,7 @@ pub filled_made : (old new : Heap) (at : Addr) (o : Placed) → IsMade old new a
     → HasNoEmptyRegion new
 filled_made old new at o is full =
     subst HasNoEmptyRegion (sym is.made)
-    (λ r held. let s = put_filled old at o is.place full r held in
+    (λ r held. let s = put_filled old at o is.address full r held in
     record { at = s.at; object = s.object; region = s.region })
 
 -- there is no region in use in an empty heap

@@ -9,7 +9,7 @@ Regions = FinMap nat_cmp Region
 -- the region of an address
 pub region_is : (a : Addr) (r off : ℕ) → a.0 ≡ r * REGION + off → off < REGION → region_of a ≡ r
 unfolding region_of
-region_is a r off place low = omega arith
+region_is a r off address low = omega arith
 
 pub region_low : (a : Addr) → region_of a * REGION ≤ a.0
 unfolding region_of
@@ -64,14 +64,14 @@ alters_opened ps r g cells =
     }
 
 -- where nothing moves the room stays
-pub room_rests : (w : Fate) → is_moving w ≡ false → (spare : List ℕ) (q : Room) (g cells : ℕ)
-    → put_fate w spare q g cells ≡ q
-room_rests Dead e spare q g cells = let none : q.cells + 0 ≡ q.cells = omega arith in
+pub room_rests : (w : Fate) → is_moving w ≡ false → (free : List ℕ) (q : Room) (g cells : ℕ)
+    → put_fate w free q g cells ≡ q
+room_rests Dead e free q g cells = let none : q.cells + 0 ≡ q.cells = omega arith in
     λ j. record q { cells = none j }
-room_rests Pinned e spare q g cells = let none : q.cells + 0 ≡ q.cells = omega arith in
+room_rests Pinned e free q g cells = let none : q.cells + 0 ≡ q.cells = omega arith in
     λ j. record q { cells = none j }
-room_rests MovesToNewRegion e spare q g cells = absurd (cc e)
-room_rests Moves e spare q g cells = absurd (cc e)
+room_rests MovesToNewRegion e free q g cells = absurd (cc e)
+room_rests Moves e free q g cells = absurd (cc e)
 
 module _ (h : Heap) where
   pub no_cursor : (rs : FinMap nat_cmp Region) (g : ℕ) → IsCursor h rs g (record { region = 0; fill = 0 })
@@ -125,7 +125,7 @@ module _ (h : Heap) where
       number none =
           let was = puts.was in
           let low : 0 < c.region =
-          subst (λ (x : ℕ). 0 < x) was.number (sound.spare_numbers was.at was.within).0 in
+          subst (λ (x : ℕ). 0 < x) was.number (sound.free_numbers was.at was.within).0 in
           omega arith
 
       here_region : region_in p.regions c.region ≡ record { generation = g; fill = c.fill }
@@ -275,9 +275,9 @@ module _ (h : Heap) where
 
     -- an object that does not move
     rests : (w : Fate) → is_moving w ≡ false → (q : Room) → IsRoom h q → (to : Addr) (g cells : ℕ)
-        → Goes false q (put_fate w h.spare q g cells) to g cells
+        → Goes false q (put_fate w h.free q g cells) to g cells
     rests w e q room to g size =
-        subst (λ (x : Room). Goes false q x to g size) (sym (room_rests w e h.spare q g size)) (record {
+        subst (λ (x : Room). Goes false q x to g size) (sym (room_rests w e h.free q g size)) (record {
           room = room;
           stays = λ x k c is. is;
           puts = λ e. absurd (true≢false (sym e));
@@ -288,18 +288,18 @@ module _ (h : Heap) where
     module _ (q : Room) (room : IsRoom h q) (from to : Addr) (g cells : ℕ) (young : (0 < g) × (g ≤ 2))
         (small : (0 < cells) × (cells ≤ FIELDS + HEADER)) where
       -- the region that is opened was not in use
-      opened_new : q.cursors.opened < length h.spare
-          → has_region q.regions (slice_index h.spare q.cursors.opened) ≡ true → ⊥
+      opened_new : q.cursors.opened < length h.free
+          → has_region q.regions (slice_index h.free q.cursors.opened) ≡ true → ⊥
       opened_new within has = elim (room.held _ has) [
-        | inl held ↦ true≢false (sym held ∙ sound.spare_free q.cursors.opened within)
-        | inr was ↦ sound.spare_apart was.at q.cursors.opened was.before within was.number
+        | inl held ↦ true≢false (sym held ∙ sound.free_unused q.cursors.opened within)
+        | inr was ↦ sound.free_apart was.at q.cursors.opened was.before within was.number
       ]
 
-      opens_puts : Opened h.spare q.cursors to g cells
-          → Puts q (put_fate MovesToNewRegion h.spare q g cells) g (opened_cursor h.spare q.cursors cells)
+      opens_puts : Opened h.free q.cursors to g cells
+          → Puts q (put_fate MovesToNewRegion h.free q g cells) g (opened_cursor h.free q.cursors cells)
       opens_puts is = record {
         regions = alters_opened q.regions _ g cells;
-        new = sound.spare_free q.cursors.opened is.free;
+        new = sound.free_unused q.cursors.opened is.free;
         before = λ has. absurd (opened_new is.free has);
         grows = λ has. absurd (opened_new is.free has);
         young = young;
@@ -313,7 +313,7 @@ module _ (h : Heap) where
       }
 
       follows_puts : Followed q.cursors to g cells
-          → Puts q (put_fate Moves h.spare q g cells) g (followed_cursor q.cursors g cells)
+          → Puts q (put_fate Moves h.free q g cells) g (followed_cursor q.cursors g cells)
       follows_puts is =
           let at = (room_cursor q room g young).fresh is.begun in
           record {
@@ -333,30 +333,30 @@ module _ (h : Heap) where
           }
 
       -- an object that moves is put
-      pub goes : (w : Fate) → Fits w h.spare q.cursors from to g cells
-          → Goes (is_moving w) q (put_fate w h.spare q g cells) to g cells
+      pub goes : (w : Fate) → Fits w h.free q.cursors from to g cells
+          → Goes (is_moving w) q (put_fate w h.free q g cells) to g cells
       goes Dead fits = rests Dead refl q room to g cells
       goes Pinned fits = rests Pinned refl q room to g cells
       goes MovesToNewRegion fits =
-          let r : region_of to ≡ slice_index h.spare q.cursors.opened =
-          region_is to _ 0 (let p = fits.place in omega arith) (omega arith) in
-          moves room (opens_puts fits) to cells r (let p = fits.place in omega arith)
+          let r : region_of to ≡ slice_index h.free q.cursors.opened =
+          region_is to _ 0 (let p = fits.address in omega arith) (omega arith) in
+          moves room (opens_puts fits) to cells r (let p = fits.address in omega arith)
           (λ x k c is some same. opened_new fits.free
           (ap (has_region q.regions) (sym r ∙ ap region_of (sym same)) ∙ is.fresh.held))
       goes Moves fits =
           let s = cursor_of q.cursors g in
           let r : region_of to ≡ s.region =
-          region_is to s.region s.fill fits.place (let m = fits.room in omega (arith, small.0)) in
+          region_is to s.region s.fill fits.address (let m = fits.room in omega (arith, small.0)) in
           let at = (room_cursor q room g young).fresh fits.begun in
-          moves room (follows_puts fits) to cells r (let p = fits.place in omega arith)
+          moves room (follows_puts fits) to cells r (let p = fits.address in omega arith)
           (λ x k c is some same.
           let region : region_of x ≡ s.region = ap region_of same ∙ r in
           absurd (let known = ap (λ y. (region_in q.regions y).fill) region in
-          omega (arith, is.below, fits.place, region, at.1, known, ap {B = ℕ} (λ (y : Addr). y.0) same)))
+          omega (arith, is.below, fits.address, region, at.1, known, ap {B = ℕ} (λ (y : Addr). y.0) same)))
 
     -- there is room for one object more
     pub can_put : (q : Room) → IsRoom h q → (g : ℕ) → (0 < g) × (g ≤ 2) → (cells : ℕ) → q.cells ≤ cells
-        → cells < 2 ^ 38 → cells / LEFT + OPEN ≤ length h.spare
+        → cells < 2 ^ 38 → cells / LEFT + OPEN ≤ length h.free
         → CanPutAt h (cursor_of q.cursors g) q.cursors.opened
     can_put q room g young cells within small enough =
         let c = cursor_of q.cursors g in
@@ -369,10 +369,10 @@ module _ (h : Heap) where
             | inl none ↦ omega (arith, none)
             | inr some ↦ elim (room.held c.region (is.fresh some).0.held) [
               | inl held ↦ (sound.numbers c.region held).1
-              | inr was ↦ subst (λ (x : ℕ). x < 2 ^ 24) was.number (sound.spare_numbers was.at was.within).1
+              | inr was ↦ subst (λ (x : ℕ). x < 2 ^ 24) was.number (sound.free_numbers was.at was.within).1
             ]
           ];
           fill = is.fits;
-          spare = omega arith;
+          free = omega arith;
           few = omega arith;
         }

@@ -4,7 +4,7 @@ use Rattle.std.specs.FinMap.{len}
 use Rattle.hd_model.specs.{declared.data.Addr.Addr, Ages.raised, State.Object, Scene.generation_at, Scene.IsField, declared.limits.TheConstants.OLDEST, declared.limits.TheConstants.LEFT, declared.limits.TheConstants.OPEN}
 use Rattle.hd_model.specs.Heap.{Heap, card_of, region_at, is_in_use, has_object, object_at, placed_at, id_at, is_set, used_of}
 use Rattle.hd_plan.specs.{Layout.HasStay, Layout.IsCondemnedRegion, PackedRegions.IsPacked}
-use Rattle.hd_plan.specs.Plan.{PlanOf, kept_in, place_in, stays_in, HasNoEmptyRegion}
+use Rattle.hd_plan.specs.Plan.{PlanOf, kept_in, forwarding_in, stays_in, HasNoEmptyRegion}
 
 -- k has the objects, identities, fields and regions of h; values, registrations and cards may differ
 pub record IsSameShape (h k : Heap) : Type 0 where
@@ -12,12 +12,12 @@ pub record IsSameShape (h k : Heap) : Type 0 where
   pub fields : (a : Addr) → (placed_at k a).fields ≡ (placed_at h a).fields
   pub ids : (a : Addr) → id_at k a ≡ id_at h a
   pub regions : k.regions ≡ h.regions
-  pub spare : k.spare ≡ h.spare
+  pub free : k.free ≡ h.free
 
 -- an object after a collection of generation n: its fields hold new addresses, and its generation is raised
 abbrev pub moved_object : (Addr → Addr) → ℕ → Object Addr → Object Addr
-moved_object place n o =
-    record o { fields = map (option_map place) o.fields; generation = raised n o.generation }
+moved_object forwarding n o =
+    record o { fields = map (option_map forwarding) o.fields; generation = raised n o.generation }
 
 -- an object that starts in this card has a field to one of a younger generation
 pub record NeedsCard (h : Heap) (card : ℕ) : Type 0 where
@@ -45,10 +45,11 @@ pub record ChangesRegions (p : PlanOf) (old new : Heap) : Type 0 where
 -- object needs it
 pub record Commits (p : PlanOf) (old new : Heap) : Type 0 where
   pub objects : (a : Addr) → kept_in p a ≡ true
-      → object_at new (place_in p a) ≡ option_map (moved_object (place_in p) p.basis.condemned)
+      → object_at new (forwarding_in p a) ≡ option_map (moved_object (forwarding_in p) p.basis.condemned)
       (object_at old a)
-  pub ids : (a : Addr) → kept_in p a ≡ true → id_at new (place_in p a) ≡ id_at old a
-  pub only : (b : Addr) → has_object new b ≡ true → (a : Addr) × ((kept_in p a ≡ true) × (place_in p a ≡ b))
+  pub ids : (a : Addr) → kept_in p a ≡ true → id_at new (forwarding_in p a) ≡ id_at old a
+  pub only : (b : Addr) → has_object new b ≡ true → (a : Addr)
+      × ((kept_in p a ≡ true) × (forwarding_in p a ≡ b))
   pub regions : ChangesRegions p old new
   pub cards : (card : ℕ) → (is_set new card ≡ true) ↔ NeedsCard new card
   pub limit : new.limit ≡ old.limit

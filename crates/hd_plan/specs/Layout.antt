@@ -25,7 +25,7 @@ abbrev pub with_cursor : AllocCursors → ℕ → AllocCursor → AllocCursors
 with_cursor s g cursor =
     record s { first = cond (nat_eq g 1) cursor s.first; second = cond (nat_eq g 1) s.second cursor }
 
--- while objects are laid: the regions that are in use then, where each generation allocates, and the words of
+-- while objects are laid: the regions that are in use then, where each generation allocates, and the cells of
 -- the objects that moved
 pub record Room : Type 0 where
   pub regions : map.FinMap nat_cmp Region
@@ -44,54 +44,50 @@ room_of h = record {
   cells = 0;
 }
 
--- whether a region is among these, and its record
-abbrev pub has_region : map.FinMap nat_cmp Region → ℕ → Bool
-has_region rs r = map.contains_key rs r
-
 abbrev pub region_in : map.FinMap nat_cmp Region → ℕ → Region
 region_in rs r = unwrap_or (map.get rs r) (record { generation = 0; fill = 0 })
 
--- the allocation pointer of a region rises by `cells` words
+-- the allocation pointer of a region rises by `cells` cells
 abbrev pub filled : map.FinMap nat_cmp Region → ℕ → ℕ → map.FinMap nat_cmp Region
 filled rs r cells =
     map.insert rs r (record
     { generation = (region_in rs r).generation; fill = (region_in rs r).fill + cells })
 
--- where a generation allocates after an object of `cells` words: in the next free region, or after the object
+-- where a generation allocates after an object of `cells` cells: in the next free region, or after the object
 -- before it
 abbrev pub opened_cursor : List ℕ → AllocCursors → ℕ → AllocCursor
-opened_cursor spare s cells = record { region = slice_index spare s.opened; fill = cells }
+opened_cursor numbers s cells = record { region = slice_index numbers s.opened; fill = cells }
 
 abbrev pub followed_cursor : AllocCursors → ℕ → ℕ → AllocCursor
 followed_cursor s g cells =
     record { region = (cursor_of s g).region; fill = (cursor_of s g).fill + cells }
 
--- the cursors, and the regions, after an object of `cells` words met its fate
+-- the cursors, and the regions, after an object of `cells` cells met its fate
 abbrev pub put_cursors : Fate → List ℕ → AllocCursors → ℕ → ℕ → AllocCursors
-put_cursors Dead spare s g cells = s
-put_cursors Pinned spare s g cells = s
-put_cursors MovesToNewRegion spare s g cells =
-    record (with_cursor s g (opened_cursor spare s cells)) { opened = s.opened + 1 }
-put_cursors Moves spare s g cells = with_cursor s g (followed_cursor s g cells)
+put_cursors Dead numbers s g cells = s
+put_cursors Pinned numbers s g cells = s
+put_cursors MovesToNewRegion numbers s g cells =
+    record (with_cursor s g (opened_cursor numbers s cells)) { opened = s.opened + 1 }
+put_cursors Moves numbers s g cells = with_cursor s g (followed_cursor s g cells)
 
 abbrev pub put_regions : Fate → List ℕ → Room → ℕ → ℕ → map.FinMap nat_cmp Region
-put_regions Dead spare q g cells = q.regions
-put_regions Pinned spare q g cells = q.regions
-put_regions MovesToNewRegion spare q g cells =
+put_regions Dead numbers q g cells = q.regions
+put_regions Pinned numbers q g cells = q.regions
+put_regions MovesToNewRegion numbers q g cells =
     filled
-    (map.insert q.regions (slice_index spare q.cursors.opened) (record { generation = g; fill = 0 }))
-    (slice_index spare q.cursors.opened) cells
-put_regions Moves spare q g cells = filled q.regions (cursor_of q.cursors g).region cells
+    (map.insert q.regions (slice_index numbers q.cursors.opened) (record { generation = g; fill = 0 }))
+    (slice_index numbers q.cursors.opened) cells
+put_regions Moves numbers q g cells = filled q.regions (cursor_of q.cursors g).region cells
 
 abbrev pub put_fate : Fate → List ℕ → Room → ℕ → ℕ → Room
-put_fate w spare q g cells = record {
-  regions = put_regions w spare q g cells;
-  cursors = put_cursors w spare q.cursors g cells;
+put_fate w numbers q g cells = record {
+  regions = put_regions w numbers q g cells;
+  cursors = put_cursors w numbers q.cursors g cells;
   cells = q.cells + cond (is_moving w) cells 0;
 }
 
 abbrev pub put_move : Heap → Room → Move → Room
-put_move h q m = put_fate m.fate h.spare q m.generation (cells_of (placed_at h m.from))
+put_move h q m = put_fate m.fate h.free q m.generation (cells_of (placed_at h m.from))
 
 -- the room after the first k moves
 unfoldable pub room_at : Heap → List Move → ℕ → Room
@@ -99,28 +95,28 @@ room_at h ms zero = room_of h
 room_at h ms (suc k) = put_move h (room_at h ms k) (move_at ms k)
 
 -- the first free region is opened: where its generation allocates now, there is none or no room for `cells`
--- words more
-pub record Opened (spare : List ℕ) (s : AllocCursors) (to : Addr) (g cells : ℕ) : Type 0 where
-  pub free : s.opened < length spare
-  pub place : to.0 ≡ slice_index spare s.opened * REGION
+-- cells more
+pub record Opened (numbers : List ℕ) (s : AllocCursors) (to : Addr) (g cells : ℕ) : Type 0 where
+  pub free : s.opened < length numbers
+  pub address : to.0 ≡ slice_index numbers s.opened * REGION
   pub left : ((cursor_of s g).region ≡ 0) ⊎ (REGION < (cursor_of s g).fill + cells)
 
 -- the object goes after all others of the region in which its generation allocates
 pub record Followed (s : AllocCursors) (to : Addr) (g cells : ℕ) : Type 0 where
   pub begun : (cursor_of s g).region ≢ 0
-  pub place : to.0 ≡ (cursor_of s g).region * REGION + (cursor_of s g).fill
+  pub address : to.0 ≡ (cursor_of s g).region * REGION + (cursor_of s g).fill
   pub room : (cursor_of s g).fill + cells ≤ REGION
 
 -- an object may have this fate where the cursors are these
 abbrev pub Fits : Fate → List ℕ → AllocCursors → (from to : Addr) → (g cells : ℕ) → Type 0
-Fits Dead spare s from to g cells = to ≡ from
-Fits Pinned spare s from to g cells = to ≡ from
-Fits MovesToNewRegion spare s from to g cells = Opened spare s to g cells
-Fits Moves spare s from to g cells = Followed s to g cells
+Fits Dead numbers s from to g cells = to ≡ from
+Fits Pinned numbers s from to g cells = to ≡ from
+Fits MovesToNewRegion numbers s from to g cells = Opened numbers s to g cells
+Fits Moves numbers s from to g cells = Followed s to g cells
 
 abbrev pub FitsMove : Heap → Room → Move → Type 0
 FitsMove h q m =
-    Fits m.fate h.spare q.cursors m.from m.to m.generation (cells_of (placed_at h m.from))
+    Fits m.fate h.free q.cursors m.from m.to m.generation (cells_of (placed_at h m.from))
 
 -- the move of an address
 unfoldable pub find_move : List Move → Addr → Option Move
@@ -128,9 +124,9 @@ find_move [] a = None
 find_move (m ∷ ms) a = cond (nat_eq m.from.0 a.0) (Some m) (find_move ms a)
 
 -- where a move puts an address, and itself where there is no move
-abbrev pub place_by : Option Move → Addr → Addr
-place_by None a = a
-place_by (Some m) a = m.to
+abbrev pub forwarding_by : Option Move → Addr → Addr
+forwarding_by None a = a
+forwarding_by (Some m) a = m.to
 
 -- whether a move keeps its object
 abbrev pub is_kept_by : Option Move → Bool

@@ -17,8 +17,8 @@ abbrev pub IsInYoungRegion : (old new : Heap) → ℕ → Addr → Type 0
 IsInYoungRegion old new n a = (has_object new a ≡ true) × (is_older_region old n (region_of a) ≡ false)
 
 -- the older regions are as they were; all others in use, whose objects are those that were kept of the
--- condemned, are at most one for each 193 words of these objects, one for each of two generations, and one
--- for each object that stays. An object has at most 64 of the 256 words of a region, so one is left for the
+-- condemned, are at most one for each 193 cells of these objects, one for each of two generations, and one
+-- for each object that stays. An object has at most 64 of the 256 cells of a region, so one is left for the
 -- next of its generation only where 193 are taken (LEFT); generations 1 and 2 may each have one that is not
 -- full.
 pub record IsPacked (old new : Heap) (n stays : ℕ) : Type 0 where

@@ -7,7 +7,7 @@ use Rattle.hd_heap.specs.{Sound.IsSound, declared.moves.Move.Move}
 use Rattle.hd_plan.specs.declared.moves.Condemned.{Condemned}
 use Rattle.hd_heap.specs.contracts.moves.Move as move_contract
 use Rattle.hd_plan.specs.contracts.moves.Condemned as condemned_contract
-use Rattle.hd_plan.specs.Layout.{find_move, place_by, is_kept_by, stays_among, AreMoves, AreRegions, IsCondemnedRegion}
+use Rattle.hd_plan.specs.Layout.{find_move, forwarding_by, is_kept_by, stays_among, AreMoves, AreRegions, IsCondemnedRegion}
 
 -- what it was taken for, a move for each condemned object, and what becomes of each condemned region
 pub record PlanOf : Type 0 where
@@ -29,8 +29,8 @@ kept_in p a =
     nat_lt p.basis.condemned (generation_at (objects_of p.basis) a) || is_kept_by (find_move p.moves a)
 
 -- where an object goes; one without a move stays where it is
-abbrev pub place_in : PlanOf → Addr → Addr
-place_in p a = place_by (find_move p.moves a) a
+abbrev pub forwarding_in : PlanOf → Addr → Addr
+forwarding_in p a = forwarding_by (find_move p.moves a) a
 
 -- how many objects stay in place because they are pinned
 abbrev pub stays_in : PlanOf → ℕ
@@ -42,10 +42,10 @@ pub record IsLaid (p : PlanOf) : Type 0 where
   pub generation : p.basis.condemned ≤ OLDEST
   pub moves : AreMoves p.basis.heap p.basis.condemned p.moves
   pub regions : AreRegions p.basis.heap p.basis.condemned p.moves p.regions
-  pub keeping : IsKeeping (objects_of p.basis) p.basis.condemned (kept_in p) (place_in p)
+  pub keeping : IsKeeping (objects_of p.basis) p.basis.condemned (kept_in p) (forwarding_in p)
   pub closed : IsClosed (IsField (objects_of p.basis)) (kept_in p)
 
--- the objects of a property take this number of words together
+-- the objects of a property take this number of cells together
 pub record Takes (h : Heap) (P : Addr → Type 0) (cells : ℕ) : Type 0 where
   pub members : List Addr
   pub apart : AllPairs (λ x y. x ≢ y) members
@@ -54,37 +54,37 @@ pub record Takes (h : Heap) (P : Addr → Type 0) (cells : ℕ) : Type 0 where
   pub sum : sum_by (λ a. cells_of (placed_at h a)) members ≡ cells
 
 -- there are free regions for all condemned objects: each but the last one of a generation is left with at
--- least LEFT words in use
+-- least LEFT cells in use
 pub record HasFreeRegions (h : Heap) (n : ℕ) : Type 0 where
   pub cells : ℕ
   pub cells_are : Takes h (IsCondemned (object_at h) n) cells
   pub small : cells < 2 ^ 38
-  pub enough : cells / LEFT + OPEN ≤ length h.spare
+  pub enough : cells / LEFT + OPEN ≤ length h.free
 
 -- this number of free regions is needed for all condemned objects
-pub record NeedsSpare (h : Heap) (n needed : ℕ) : Type 0 where
+pub record NeedsFree (h : Heap) (n needed : ℕ) : Type 0 where
   pub cells : ℕ
   pub cells_are : Takes h (IsCondemned (object_at h) n) cells
   pub needed_is : needed ≡ cells / LEFT + OPEN
 
 -- as many regions are free as are needed, or as were before where they are more
-pub record SparesNeeded (old new : Heap) (n : ℕ) : Type 0 where
+pub record FreeNeeded (old new : Heap) (n : ℕ) : Type 0 where
   pub needed : ℕ
-  pub needs : NeedsSpare old n needed
-  pub spare : length new.spare ≡ max needed (length old.spare)
+  pub needs : NeedsFree old n needed
+  pub free : length new.free ≡ max needed (length old.free)
 
 -- no more regions are free than are needed, or than were before where they are more
-pub record SparesAtMost (old new : Heap) (n : ℕ) : Type 0 where
+pub record FreeAtMost (old new : Heap) (n : ℕ) : Type 0 where
   pub needed : ℕ
-  pub needs : NeedsSpare old n needed
-  pub spare : length new.spare ≤ max needed (length old.spare)
+  pub needs : NeedsFree old n needed
+  pub free : length new.free ≤ max needed (length old.free)
 
 -- nothing is laid yet, and there is room for all that is condemned
 pub record IsTakenPlan (p : PlanOf) : Type 0 where
   pub generation : p.basis.condemned ≤ OLDEST
   pub moves : p.moves ≡ []
   pub regions : p.regions ≡ []
-  pub spare : HasFreeRegions p.basis.heap p.basis.condemned
+  pub free : HasFreeRegions p.basis.heap p.basis.condemned
 
 -- some object starts in this region
 pub record StartsInRegion (h : Heap) (r : ℕ) : Type 0 where

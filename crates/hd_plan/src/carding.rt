@@ -4,7 +4,7 @@ ghost use Rattle.hd_model.specs.{Names.HasClosedFields, Ages.HasSoundCards, Scen
 ghost use Rattle.hd_model.specs.Heap.{has_object, object_at, card_of, is_set, is_carded};
 ghost use Rattle.hd_heap.specs.{Calls.IsWalk, Calls.with_card, Sound.IsSound, Moves.is_kept_fate, Moves.may_card, Moves.move_at};
 ghost use Rattle.hd_plan.specs.Commit.{NeedsCard};
-ghost use Rattle.hd_plan.specs.CommitSteps.{AreAlike, AreCarded, IsKeptAt, MayCard, NamesYounger, starts_in};
+ghost use Rattle.hd_plan.specs.Inside.{AreAlike, AreCarded, IsKeptAt, MayCard, NamesYounger, starts_in};
 
 use crate::moves::{Condemned, Move};
 use hd_heap::Heap;
@@ -18,7 +18,7 @@ pub(crate) fn card_kept(heap: &mut Heap, moves: &[Move], regions: &[Condemned])
     requires alike { AreAlike regions.now → (k : ℕ) → k < length moves.now
         → is_kept_fate (move_at moves.now k).fate ≡ true
         → NamesYounger heap.old (move_at moves.now k).to → ⊥ }
-    requires spared { (k : ℕ) → k < length moves.now
+    requires with_free { (k : ℕ) → k < length moves.now
         → may_card (move_at moves.now k) ≡ false
         → is_kept_fate (move_at moves.now k).fate ≡ true
         → NamesYounger heap.old (move_at moves.now k).to → ⊥ }
@@ -49,7 +49,7 @@ fn are_alike(regions: &[Condemned]) -> bool
 
 // Sets the card of one object if it is kept and references a younger one.
 fn card_if_needed(heap: &mut Heap, object: Move)
-    requires spared { may_card object ≡ false → is_kept_fate object.fate ≡ true
+    requires with_free { may_card object ≡ false → is_kept_fate object.fate ≡ true
         → NamesYounger heap.old object.to → ⊥ }
     requires object { is_kept_fate object.fate ≡ true → has_object heap.old object.to ≡ true }
     requires fields { HasClosedFields (object_at heap.old) }
@@ -96,7 +96,7 @@ fn make_exact(heap: &mut Heap, first: Addr) -> bool
     needed
 }
 
-// The last word of the card in which an address is.
+// The last cell of the card in which an address is.
 #[tactic(auto, unfolding(hd_model::specs::Heap::card_of))]
 fn last_cell(at: Addr) -> Addr
     ensures { result.0 + 1 ≡ (card_of at + 1) * CARD }

@@ -16,7 +16,7 @@ use std::test::Fail;
 // A heap, a collection of it, and what the heap must be afterwards.
 #[derive(Clone, Copy)]
 struct Case<'a> {
-    // The words of each object, in the order in which they are made. Identities count from 1.
+    // The cells of each object, in the order in which they are made. Identities count from 1.
     cells: &'a [u32],
     // The objects at these addresses have this generation, and with them their regions.
     raised: &'a [(u32, u8)],
@@ -223,7 +223,7 @@ fn collects(rt: &impl Abort, alloc: Global, case: &Case) -> Result<(), Memory> {
 }
 
 #[test]
-fn an_older_object_in_a_set_card_names_the_new_place(rt: HostRuntime) -> Result<(), Fail> {
+fn an_older_object_in_a_set_card_references_the_new_address(rt: HostRuntime) -> Result<(), Fail> {
     // Objects 1 to 4 are of generation 2, and the first references 5, the only one that is kept of
     // two. The card of the third was set without need.
     let case = Case {

@@ -4,8 +4,8 @@ ghost use Rattle.hd_plan.specs.{Plan.IsLaid, Commit.IsSameShape, Commit.Commits}
 
 use crate::carding::{card_kept, clear_unneeded};
 use crate::copying::copy_moves;
+use crate::forwards::Forwards;
 use crate::moves::{Condemned, Move};
-use crate::places::Places;
 use crate::plan::Plan;
 use crate::releasing::{remove_left, settle_regions};
 use crate::rewriting::{rewrite_carded, rewrite_pinned};
@@ -25,11 +25,11 @@ pub fn commit(heap: &mut Heap, plan: &mut Plan)
     let _regions = heap.regions();
     let moves: &[Move] = &plan.moves;
     let regions: &[Condemned] = &plan.regions;
-    let places: &Places = &plan.places;
+    let forwards: &Forwards = &plan.forwards;
     copy_moves(heap, &*plan, moves);
     rewrite_carded(heap, &*plan, plan.condemned);
     rewrite_pinned(heap, &*plan, moves, regions);
-    remove_left(heap, moves, regions, places);
+    remove_left(heap, moves, regions, forwards);
     settle_regions(heap, regions);
     card_kept(heap, moves, regions);
     clear_unneeded(heap);

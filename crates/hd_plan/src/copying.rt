@@ -1,7 +1,7 @@
 // The objects that move are copied to their new addresses.
 ghost use Rattle.std.specs.Prelude.{◌≡◌, ◌≢◌, ◌<◌, ◌≤◌, ℕ, true, length};
 ghost use Rattle.hd_heap.specs.Moves.{move_at, is_moving};
-ghost use Rattle.hd_plan.specs.CommitSteps.{CanCopy, AreCopied, HasKeptFields, HaveGone, MayGoFrom};
+ghost use Rattle.hd_plan.specs.Inside.{CanCopy, AreCopied, HasKeptFields, HaveGone, MayGoFrom};
 
 use crate::moves::{Fate, Move};
 use hd_heap::Heap;
@@ -14,8 +14,9 @@ pub(crate) fn copy_moves<F: Forward>(heap: &mut Heap, forward: &F, moves: &[Move
     requires laid { F.laid forward.now }
     requires kept { (k : ℕ) → k < length moves.now → is_moving (move_at moves.now k).fate ≡ true
         → HasKeptFields (F.kept forward.now) heap.old (move_at moves.now k).from }
-    requires places { (y : Addr) → F.kept forward.now y ≡ true → (F.place forward.now y).0 ≢ 0 }
-    ensures { AreCopied (F.place forward.now) heap.old heap.new moves.now (length moves.now) }
+    requires forwards { (y : Addr) → F.kept forward.now y ≡ true
+        → (F.forwarding forward.now y).0 ≢ 0 }
+    ensures { AreCopied (F.forwarding forward.now) heap.old heap.new moves.now (length moves.now) }
 {
     let mut k = 0;
     while k < moves.len() {
@@ -27,12 +28,14 @@ pub(crate) fn copy_moves<F: Forward>(heap: &mut Heap, forward: &F, moves: &[Move
 // them.
 fn copy_from<F: Forward>(heap: &mut Heap, forward: &F, moves: &[Move], k: usize) -> usize
     requires within { k < length moves.now }
-    requires may_go { MayGoFrom (F.kept forward.now) (F.place forward.now) heap.old moves.now k }
+    requires may_go { MayGoFrom (F.kept forward.now) (F.forwarding forward.now) heap.old
+        moves.now k }
     requires laid { F.laid forward.now }
-    requires places { (y : Addr) → F.kept forward.now y ≡ true → (F.place forward.now y).0 ≢ 0 }
+    requires forwards { (y : Addr) → F.kept forward.now y ≡ true
+        → (F.forwarding forward.now y).0 ≢ 0 }
     ensures on { k < result }
     ensures within { result ≤ length moves.now }
-    ensures gone { HaveGone (F.place forward.now) heap.old heap.new moves.now k result }
+    ensures gone { HaveGone (F.forwarding forward.now) heap.old heap.new moves.now k result }
 {
     match moves[k].fate {
         Fate::Dead | Fate::Pinned => k + 1,

@@ -1,6 +1,6 @@
 ghost use Rattle.std.specs.Prelude.{◌≡◌, ℕ, ◌+◌, ◌<◌, ◌≤◌, true};
 ghost use Rattle.hd_heap.specs.{Sound.IsSound, Moves.is_moving};
-ghost use Rattle.hd_plan.specs.{LaySteps.CanPutAt, LaySteps.with_cursor_at, declared.cursors.AllocCursors.AllocCursors as CursorsValue};
+ghost use Rattle.hd_plan.specs.{Inside.CanPutAt, Inside.with_cursor_at, declared.cursors.AllocCursors.AllocCursors as CursorsValue};
 ghost use Rattle.hd_plan.specs.Layout.{cursor_of, with_cursor, put_cursors, Fits};
 ghost use Rattle.hd_model.specs.declared.data.Addr.{Addr as AddrValue};
 
@@ -10,7 +10,7 @@ use hd_model::Addr;
 use hd_model::limits::{FIELDS, REGION};
 
 /// The region in which a generation allocates, 0 for none, and its allocation pointer: the first
-/// word after all of its objects.
+/// cell after all of its objects.
 #[derive(Clone, Copy)]
 pub(crate) struct AllocCursor {
     pub(crate) region: u32,
@@ -67,7 +67,7 @@ impl AllocCursors {
 }
 
 impl AllocCursor {
-    /// Allocates an object of `cells` words after the one before of its generation, or at the start
+    /// Allocates an object of `cells` cells after the one before of its generation, or at the start
     /// of a free region where it does not fit there.
     #[inline(always)]
     pub(crate) fn put(&mut self, heap: &Heap, opened: &mut u32, cells: u32) -> (Fate, Addr)
@@ -75,10 +75,10 @@ impl AllocCursor {
         requires cells { (0 < cells) × (cells ≤ FIELDS + 3) }
         requires can_put { CanPutAt heap.now self.old opened.old }
         ensures fits { (s : CursorsValue) (from : AddrValue) (g : ℕ) → cursor_of s g ≡ self.old
-            → s.opened ≡ opened.old → Fits result.0 heap.now.spare s from result.1 g cells }
+            → s.opened ≡ opened.old → Fits result.0 heap.now.free s from result.1 g cells }
         ensures cursors { (s : CursorsValue) (g : ℕ) → cursor_of s g ≡ self.old
-            → s.opened ≡ opened.old
-            → with_cursor_at s g self.new opened.new ≡ put_cursors result.0 heap.now.spare s g cells }
+            → s.opened ≡ opened.old → with_cursor_at s g self.new opened.new
+            ≡ put_cursors result.0 heap.now.free s g cells }
         ensures moves { is_moving result.0 ≡ true }
     {
         if self.region != 0 && self.fill + cells <= REGION {

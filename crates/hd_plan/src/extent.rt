@@ -1,4 +1,4 @@
-ghost use Rattle.hd_plan.specs.LaySteps.{IsToLay};
+ghost use Rattle.hd_plan.specs.Inside.{IsToLay};
 
 use hd_heap::{Extent, Heap};
 

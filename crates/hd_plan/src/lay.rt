@@ -3,12 +3,12 @@ ghost use Rattle.hd_model.specs.{Ages.raised, Counting.Counts, Leads.IsClosed, S
 ghost use Rattle.hd_model.specs.Heap.{object_at, objects_of, placed_at, region_generation, region_of};
 ghost use Rattle.hd_heap.specs.{Calls.HasCondemned, Calls.is_condemned, Sound.IsSound};
 ghost use Rattle.hd_plan.specs.{declared.cursors.AllocCursors.AllocCursors as CursorsValue, Layout.IsCondemnedRegion, Layout.cursor_of, Layout.room_at};
-ghost use Rattle.hd_plan.specs.LaySteps.{AreLaidIn, CanPutAt, HasLayRoom, HasMoveRoom, HasPlaces, IsLaidTo, IsLaying, IsMoveOf, with_cursor_at};
-ghost use Rattle.hd_plan.specs.Plan.{IsTakenPlan, IsLaid, HasFreeRegions, HasNoEmptyCondemned, kept_in, place_in, stays_in};
+ghost use Rattle.hd_plan.specs.Inside.{AreLaidIn, CanPutAt, HasLayRoom, HasMoveRoom, HasForwards, IsLaidTo, IsLaying, IsMoveOf, with_cursor_at};
+ghost use Rattle.hd_plan.specs.Plan.{IsTakenPlan, IsLaid, HasFreeRegions, HasNoEmptyCondemned, kept_in, forwarding_in, stays_in};
 
 use crate::cursors::{AllocCursor, AllocCursors};
+use crate::forwards::Forwards;
 use crate::moves::{Condemned, Fate, Move};
-use crate::places::Places;
 use crate::plan::Plan;
 use hd_heap::{Heap, ObjectHeader};
 use hd_model::limits::{HEADER, OLDEST};
@@ -29,7 +29,7 @@ impl Plan {
         ensures basis { self.new.basis ≡ self.old.basis }
         ensures kept { (a : Addr) → kept_in self.new a ≡ M.promoted marker.now a }
         ensures pinned { (a : Addr) → M.promoted marker.now a ≡ true
-            → M.pinned marker.now a ≡ true → place_in self.new a ≡ a }
+            → M.pinned marker.now a ≡ true → forwarding_in self.new a ≡ a }
         ensures stays { let of = self.old.basis in
             Counts (λ a. IsCondemned (objects_of of) of.condemned a
             × (M.promoted marker.now a ≡ true) × (M.pinned marker.now a ≡ true))
@@ -42,7 +42,7 @@ impl Plan {
             self.extent.regions,
             &mut self.moves,
             &mut self.regions,
-            &mut self.places,
+            &mut self.forwards,
         );
     }
 }
@@ -56,23 +56,23 @@ fn lay_regions<M: Marker>(
     condemned: u32,
     moves: &mut Vec<Move>,
     regions: &mut Vec<Condemned>,
-    places: &mut Places,
+    forwards: &mut Forwards,
 )
     requires condemned { Counts (HasCondemned heap.now n) condemned }
     requires marker { M.basis marker.now ≡ record { heap = heap.now; condemned = n } }
     requires settled { M.settled marker.now }
     requires none { moves.old.items ≡ [] }
     requires unlisted { regions.old.items ≡ [] }
-    requires places { HasPlaces [] [] places.old.firsts.items places.old.cells.items }
+    requires forwards { HasForwards [] [] forwards.old.firsts.items forwards.old.cells.items }
     requires room { HasLayRoom heap.now n (vec_capacity moves.old) (vec_capacity regions.old)
-        (length places.old.firsts.items) (length places.old.cells.items) }
-    requires spare { HasFreeRegions heap.now n }
+        (length forwards.old.firsts.items) (length forwards.old.cells.items) }
+    requires free { HasFreeRegions heap.now n }
     ensures sound { IsSound heap.now }
     ensures laid { IsLaidTo heap.now n (M.promoted marker.now) (M.pinned marker.now)
-        moves.new.items regions.new.items places.new.firsts.items places.new.cells.items
+        moves.new.items regions.new.items forwards.new.firsts.items forwards.new.cells.items
         (room_at heap.now moves.new.items (length moves.new.items)).cursors REGIONS }
     ensures room { HasLayRoom heap.now n (vec_capacity moves.new) (vec_capacity regions.new)
-        (length places.new.firsts.items) (length places.new.cells.items) }
+        (length forwards.new.firsts.items) (length forwards.new.cells.items) }
 {
     // The result is not used: the call states to the proof what every heap keeps.
     let _regions = heap.regions();
@@ -82,7 +82,7 @@ fn lay_regions<M: Marker>(
     let mut cursors = AllocCursors::new();
     let mut after = 0;
     while let Some(region) = heap.next_condemned_region(after, n) {
-        lay_region(heap, marker, region, &mut cursors, moves, regions, places);
+        lay_region(heap, marker, region, &mut cursors, moves, regions, forwards);
         after = region;
     }
 }
@@ -95,30 +95,32 @@ fn lay_region<M: Marker>(
     cursors: &mut AllocCursors,
     moves: &mut Vec<Move>,
     regions: &mut Vec<Condemned>,
-    places: &mut Places,
+    forwards: &mut Forwards,
 )
     requires basis { (M.basis marker.now).heap ≡ heap.now }
     requires settled { M.settled marker.now }
     requires sound { IsSound heap.now }
     requires condemned { HasCondemned heap.now (M.basis marker.now).condemned region }
     requires room { HasLayRoom heap.now (M.basis marker.now).condemned (vec_capacity moves.old)
-        (vec_capacity regions.old) (length places.old.firsts.items)
-        (length places.old.cells.items) }
-    requires spare { HasFreeRegions heap.now (M.basis marker.now).condemned }
+        (vec_capacity regions.old) (length forwards.old.firsts.items)
+        (length forwards.old.cells.items) }
+    requires free { HasFreeRegions heap.now (M.basis marker.now).condemned }
     requires so_far { IsLaidTo heap.now (M.basis marker.now).condemned (M.promoted marker.now)
-        (M.pinned marker.now) moves.old.items regions.old.items places.old.firsts.items
-        places.old.cells.items cursors.old region }
+        (M.pinned marker.now) moves.old.items regions.old.items forwards.old.firsts.items
+        forwards.old.cells.items cursors.old region }
     ensures laid { IsLaidTo heap.now (M.basis marker.now).condemned (M.promoted marker.now)
-        (M.pinned marker.now) moves.new.items regions.new.items places.new.firsts.items
-        places.new.cells.items cursors.new (region + 1) }
+        (M.pinned marker.now) moves.new.items regions.new.items forwards.new.firsts.items
+        forwards.new.cells.items cursors.new (region + 1) }
     ensures room { HasLayRoom heap.now (M.basis marker.now).condemned (vec_capacity moves.new)
-        (vec_capacity regions.new) (length places.new.firsts.items)
-        (length places.new.cells.items) }
+        (vec_capacity regions.new) (length forwards.new.firsts.items)
+        (length forwards.new.cells.items) }
 {
     let generation = (heap.region_generation(region) + 1).min(OLDEST);
     let k = regions.len() as u32;
-    places.list(region, k);
-    let pinned = lay_objects(heap, marker, region, generation, cursors, k, moves, places);
+    forwards.list(region, k);
+    let pinned = lay_objects(
+        heap, marker, region, generation, cursors, k, moves, forwards,
+    );
     regions.push_reserved(Condemned {
         region,
         generation,
@@ -136,7 +138,7 @@ fn lay_objects<M: Marker>(
     cursors: &mut AllocCursors,
     k: u32,
     moves: &mut Vec<Move>,
-    places: &mut Places,
+    forwards: &mut Forwards,
 ) -> bool
     requires basis { (M.basis marker.now).heap ≡ heap.now }
     requires settled { M.settled marker.now }
@@ -145,15 +147,15 @@ fn lay_objects<M: Marker>(
     requires generation { generation ≡ raised (M.basis marker.now).condemned
         (region_generation heap.now region) }
     requires room { HasMoveRoom heap.now (M.basis marker.now).condemned (vec_capacity moves.old) }
-    requires table { REGION * (k + 1) ≤ length places.old.cells.items }
-    requires spare { HasFreeRegions heap.now (M.basis marker.now).condemned }
+    requires table { REGION * (k + 1) ≤ length forwards.old.cells.items }
+    requires free { HasFreeRegions heap.now (M.basis marker.now).condemned }
     requires so_far { IsLaying heap.now (M.basis marker.now).condemned (M.promoted marker.now)
         (M.pinned marker.now) moves.old.items cursors.old (region * REGION) }
     ensures laying { IsLaying heap.now (M.basis marker.now).condemned (M.promoted marker.now)
         (M.pinned marker.now) moves.new.items cursors.new ((region + 1) * REGION) }
     ensures these { AreLaidIn moves.old.items moves.new.items region k result
-        places.old.cells.items places.new.cells.items }
-    ensures firsts { places.new.firsts.items ≡ places.old.firsts.items }
+        forwards.old.cells.items forwards.new.cells.items }
+    ensures firsts { forwards.new.firsts.items ≡ forwards.old.firsts.items }
     ensures capacity { vec_capacity moves.new ≡ vec_capacity moves.old }
 {
     let mut cursor = cursors.cursor(generation);
@@ -163,7 +165,7 @@ fn lay_objects<M: Marker>(
     while let Some(object) = objects.next() {
         let laid = lay_object(heap, marker, object, generation, &mut cursor, &mut opened);
         moves.push_reserved(laid);
-        places.put(k, laid.from, laid.to);
+        forwards.put(k, laid.from, laid.to);
         pinned |= laid.fate.stays();
     }
     cursors.opened = opened;

@@ -1,11 +1,11 @@
 ghost use Rattle.std.specs.Prelude.{◌≡◌, ◌^◌, ◌<◌, ◌≤◌, true, false, length, take, count_by, IfOk, MatchResult};
 ghost use Rattle.hd_model.specs.{Counting.Counts, Scene.is_object, Scene.IsCondemned, Heap.objects_of};
 ghost use Rattle.hd_heap.specs.{Moves.is_kept_fate, Calls.IsExtent};
-ghost use Rattle.hd_plan.specs.Plan.{SparesNeeded, SparesAtMost, IsTakenPlan, IsLaid, kept_in, place_in, HasFreeRegions};
+ghost use Rattle.hd_plan.specs.Plan.{FreeNeeded, FreeAtMost, IsTakenPlan, IsLaid, kept_in, forwarding_in, HasFreeRegions};
 
 use crate::extent::extent;
+use crate::forwards::Forwards;
 use crate::moves::{Condemned, Move};
-use crate::places::Places;
 use hd_heap::{Extent, Heap};
 use hd_model::limits::{LEFT, OLDEST, OPEN};
 use hd_model::{Addr, Forward, Memory};
@@ -23,7 +23,7 @@ pub struct Plan {
     pub(crate) extent: Extent,
     pub(crate) moves: Vec<Move>,
     pub(crate) regions: Vec<Condemned>,
-    pub(crate) places: Places,
+    pub(crate) forwards: Forwards,
 }
 
 impl Model for Plan {
@@ -34,7 +34,7 @@ impl Model for Plan {
 
     ghost coded = { plan_code };
 
-    ghost use Rattle.hd_plan.specs.LaySteps.{IsPlan};
+    ghost use Rattle.hd_plan.specs.Inside.{IsPlan};
 
     ghost view = { λ p. record {
       basis = record { heap = p.heap.value; condemned = p.condemned };
@@ -46,8 +46,8 @@ impl Model for Plan {
       basis = record { heap = p.heap.value; condemned = p.condemned };
       moves = p.moves.items;
       regions = p.regions.items;
-    }) p.extent (vec_capacity p.moves) (vec_capacity p.regions) p.places.firsts.items
-        p.places.cells.items };
+    }) p.extent (vec_capacity p.moves) (vec_capacity p.regions) p.forwards.firsts.items
+        p.forwards.cells.items };
 }
 
 impl Plan {
@@ -55,10 +55,10 @@ impl Plan {
     /// Free regions that were added stay free where memory runs out for the rest.
     pub fn take(alloc: Global, heap: &mut Heap, n: u8) -> Result<Plan, Memory>
         requires generation { n ≤ OLDEST }
-        ensures same { heap.new ≡ record heap.old { spare = heap.new.spare } }
-        ensures spare { take (length heap.old.spare) heap.new.spare ≡ heap.old.spare }
-        ensures needed { MatchResult result (λ _. SparesNeeded heap.old heap.new n)
-            (λ _. SparesAtMost heap.old heap.new n) }
+        ensures same { heap.new ≡ record heap.old { free = heap.new.free } }
+        ensures free { take (length heap.old.free) heap.new.free ≡ heap.old.free }
+        ensures needed { MatchResult result (λ _. FreeNeeded heap.old heap.new n)
+            (λ _. FreeAtMost heap.old heap.new n) }
         ensures taken { IfOk result (λ plan. IsTakenPlan plan) }
         ensures basis { IfOk result (λ plan. plan.basis ≡ record {
           heap = heap.new;
@@ -74,14 +74,14 @@ impl Plan {
     fn with_room(alloc: Global, heap: &Heap, n: u8, found: Extent) -> Result<Plan, Memory>
         requires found { IsExtent heap.now n found }
         requires generation { n ≤ OLDEST }
-        requires spare { HasFreeRegions heap.now n }
+        requires free { HasFreeRegions heap.now n }
         ensures taken { IfOk result (λ plan. IsTakenPlan plan) }
         ensures basis { IfOk result (λ plan. plan.basis ≡ record {
           heap = heap.now;
           condemned = n;
         }) }
     {
-        let places = Places::open(alloc, found.regions, found.end)?;
+        let forwards = Forwards::open(alloc, found.regions, found.end)?;
         let Ok(moves) = Vec::with_capacity(alloc, found.objects as usize) else {
             return Err(Memory);
         };
@@ -92,7 +92,7 @@ impl Plan {
                 extent: found,
                 moves,
                 regions,
-                places,
+                forwards,
             }),
             Err(_) => Err(Memory),
         }
@@ -133,10 +133,10 @@ impl Forward for Plan {
 
     ghost kept = { kept_in };
 
-    ghost place = { place_in };
+    ghost forwarding = { forwarding_in };
 
     fn moved(&self, at: Addr) -> Addr {
-        self.places.place(at)
+        self.forwards.forwarding_address(at)
     }
 
     ghost keeps = { λ p laid. laid.keeping };

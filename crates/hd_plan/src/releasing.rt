@@ -2,33 +2,38 @@
 ghost use Rattle.std.specs.Prelude.{◌≡◌, ◌<◌, ◌≤◌, ℕ, true, false, length};
 ghost use Rattle.hd_model.specs.Heap.{has_object, is_in_use, region_of};
 ghost use Rattle.hd_heap.specs.{Moves.move_at, Moves.is_staying, Calls.IsRemoved, Calls.with_generation, Calls.without_region};
-ghost use Rattle.hd_plan.specs.{Layout.condemned_at, Layout.IsRising, LaySteps.first_at, CommitSteps.AreRemovedIn, CommitSteps.AreGivenUp, CommitSteps.is_pinned};
+ghost use Rattle.hd_plan.specs.{Layout.condemned_at, Layout.IsRising, Inside.first_at, Inside.AreRemovedIn, Inside.AreGivenUp, Inside.is_pinned};
 
+use crate::forwards::{Forwards, region_number};
 use crate::moves::{Condemned, Move};
-use crate::places::{Places, region_number};
 use hd_heap::Heap;
 use hd_model::Addr;
 use hd_model::limits::OLDEST;
 
 /// Removes the objects of these moves from their old addresses, but for those that stay, where
 /// their region stays. The other regions are given up whole.
-pub(crate) fn remove_left(heap: &mut Heap, moves: &[Move], regions: &[Condemned], places: &Places)
+pub(crate) fn remove_left(
+    heap: &mut Heap,
+    moves: &[Move],
+    regions: &[Condemned],
+    forwards: &Forwards,
+)
     requires objects { (k : ℕ) → k < length moves.now
         → has_object heap.old (move_at moves.now k).from ≡ true }
     requires rising { IsRising moves.now }
     requires low { (k : ℕ) → k < length moves.now
-        → 0 < first_at places.now.firsts.items (region_of (move_at moves.now k).from) }
+        → 0 < first_at forwards.now.firsts.items (region_of (move_at moves.now k).from) }
     requires high { (k : ℕ) → k < length moves.now
-        → first_at places.now.firsts.items (region_of (move_at moves.now k).from)
+        → first_at forwards.now.firsts.items (region_of (move_at moves.now k).from)
         ≤ length regions.now }
-    ensures { AreRemovedIn (is_pinned regions.now places.now.firsts.items) heap.old heap.new
+    ensures { AreRemovedIn (is_pinned regions.now forwards.now.firsts.items) heap.old heap.new
         moves.now (length moves.now) }
 {
     if !has_pinned(regions) {
         return;
     }
     for object in moves {
-        remove_if_left(heap, *object, regions, places);
+        remove_if_left(heap, *object, regions, forwards);
     }
 }
 
@@ -46,31 +51,32 @@ pub(crate) fn has_pinned(regions: &[Condemned]) -> bool
 }
 
 // Removes one object from its old address, unless it stays or its region is given up.
-fn remove_if_left(heap: &mut Heap, object: Move, regions: &[Condemned], places: &Places)
+fn remove_if_left(heap: &mut Heap, object: Move, regions: &[Condemned], forwards: &Forwards)
     requires object { has_object heap.old object.from ≡ true }
-    requires low { 0 < first_at places.now.firsts.items (region_of object.from) }
-    requires high { first_at places.now.firsts.items (region_of object.from) ≤ length regions.now }
+    requires low { 0 < first_at forwards.now.firsts.items (region_of object.from) }
+    requires high { first_at forwards.now.firsts.items (region_of object.from) ≤ length
+        regions.now }
     ensures stays { is_staying object.fate ≡ true → heap.new ≡ heap.old }
-    ensures whole { is_pinned regions.now places.now.firsts.items (region_of object.from) ≡ false
+    ensures whole { is_pinned regions.now forwards.now.firsts.items (region_of object.from) ≡ false
         → heap.new ≡ heap.old }
     ensures left { is_staying object.fate ≡ false
-        → is_pinned regions.now places.now.firsts.items (region_of object.from) ≡ true
+        → is_pinned regions.now forwards.now.firsts.items (region_of object.from) ≡ true
         → IsRemoved heap.old heap.new object.from }
 {
     if !object.fate.stays() {
-        if is_pinned(regions, places, object.from) {
+        if is_pinned(regions, forwards, object.from) {
             heap.remove(object.from);
         }
     }
 }
 
 // Whether a listed region stays, by an address in it.
-fn is_pinned(regions: &[Condemned], places: &Places, at: Addr) -> bool
-    requires low { 0 < first_at places.now.firsts.items (region_of at) }
-    requires high { first_at places.now.firsts.items (region_of at) ≤ length regions.now }
-    ensures { result ≡ is_pinned regions.now places.now.firsts.items (region_of at) }
+fn is_pinned(regions: &[Condemned], forwards: &Forwards, at: Addr) -> bool
+    requires low { 0 < first_at forwards.now.firsts.items (region_of at) }
+    requires high { first_at forwards.now.firsts.items (region_of at) ≤ length regions.now }
+    ensures { result ≡ is_pinned regions.now forwards.now.firsts.items (region_of at) }
 {
-    let first = places.firsts[region_number(at) as usize];
+    let first = forwards.firsts[region_number(at) as usize];
     regions[first as usize - 1].pinned
 }
 

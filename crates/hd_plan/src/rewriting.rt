@@ -2,7 +2,7 @@
 ghost use Rattle.std.specs.Prelude.{◌≡◌, ◌≢◌, ◌<◌, ℕ, true, length};
 ghost use Rattle.hd_model.specs.Heap.{has_object};
 ghost use Rattle.hd_heap.specs.{Calls.is_old_carded, Moves.move_at, Moves.is_staying};
-ghost use Rattle.hd_plan.specs.{Layout.condemned_at, Layout.IsRising, CommitSteps.AreRewritten, CommitSteps.HasKeptFields, CommitSteps.IsStayedAt};
+ghost use Rattle.hd_plan.specs.{Layout.condemned_at, Layout.IsRising, Inside.AreRewritten, Inside.HasKeptFields, Inside.IsStayedAt};
 
 use crate::moves::{Condemned, Move};
 use crate::releasing::has_pinned;
@@ -15,8 +15,9 @@ pub(crate) fn rewrite_carded<F: Forward>(heap: &mut Heap, forward: &F, n: u8)
     requires laid { F.laid forward.now }
     requires kept { (x : Addr) → is_old_carded heap.old n x ≡ true
         → HasKeptFields (F.kept forward.now) heap.old x }
-    requires places { (y : Addr) → F.kept forward.now y ≡ true → (F.place forward.now y).0 ≢ 0 }
-    ensures { AreRewritten (λ a. is_old_carded heap.old n a ≡ true) (F.place forward.now)
+    requires forwards { (y : Addr) → F.kept forward.now y ≡ true
+        → (F.forwarding forward.now y).0 ≢ 0 }
+    ensures { AreRewritten (λ a. is_old_carded heap.old n a ≡ true) (F.forwarding forward.now)
         heap.old heap.new }
 {
     let mut after = None;
@@ -42,8 +43,9 @@ pub(crate) fn rewrite_pinned<F: Forward>(
     requires rising { IsRising moves.now }
     requires kept { (k : ℕ) → k < length moves.now → is_staying (move_at moves.now k).fate ≡ true
         → HasKeptFields (F.kept forward.now) heap.old (move_at moves.now k).from }
-    requires places { (y : Addr) → F.kept forward.now y ≡ true → (F.place forward.now y).0 ≢ 0 }
-    ensures { AreRewritten (IsStayedAt moves.now (length moves.now)) (F.place forward.now)
+    requires forwards { (y : Addr) → F.kept forward.now y ≡ true
+        → (F.forwarding forward.now y).0 ≢ 0 }
+    ensures { AreRewritten (IsStayedAt moves.now (length moves.now)) (F.forwarding forward.now)
         heap.old heap.new }
 {
     if !has_pinned(regions) {

@@ -4,7 +4,7 @@ ghost use Rattle.hd_mark.specs.Marks.{IsSettledMarks};
 ghost use Rattle.hd_plan.specs.Plan.{IsTakenPlan, IsLaid, HasNoEmptyRegion};
 
 use super::*;
-use crate::places::region_number;
+use crate::forwards::region_number;
 use hd_heap::Heap;
 use hd_mark::Marks;
 use hd_model::{Addr, Forward, Id, Marker, Memory};
@@ -15,7 +15,7 @@ use std::test::Fail;
 // A heap, a collection of it, and what is expected of it.
 #[derive(Clone, Copy)]
 struct Case<'a> {
-    // The words of each object, in the order in which they are made.
+    // The cells of each object, in the order in which they are made.
     cells: &'a [u32],
     // The objects at these addresses have this generation, and with them their regions.
     raised: &'a [(u32, u8)],
@@ -236,7 +236,7 @@ fn a_region_is_left_only_where_the_next_object_does_not_fit(rt: HostRuntime) -> 
 }
 
 #[test]
-fn what_is_pinned_keeps_its_place_among_the_dead(rt: HostRuntime) -> Result<(), Fail> {
+fn what_is_pinned_keeps_its_address_among_the_dead(rt: HostRuntime) -> Result<(), Fail> {
     let one = Case {
         cells: &[64, 64, 64, 64],
         raised: &[],

@@ -11,9 +11,9 @@ pub use Rattle.std.specs.Int.{bit_at, bit_not, w64}
 pub use Rattle.std.specs.List.{list_any, range_with_len}
 pub use Rattle.std.specs.Ordering.{eq_by_cmp, nat_cmp}
 pub use Rattle.std.specs.Prelude.{IfNone, IfSome, is_some, nat_eq}
-pub use Rattle.hd_model.proofs.IndexedItems.{by_place-clear, by_place-empty, by_place-put, get-by_place, get_or-replicate_None}
-pub use Rattle.hd_pool.specs.Inside.{HasFree, IsPool, kind_at, place_of}
-pub use Rattle.hd_pool.specs.Masks.{HasAllOf, HasNoneBetween, Held, IsLeastBetween, is_marked, numbers_of, set_of}
+pub use Rattle.hd_model.proofs.IndexedItems.{by_index-clear, by_index-empty, by_index-put, get-by_index, get_or-replicate_None}
+pub use Rattle.hd_pool.specs.Inside.{HasFree, IsPool, kind_at, index_of}
+pub use Rattle.hd_pool.specs.{Inside.HasAllOf, Inside.HasNoneBetween, Inside.IsLeastBetween, Masks.Held, Masks.is_marked, Masks.numbers_of, Masks.set_of}
 pub use Rattle.hd_pool.specs.Pool.{FreeSlots, HasNoneFor, IsFreeFor, IsLeastFreeFor, IsLeastWholeOf, IsWholeOf}
 pub use Rattle.hd_model.specs.declared.limits.TheConstants.{BLOCKS, ROWS}
 pub use Rattle.hd_mask.specs.declared.TheConstants.{BITS}

@@ -1,13 +1,13 @@
 -- What each call of a pool does to its fields and to the set of free slots.
-use Rattle.hd_pool.proofs.Basics.{BLOCKS, Bool, FinSet, FreeSlots, HasAllOf, HasFree, HasNoneBetween, HasNoneFor, Held, IfNone, IfSome, IsFreeFor, IsLeastBetween, IsLeastFreeFor, IsLeastWholeOf, IsPool, IsSome, IsWholeOf, List, None, Option, ROWS, Some, ap, arith, both_ways, by_place-clear, by_place-put, cases_eq, cases_lt, contains, contains-empty, difference, empty, false, get, get-by_place, get_or, get_or-set_other, get_or-set_same, get_or_past, get_or_read, inl, inr, insert, is_some, kind_at, length, length-set, nat_cmp, numbers_of, place_of, refl, remove, same_Some, set, subst, sym, true, union, ℕ, ◌*◌, ◌+◌, ◌-◌, ◌/◌, ◌<◌, ◌∙◌, ◌≡◌, ◌≢◌, ◌≤◌, ◌⊎◌}
-use Rattle.hd_model.specs.{declared.data.Kind.Kind, declared.data.Slot.Slot, Kinds.kind_number, Indexed.by_place}
+use Rattle.hd_pool.proofs.Basics.{BLOCKS, Bool, FinSet, FreeSlots, HasAllOf, HasFree, HasNoneBetween, HasNoneFor, Held, IfNone, IfSome, IsFreeFor, IsLeastBetween, IsLeastFreeFor, IsLeastWholeOf, IsPool, IsSome, IsWholeOf, List, None, Option, ROWS, Some, ap, arith, both_ways, by_index-clear, by_index-put, cases_eq, cases_lt, contains, contains-empty, difference, empty, false, get, get-by_index, get_or, get_or-set_other, get_or-set_same, get_or_past, get_or_read, inl, inr, insert, is_some, kind_at, length, length-set, nat_cmp, numbers_of, index_of, refl, remove, same_Some, set, subst, sym, true, union, ℕ, ◌*◌, ◌+◌, ◌-◌, ◌/◌, ◌<◌, ◌∙◌, ◌≡◌, ◌≢◌, ◌≤◌, ◌⊎◌}
+use Rattle.hd_model.specs.{declared.data.Kind.Kind, declared.data.Slot.Slot, Kinds.kind_number, Indexed.by_index}
 use Rattle.hd_model.proofs.KindTests.{same_number, few_kinds}
 use Rattle.hd_pool.proofs.SetMembers.{insert_same, insert_other, insert_keeps, remove_same, remove_other, union_same, union_other, difference_same, difference_other}
 use Rattle.std.specs.FinMap as map
 
 -- two numbers in `ready` are equal only for the same kind and block
-same_place : (j k : Kind) (a b : ℕ) → a < 320 → b < 320 → place_of j a ≡ place_of k b → (j ≡ k) × (a ≡ b)
-same_place j k a b small small' e =
+same_index : (j k : Kind) (a b : ℕ) → a < 320 → b < 320 → index_of j a ≡ index_of k b → (j ≡ k) × (a ≡ b)
+same_index j k a b small small' e =
     let number : kind_number j ≡ kind_number k = omega arith in
     (same_number j k number, omega arith)
 
@@ -29,22 +29,22 @@ not_both b is_false is_true = absurd (both_ways b is_false is_true)
 
 -- what callers see
 abbrev pub seen : List (Option Kind) → Held → FreeSlots
-seen kinds free = record { blocks = length kinds - 1; kinds = by_place kinds; free = free.members }
+seen kinds free = record { blocks = length kinds - 1; kinds = by_index kinds; free = free.members }
 
 module _ {kinds : List (Option Kind)} {free ready : Held} (inv : IsPool kinds free ready) where
   -- a block that was added is small
   pub block_small : (block : ℕ) → IsSome (kind_at kinds block) → block ≤ BLOCKS
   block_small block there = omega (arith, kind_within kinds block there, inv.limit)
 
-  pub place_small : (k : Kind) (block : ℕ) → block ≤ BLOCKS → place_of k block < ready.room
-  place_small k block small = omega (arith, few_kinds k, inv.ready_room)
+  pub index_small : (k : Kind) (block : ℕ) → block ≤ BLOCKS → index_of k block < ready.room
+  index_small k block small = omega (arith, few_kinds k, inv.ready_room)
 
   -- ---- a block is added
 
   module _ (block : ℕ) (k : Kind) (within : block < length kinds) (new : kind_at kinds block ≡ None) where
     pub added : IsPool (set kinds block (Some k)) (record free
         { members = union free.members (numbers_of block) })
-        (record ready { members = insert ready.members (place_of k block) })
+        (record ready { members = insert ready.members (index_of k block) })
     added = record {
       some = omega (arith, inv.some, length-set kinds block (Some k));
       limit = omega (arith, inv.limit, length-set kinds block (Some k));
@@ -56,14 +56,14 @@ module _ {kinds : List (Option Kind)} {free ready : Held} (inv : IsPool kinds fr
             ∙ inv.added slot (sym (union_other block slot free.members apart) ∙ member)
       ];
       opened = λ j slot of_kind member. elim (cases_eq (slot / ROWS) block) [
-        | inl e ↦ insert_same ready.members (place_of k block) (place_of j (slot / ROWS))
-            (λ i. place_of (same_Some j k (sym of_kind ∙ here (slot / ROWS) e) i) (e i))
-        | inr apart ↦ insert_keeps ready.members (place_of k block) (place_of j (slot / ROWS))
+        | inl e ↦ insert_same ready.members (index_of k block) (index_of j (slot / ROWS))
+            (λ i. index_of (same_Some j k (sym of_kind ∙ here (slot / ROWS) e) i) (e i))
+        | inr apart ↦ insert_keeps ready.members (index_of k block) (index_of j (slot / ROWS))
             (inv.opened j slot (sym (other (slot / ROWS) apart) ∙ of_kind)
             (sym (union_other block slot free.members apart) ∙ member))
       ];
-      has_free = λ j b small member. elim (cases_eq (place_of j b) (place_of k block)) [
-        | inl e ↦ let same = same_place j k b block small (omega (arith, inv.limit)) e in (
+      has_free = λ j b small member. elim (cases_eq (index_of j b) (index_of k block)) [
+        | inl e ↦ let same = same_index j k b block small (omega (arith, inv.limit)) e in (
           here b same.1 ∙ ap Some (sym same.0),
           record {
             slot = ROWS * b;
@@ -72,7 +72,7 @@ module _ {kinds : List (Option Kind)} {free ready : Held} (inv : IsPool kinds fr
           },
         )
         | inr apart ↦ let old = inv.has_free j b small
-            (sym (insert_other ready.members (place_of k block) (place_of j b) apart) ∙ member) in
+            (sym (insert_other ready.members (index_of k block) (index_of j b) apart) ∙ member) in
             let differs : b ≢ block = λ e. not_both (is_some (kind_at kinds b))
             (ap (λ x. is_some (kind_at kinds x)) e ∙ ap is_some new) (ap is_some old.0) in (
               other b differs ∙ old.0,
@@ -131,7 +131,7 @@ module _ {kinds : List (Option Kind)} {free ready : Held} (inv : IsPool kinds fr
     pub taken_last : HasNoneBetween (remove free.members slot) (ROWS * (slot / ROWS))
         (ROWS * (slot / ROWS + 1))
         → IsPool kinds (record free { members = remove free.members slot })
-        (record ready { members = remove ready.members (place_of k (slot / ROWS)) })
+        (record ready { members = remove ready.members (index_of k (slot / ROWS)) })
     taken_last none = record {
       some = inv.some;
       limit = inv.limit;
@@ -142,15 +142,15 @@ module _ {kinds : List (Option Kind)} {free ready : Held} (inv : IsPool kinds fr
           let apart : q / ROWS ≢ slot / ROWS = λ e. not_both _ (none q (omega arith) (omega arith)) member in
           let small = block_small (q / ROWS) (is_there kinds (q / ROWS) j is) in
           let small' = block_small (slot / ROWS) (is_there kinds (slot / ROWS) k of_kind) in
-          remove_other ready.members (place_of k (slot / ROWS)) (place_of j (q / ROWS))
-          (λ e. apart (same_place j k (q / ROWS) (slot / ROWS) (omega arith) (omega arith) e).1)
+          remove_other ready.members (index_of k (slot / ROWS)) (index_of j (q / ROWS))
+          (λ e. apart (same_index j k (q / ROWS) (slot / ROWS) (omega arith) (omega arith) e).1)
           ∙ inv.opened j q is (kept_member q member);
-      has_free = λ j b small member. elim (cases_eq (place_of j b) (place_of k (slot / ROWS))) [
-        | inl e ↦ not_both _ (remove_same ready.members (place_of k (slot / ROWS)) (place_of j b) e) member
+      has_free = λ j b small member. elim (cases_eq (index_of j b) (index_of k (slot / ROWS))) [
+        | inl e ↦ not_both _ (remove_same ready.members (index_of k (slot / ROWS)) (index_of j b) e) member
         | inr apart ↦ let old = inv.has_free j b small
-            (sym (remove_other ready.members (place_of k (slot / ROWS)) (place_of j b) apart) ∙ member) in
+            (sym (remove_other ready.members (index_of k (slot / ROWS)) (index_of j b) apart) ∙ member) in
             let differs : b ≢ slot / ROWS = λ e. apart
-            (λ i. place_of (same_Some j k (sym old.0 ∙ ap (kind_at kinds) e ∙ of_kind) i) (e i)) in (
+            (λ i. index_of (same_Some j k (sym old.0 ∙ ap (kind_at kinds) e ∙ of_kind) i) (e i)) in (
               old.0,
               record {
                 slot = old.1.slot;
@@ -165,7 +165,7 @@ module _ {kinds : List (Option Kind)} {free ready : Held} (inv : IsPool kinds fr
     -- ---- a slot is put back
 
     pub put : IsPool kinds (record free { members = insert free.members slot })
-        (record ready { members = insert ready.members (place_of k (slot / ROWS)) })
+        (record ready { members = insert ready.members (index_of k (slot / ROWS)) })
     put = record {
       some = inv.some;
       limit = inv.limit;
@@ -176,20 +176,20 @@ module _ {kinds : List (Option Kind)} {free ready : Held} (inv : IsPool kinds fr
         | inr apart ↦ inv.added q (sym (insert_other free.members slot q apart) ∙ member)
       ];
       opened = λ j q is member. elim (cases_eq q slot) [
-        | inl e ↦ insert_same ready.members (place_of k (slot / ROWS)) (place_of j (q / ROWS))
-            (λ i. place_of (same_Some j k (sym is ∙ ap (λ x. kind_at kinds (x / ROWS)) e ∙ of_kind) i)
+        | inl e ↦ insert_same ready.members (index_of k (slot / ROWS)) (index_of j (q / ROWS))
+            (λ i. index_of (same_Some j k (sym is ∙ ap (λ x. kind_at kinds (x / ROWS)) e ∙ of_kind) i)
             (e i / ROWS))
-        | inr apart ↦ insert_keeps ready.members (place_of k (slot / ROWS)) (place_of j (q / ROWS))
+        | inr apart ↦ insert_keeps ready.members (index_of k (slot / ROWS)) (index_of j (q / ROWS))
             (inv.opened j q is (sym (insert_other free.members slot q apart) ∙ member))
       ];
-      has_free = λ j b small member. elim (cases_eq (place_of j b) (place_of k (slot / ROWS))) [
+      has_free = λ j b small member. elim (cases_eq (index_of j b) (index_of k (slot / ROWS))) [
         | inl e ↦ let small' = block_small (slot / ROWS) (is_there kinds (slot / ROWS) k of_kind) in
-            let same = same_place j k b (slot / ROWS) small (omega arith) e in (
+            let same = same_index j k b (slot / ROWS) small (omega arith) e in (
               ap (kind_at kinds) same.1 ∙ of_kind ∙ ap Some (sym same.0),
               record { slot = slot; of_block = sym same.1; free = insert_same free.members slot slot refl },
             )
         | inr apart ↦ let old = inv.has_free j b small
-            (sym (insert_other ready.members (place_of k (slot / ROWS)) (place_of j b) apart) ∙ member) in (
+            (sym (insert_other ready.members (index_of k (slot / ROWS)) (index_of j b) apart) ∙ member) in (
               old.0,
               record {
                 slot = old.1.slot;
@@ -205,7 +205,7 @@ module _ {kinds : List (Option Kind)} {free ready : Held} (inv : IsPool kinds fr
   module _ (block : ℕ) {k : Kind} (of_kind : kind_at kinds block ≡ Some k) where
     pub dropped : IsPool (set kinds block None) (record free
         { members = difference free.members (numbers_of block) })
-        (record ready { members = remove ready.members (place_of k block) })
+        (record ready { members = remove ready.members (index_of k block) })
     dropped = record {
       some = omega (arith, inv.some, length-set kinds block None);
       limit = omega (arith, inv.limit, length-set kinds block None);
@@ -218,14 +218,14 @@ module _ {kinds : List (Option Kind)} {free ready : Held} (inv : IsPool kinds fr
           let was = sym (other (q / ROWS) apart) ∙ is in
           let small = block_small (q / ROWS) (is_there kinds (q / ROWS) j was) in
           let small' = block_small block (is_there kinds block k of_kind) in
-          remove_other ready.members (place_of k block) (place_of j (q / ROWS))
-          (λ e. apart (same_place j k (q / ROWS) block (omega arith) (omega arith) e).1)
+          remove_other ready.members (index_of k block) (index_of j (q / ROWS))
+          (λ e. apart (same_index j k (q / ROWS) block (omega arith) (omega arith) e).1)
           ∙ inv.opened j q was (kept q apart member);
-      has_free = λ j b small member. elim (cases_eq (place_of j b) (place_of k block)) [
-        | inl e ↦ not_both _ (remove_same ready.members (place_of k block) (place_of j b) e) member
+      has_free = λ j b small member. elim (cases_eq (index_of j b) (index_of k block)) [
+        | inl e ↦ not_both _ (remove_same ready.members (index_of k block) (index_of j b) e) member
         | inr apart ↦ let old = inv.has_free j b small
-            (sym (remove_other ready.members (place_of k block) (place_of j b) apart) ∙ member) in
-            let differs : b ≢ block = λ e. apart (λ i. place_of
+            (sym (remove_other ready.members (index_of k block) (index_of j b) apart) ∙ member) in
+            let differs : b ≢ block = λ e. apart (λ i. index_of
             (same_Some j k (sym old.0 ∙ ap (kind_at kinds) e ∙ of_kind) i) (e i)) in (
               other b differs ∙ old.0,
               record {
@@ -252,10 +252,10 @@ module _ {kinds : List (Option Kind)} {free ready : Held} (inv : IsPool kinds fr
 
   module _ (k : Kind) where
     kind_of_free : (slot : Slot) → IsFreeFor (seen kinds free) k slot → kind_at kinds (slot.0 / ROWS) ≡ Some k
-    kind_of_free slot is = sym (get-by_place kinds (slot.0 / ROWS)) ∙ is.1
+    kind_of_free slot is = sym (get-by_index kinds (slot.0 / ROWS)) ∙ is.1
 
     block_is_ready : (slot : Slot) → IsFreeFor (seen kinds free) k slot → contains ready.members
-        (place_of k (slot.0 / ROWS)) ≡ true
+        (index_of k (slot.0 / ROWS)) ≡ true
     block_is_ready slot is = inv.opened k slot.0 (kind_of_free slot is) is.0
 
     low_block : (slot : Slot) → IsFreeFor (seen kinds free) k slot → slot.0 / ROWS ≤ BLOCKS
@@ -267,11 +267,11 @@ module _ {kinds : List (Option Kind)} {free ready : Held} (inv : IsPool kinds fr
         HasNoneFor (seen kinds free) k
     none_ready none slot is =
         let low = low_block slot is in
-        not_both _ (none (place_of k (slot.0 / ROWS)) (omega arith) (omega arith)) (block_is_ready slot is)
+        not_both _ (none (index_of k (slot.0 / ROWS)) (omega arith) (omega arith)) (block_is_ready slot is)
 
     module _ {at : ℕ} (first : IsLeastBetween ready.members (ROWS * (kind_number k * 5))
-        (ROWS * (kind_number k * 5 + 5)) at) {block : ℕ} (block_is : block ≡ at - place_of k 0) where
-      at_is : at ≡ place_of k block
+        (ROWS * (kind_number k * 5 + 5)) at) {block : ℕ} (block_is : block ≡ at - index_of k 0) where
+      at_is : at ≡ index_of k block
       at_is = omega (arith, first.low, first.high)
 
       small : block < 320
@@ -296,7 +296,7 @@ module _ {kinds : List (Option Kind)} {free ready : Held} (inv : IsPool kinds fr
 
         pub least_free : IsLeastFreeFor (seen kinds free) k (record { 0 = slot })
         least_free = record {
-          free = (least.member, get-by_place kinds (slot / ROWS) ∙ slot_kind);
+          free = (least.member, get-by_index kinds (slot / ROWS) ∙ slot_kind);
           least = λ other is. at_most other is (cases_lt (other.0 / ROWS) block) (cases_lt other.0 slot);
         }
           where
@@ -304,7 +304,7 @@ module _ {kinds : List (Option Kind)} {free ready : Held} (inv : IsPool kinds fr
                 (block ≤ other.0 / ROWS) → (other.0 < slot) ⊎ (slot ≤ other.0) → slot ≤ other.0
             at_most other is _ (inr le) = le
             at_most other is (inl before) (inl less) =
-                not_both _ (first.least (place_of k (other.0 / ROWS)) (omega arith) (omega (arith, at_is)))
+                not_both _ (first.least (index_of k (other.0 / ROWS)) (omega arith) (omega (arith, at_is)))
                 (block_is_ready other is)
             at_most other is (inr after) (inl less) =
                 not_both _ (least.least other.0 (omega arith) less) is.0
@@ -323,7 +323,7 @@ opened_empty kinds free ready none some limit free_is ready_is = record {
   added = λ slot member. not_both _ (no_member free (ap (λ (s : Held). s.members) free_is) slot) member;
   opened = λ j slot is member. not_both _ (no_member free (ap (λ (s : Held). s.members) free_is) slot) member;
   has_free = λ j b small member. not_both _ (no_member ready (ap (λ (s : Held). s.members) ready_is)
-      (place_of j b)) member;
+      (index_of j b)) member;
 }
   where
     no_member : (s : Held) → s.members ≡ empty → (q : ℕ) → contains s.members q ≡ false
@@ -349,7 +349,7 @@ module _ {kinds : List (Option Kind)} {free ready : Held} (inv : IsPool kinds fr
   blocks_is = ap (λ (u : FreeSlots). u.blocks) is
 
   pub kind_is : (block : ℕ) → kind_at kinds block ≡ get v.kinds block
-  kind_is block = sym (get-by_place kinds block) ∙ ap (λ (u : FreeSlots). get u.kinds block) is
+  kind_is block = sym (get-by_index kinds block) ∙ ap (λ (u : FreeSlots). get u.kinds block) is
 
   pub there : (block : ℕ) → IsSome (get v.kinds block) → IsSome (kind_at kinds block)
   there block some = ap is_some (kind_is block) ∙ some
@@ -362,12 +362,12 @@ module _ {kinds : List (Option Kind)} {free ready : Held} (inv : IsPool kinds fr
       let now : seen (set kinds block (Some k)) (record free { members = f free.members })
       ≡ record {
         blocks = length kinds - 1;
-        kinds = map.insert (by_place kinds) block k;
+        kinds = map.insert (by_index kinds) block k;
         free = f free.members;
       } =
       λ i. record {
         blocks = length-set kinds block (Some k) i - 1;
-        kinds = by_place-put kinds block k within i;
+        kinds = by_index-put kinds block k within i;
         free = f free.members;
       } in
       ap (seen (set kinds block (Some k))) e ∙ now ∙ ap
@@ -378,11 +378,11 @@ module _ {kinds : List (Option Kind)} {free ready : Held} (inv : IsPool kinds fr
       → seen (set kinds block None) after ≡ record v { kinds = map.remove v.kinds block; free = f v.free }
   seen_clear block f {after} e =
       let now : seen (set kinds block None) (record free { members = f free.members })
-      ≡ record { blocks = length kinds - 1; kinds = map.remove (by_place kinds) block; free = f free.members }
+      ≡ record { blocks = length kinds - 1; kinds = map.remove (by_index kinds) block; free = f free.members }
       =
       λ i. record {
         blocks = length-set kinds block None i - 1;
-        kinds = by_place-clear kinds block i;
+        kinds = by_index-clear kinds block i;
         free = f free.members;
       } in
       ap (seen (set kinds block None)) e ∙ now ∙ ap
@@ -407,8 +407,8 @@ module _ {kinds : List (Option Kind)} {free ready : Held} (inv : IsPool kinds fr
     pub has_room : ROWS * block + 63 < free.room
     has_room = omega (arith, in_list, inv.room)
 
-    pub has_place : (k : Kind) {at : ℕ} → at ≡ place_of k block → at < ready.room
-    has_place k e = omega (arith, e, place_small inv k block low)
+    pub has_index : (k : Kind) {at : ℕ} → at ≡ index_of k block → at < ready.room
+    has_index k e = omega (arith, e, index_small inv k block low)
 
     module _ {read : Option Kind} (is_read : read ≡ get_or kinds block read) where
       pub read_kind : read ≡ kind_at kinds block
@@ -464,11 +464,11 @@ module _ {kinds : List (Option Kind)} {free ready : Held} (inv : IsPool kinds fr
 
   module _ {at : ℕ} (found : IsLeastBetween ready.members (ROWS * (n * 5)) (ROWS * (n * 5 + 5)) at)
       {start : ℕ}
-      (start_is : start ≡ place_of k 0) where
+      (start_is : start ≡ index_of k 0) where
     first : IsLeastBetween ready.members (ROWS * (kind_number k * 5)) (ROWS * (kind_number k * 5 + 5)) at
     first = subst (λ m. IsLeastBetween ready.members (ROWS * (m * 5)) (ROWS * (m * 5 + 5)) at) n_is found
 
-    block_is : at - start ≡ at - place_of k 0
+    block_is : at - start ≡ at - index_of k 0
     block_is = ap (λ m. at - m) start_is
 
     has : (kind_at kinds (at - start) ≡ Some k) × HasFree free (at - start)
@@ -522,8 +522,8 @@ module _ {kinds : List (Option Kind)} {free ready : Held} (inv : IsPool kinds fr
                 (subst (λ (s : Held). HasNoneBetween s.members (ROWS * (at - start))
                 (ROWS * (at - start + 1)))
                 after_is (none_of left _ none no_more)) in
-                let place : at ≡ place_of k (slot / ROWS) = omega (arith, first.low, in_block, start_is) in
-                along after_is (ready_is ∙ ap (λ m. record ready { members = remove ready.members m }) place)
+                let index : at ≡ index_of k (slot / ROWS) = omega (arith, first.low, in_block, start_is) in
+                along after_is (ready_is ∙ ap (λ m. record ready { members = remove ready.members m }) index)
                 (taken_last inv slot its_kind none_left)
 
 pub least_whole : {v : FreeSlots} {k : Kind} {block : ℕ} → IsWholeOf v k block

@@ -1,3 +1,3 @@
 pub mod Masks
-pub mod Inside
 pub mod Pool
+pub mod Inside

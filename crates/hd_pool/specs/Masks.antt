@@ -1,7 +1,7 @@
 -- Sets of numbers, kept by masks: number i is bit i % 64 of mask i / 64. This project's own format.
-use Rattle.std.specs.Prelude.{◌≡◌, ℕ, ◌*◌, ◌/◌, ◌%◌, ◌<◌, ◌≤◌, ◌==◌, Bool, true, false, List, length, filter, slice_index, refl}
+use Rattle.std.specs.Prelude.{ℕ, ◌*◌, ◌/◌, ◌%◌, ◌==◌, Bool, List, length, filter, slice_index, refl}
 use Rattle.std.specs.Coded.{Coded, code_by, coded×, coded_ℕ}
-use Rattle.std.specs.FinSet.{FinSet, code, contains, from_list}
+use Rattle.std.specs.FinSet.{FinSet, code, from_list}
 use Rattle.std.specs.Int.{bit_at}
 use Rattle.std.specs.List.{range_with_len}
 use Rattle.std.specs.Ordering.{nat_cmp}
@@ -28,18 +28,3 @@ set_of masks = from_list (filter (is_marked masks) (range_with_len 0 (BITS * len
 -- the numbers of one mask
 unfoldable pub numbers_of : ℕ → FinSet nat_cmp
 numbers_of mask = from_list (range_with_len (BITS * mask) BITS)
-
--- the lowest member from a number on and below another
-pub record IsLeastBetween (s : FinSet nat_cmp) (from to i : ℕ) : Type 0 where
-  pub low : from ≤ i
-  pub high : i < to
-  pub member : contains s i ≡ true
-  pub least : (k : ℕ) → from ≤ k → k < i → contains s k ≡ false
-
--- there is no member from a number on and below another
-abbrev pub HasNoneBetween : FinSet nat_cmp → ℕ → ℕ → Type 0
-HasNoneBetween s from to = (k : ℕ) → from ≤ k → k < to → contains s k ≡ false
-
--- all numbers of a mask are members
-abbrev pub HasAllOf : FinSet nat_cmp → ℕ → Type 0
-HasAllOf s mask = (i : ℕ) → i / BITS ≡ mask → contains s i ≡ true

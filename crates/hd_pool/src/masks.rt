@@ -1,7 +1,7 @@
 // Sets of small numbers, by masks.
 ghost use Rattle.std.specs.Prelude.{◌≡◌, ◌↔◌, ℕ, ◌*◌, ◌^◌, ◌<◌, ◌≤◌, IfOk, IfSome, IfNone, IsTrue};
 ghost use Rattle.std.specs.FinSet.{contains, insert, remove, empty, union, difference};
-ghost use Rattle.hd_pool.specs.Masks.{numbers_of, IsLeastBetween, HasNoneBetween, HasAllOf};
+ghost use Rattle.hd_pool.specs.{Masks.numbers_of, Inside.IsLeastBetween, Inside.HasNoneBetween, Inside.HasAllOf};
 
 use hd_mask::{BITS, bit, lowest};
 use hd_model::Memory;
@@ -67,7 +67,7 @@ impl MaskSet {
     }
 
     /// Adds the numbers of a mask.
-    pub(crate) fn fill(&mut self, mask: u32)
+    pub(crate) fn insert_mask(&mut self, mask: u32)
         requires { BITS * mask < self.old.room }
         ensures { self.new ≡
             record self.old { members = union self.old.members (numbers_of mask) } }

@@ -4,7 +4,7 @@ ghost use Rattle.std.specs.FinMap as map;
 ghost use Rattle.std.specs.FinSet.{contains};
 ghost use Rattle.std.specs.FinSet as set;
 ghost use Rattle.hd_model.specs.State.{block_of};
-ghost use Rattle.hd_pool.specs.Inside.{place_of};
+ghost use Rattle.hd_pool.specs.Inside.{index_of};
 ghost use Rattle.hd_pool.specs.Pool.{slots_of, IsLeastFreeFor, HasNoneFor, IsWhole, IsLeastWholeOf, HasNoWholeOf};
 
 use crate::masks::MaskSet;
@@ -33,7 +33,7 @@ pub struct Pool {
 impl Model for Pool {
     ghost use Rattle.std.specs.Prelude.{◌-◌, length};
     ghost use Rattle.hd_pool.specs.Pool.{FreeSlots, free_slots_code};
-    ghost use Rattle.hd_model.specs.Indexed.{by_place};
+    ghost use Rattle.hd_model.specs.Indexed.{by_index};
     ghost use Rattle.hd_pool.specs.Inside.{IsPool};
 
     ghost Value = { FreeSlots };
@@ -42,7 +42,7 @@ impl Model for Pool {
 
     ghost view = { λ p. record {
       blocks = length p.kinds.items - 1;
-      kinds = by_place p.kinds.items;
+      kinds = by_index p.kinds.items;
       free = p.free.members;
     } };
 
@@ -74,8 +74,8 @@ impl Pool {
         } }
     {
         self.kinds[block as usize] = Some(kind);
-        self.free.fill(block);
-        self.ready.insert(place(kind, block));
+        self.free.insert_mask(block);
+        self.ready.insert(index_of(kind, block));
     }
 
     /// Takes the lowest free slot of a kind.
@@ -88,7 +88,7 @@ impl Pool {
     {
         let first = kind.number() * MASKS;
         let at = self.ready.least_between(first, first + MASKS)?;
-        let block = at - place(kind, 0);
+        let block = at - index_of(kind, 0);
         let slot = self.free.least_between(block, block + 1).unwrap();
         self.free.remove(slot);
         if self.free.least_between(block, block + 1).is_none() {
@@ -106,7 +106,7 @@ impl Pool {
         let block = slot.0 / ROWS;
         let kind = self.kinds[block as usize].unwrap();
         self.free.insert(slot.0);
-        self.ready.insert(place(kind, block));
+        self.ready.insert(index_of(kind, block));
     }
 
     /// The lowest block of a kind whose slots are all free.
@@ -135,14 +135,14 @@ impl Pool {
         let kind = self.kinds[block as usize].unwrap();
         self.kinds[block as usize] = None;
         self.free.clear(block);
-        self.ready.remove(place(kind, block));
+        self.ready.remove(index_of(kind, block));
     }
 }
 
 // The number in `ready` of a block of a kind.
-fn place(kind: Kind, block: u32) -> u32
+fn index_of(kind: Kind, block: u32) -> u32
     requires { block ≤ BLOCKS }
-    ensures { result ≡ place_of kind block }
+    ensures { result ≡ index_of kind block }
 {
     kind.number() * MASKS * BITS + block
 }

@@ -12,5 +12,5 @@ pub use Rattle.hd_model.specs.CommandText.{command_text, command_words, handle_w
 pub use Rattle.hd_model.specs.Grammar.{Reading, command, first_fault, handle_register_in, is_blank, is_hash, is_line_end, object_register_in, script_of, three, unless_fault, without_empty_last, words_of}
 pub use Rattle.hd_model.specs.Text.{entry_text, lines_of, numbered_after}
 pub use Rattle.hd_model.specs.declared.data.Entry.{Entry}
-pub use Rattle.hd_print.specs.Operand.{operand_word}
+pub use Rattle.hd_print.specs.Inside.{operand_word}
 pub use Rattle.hd_model.specs.declared.limits.TheConstants.{CALLERS, FIELDS, REGISTERS, ROWS}

@@ -37,14 +37,14 @@ lines_of_prefix line es i = ap (lines_after line []) (sym (take-append-drop i es
 -- at the entry `e` of index `i`
 module _ (es : List Entry) (i : ℕ) (e : Entry) (in_range : i < length es) (is_e : slice_get es i ≡ Some e)
   where
-    at_place : get_or es i e ≡ e
-    at_place = get_or_from_slice_get es i e e is_e
+    at_address : get_or es i e ≡ e
+    at_address = get_or_from_slice_get es i e e is_e
 
     -- one entry more is one line more
     lines_of_more : (line : Entry → ℕ → List ℕ) → first_lines line es (i + 1)
         ≡ first_lines line es i ++ line e (count_of e.caller (take i es) + 1)
     lines_of_more line =
-        let more = take_more es i e in_range ∙ ap (λ (x : Entry). take i es ++ x ∷ []) at_place in
+        let more = take_more es i e in_range ∙ ap (λ (x : Entry). take i es ++ x ∷ []) at_address in
         ap (lines_after line []) more ∙ lines_after-append line [] (take i es) (e ∷ [])
         ∙ ap (λ (t : List ℕ). first_lines line es i ++ t)
         (append-nil (line e (count_of e.caller (take i es) + 1)))
@@ -52,7 +52,7 @@ module _ (es : List Entry) (i : ℕ) (e : Entry) (in_range : i < length es) (is_
     -- where all callers are below 16
     module _ (all : All (λ (x : Entry). x.caller < CALLERS) es) where
       pub caller_below : e.caller < CALLERS
-      caller_below = subst (λ (x : Entry). x.caller < CALLERS) at_place (all i e in_range)
+      caller_below = subst (λ (x : Entry). x.caller < CALLERS) at_address (all i e in_range)
 
       -- and the entries before this one are counted
       module _ (counts : List ℕ)
@@ -70,7 +70,7 @@ module _ (es : List Entry) (i : ℕ) (e : Entry) (in_range : i < length es) (is_
               → c < CALLERS → get_or new c 0 ≡ count_of c (take (i + 1) es)
           counts_more new written sixteen c small =
               let below = caller_below in
-              let is_e = at_place in
+              let is_e = at_address in
               let same_length = length-set counts e.caller number in
               let yes = count_by_more_yes (λ (x : Entry). x.caller == c) es i e in_range in
               let no = count_by_more_no (λ (x : Entry). x.caller == c) es i e in_range in

@@ -7,7 +7,7 @@ use Rattle.hd_model.specs.State.{Numbers, State, start_of}
 use Rattle.hd_model.specs.Step.{Step}
 use Rattle.hd_model.specs.Run.{Chain, stay, link, part_of, commands_of}
 use Rattle.hd_model.specs.FullText.{full_line, full_lines, end_of}
-use Rattle.hd_model.specs.Judged.{list_of, GoesAlong, IsWhole, AreRight, so_far, at_the_end}
+use Rattle.hd_model.specs.RunTexts.{list_of, GoesAlong, IsWhole, AreRight, so_far, at_the_end}
 use Rattle.hd_model.specs.WellFormed.{IsWellFormed}
 use Rattle.hd_model.proofs.{OneState.one_state_after, StepChains.push, WellFormedSteps.step_keeps, WellFormedSteps.start_is_well_formed}
 use Rattle.hd_print.proofs.LineEndings.{numeral_determines}

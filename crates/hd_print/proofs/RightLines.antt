@@ -9,7 +9,7 @@ use Rattle.hd_model.specs.Run.{Chain, stay, link}
 use Rattle.hd_model.specs.Text.{collections_of}
 use Rattle.std.specs.FinMap.{len}
 use Rattle.hd_model.specs.FullText.{full_line, full_lines, end_of}
-use Rattle.hd_model.specs.Judged.{cut_lines, GoesAlong, AreRight, so_far, at_the_end, wrong, missing}
+use Rattle.hd_model.specs.RunTexts.{cut_lines, GoesAlong, AreRight, so_far, at_the_end, wrong, missing}
 use Rattle.hd_print.specs.VerdictLaws.{HasEnd, RightLinesHaveEnds, OneLineIsWrong}
 use Rattle.hd_print.proofs.JudgedRuns.{own, own-append, next_number}
 

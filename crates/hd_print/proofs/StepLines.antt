@@ -13,12 +13,12 @@ use Rattle.hd_model.specs.declared.data.Reply.{Reply}
 use Rattle.hd_model.specs.declared.data.Grown.TheVariants.{Zero, One, Two, Back}
 use Rattle.hd_model.specs.declared.data.Refusal.TheVariants as refusal
 use Rattle.hd_model.specs.declared.data.Reply.TheVariants as reply
-use Rattle.hd_model.specs.State.{Numbers, Handle, State, register_of, handle_register_of, handle_at, first_slot, IsFree, IsAllFree, with_place}
+use Rattle.hd_model.specs.State.{Numbers, Handle, State, register_of, handle_register_of, handle_at, first_slot, IsFree, IsAllFree, with_address}
 use Rattle.hd_model.specs.Role.{pins}
-use Rattle.hd_model.specs.Places.{IsFreePlace, MayReturn}
+use Rattle.hd_model.specs.PinnedAddresses.{IsFreeAddress, MayReturn}
 use Rattle.hd_model.specs.Anchors.{ReturnsRoot}
-use Rattle.hd_model.specs.Command.{Outcome, reply_with, refuses, new_object, reply_place, reply_root}
-use Rattle.hd_model.specs.Step.{IsOutcome, MayGive, RepliesPlace, DoesCollect, RepliesRoot, pinned_by, pinned_target, Way, decided, makes_object, makes_handle, collects, replies_place, gives_back, adds_entry, replies_root, way_of, TakesWay, Step}
+use Rattle.hd_model.specs.Command.{Outcome, reply_with, refuses, new_object, reply_address, reply_root}
+use Rattle.hd_model.specs.Step.{IsOutcome, MayGive, RepliesAddress, DoesCollect, RepliesRoot, pinned_by, pinned_target, Way, decided, makes_object, makes_handle, collects, replies_address, gives_back, adds_entry, replies_root, way_of, TakesWay, Step}
 use Rattle.hd_model.specs.Text.{reply_text}
 use Rattle.hd_model.specs.FullText.{full_line}
 use Rattle.hd_model.specs.WellFormed.{IsWellFormed}
@@ -43,7 +43,7 @@ module _ (x y : Entry) (same : after_number x ≡ after_number y) where
   replied : (q r : Reply) → x.reply ≡ q → y.reply ≡ r → from_reply q x ≡ from_reply r y
   replied q r a b = ap (λ (z : Reply). from_reply z x) (sym a) ∙ same ∙ ap (λ (z : Reply). from_reply z y) b
 
-  -- none is done where the other is refused for want of blocks
+  -- none is done where the other is refused as no blocks are left
   done_or_full : (given : ℕ) → x.reply ≡ reply.Done → y.reply ≡ reply.Refused (refusal.TableFull given) → ⊥
   done_or_full given a b =
       let heads = ap (λ (bytes : List ℕ). get_or bytes 0 0) (replied _ _ a b) in absurd (omega (arith, heads))
@@ -55,24 +55,24 @@ module _ (x y : Entry) (same : after_number x ≡ after_number y) where
       (numeral_determines m n _ _ small_m small_n (slot_off x.slot x.grown) (slot_off y.slot y.grown)
       (ap (drop 6) (replied _ _ a b))).0
 
-  places_determined : (p q : ℕ) → IsSmall p → IsSmall q → x.reply ≡ reply.Place p → y.reply ≡ reply.Place q
+  addresses_determined : (p q : ℕ) → IsSmall p → IsSmall q → x.reply ≡ reply.Place p → y.reply ≡ reply.Place q
       → p ≡ q
-  places_determined p q small_p small_q a b =
+  addresses_determined p q small_p small_q a b =
       (numeral_determines p q _ _ small_p small_q (slot_off x.slot x.grown) (slot_off y.slot y.grown)
       (ap (drop 5) (replied _ _ a b))).0
 
 -- ---- what `addr` returns
 
 -- an outcome by the address is that of a target, or depends on no address
-data PlaceCase (s : State) (target : Option Id) (f : ℕ → Outcome) : Type 0 where
-  names : (id : Id) → target ≡ Some id → ((p : ℕ) → f p ≡ reply_with (reply.Place p) (with_place s id p))
-      → PlaceCase s target f
-  alike : ((p q : ℕ) → f p ≡ f q) → PlaceCase s target f
+data AddressCase (s : State) (target : Option Id) (f : ℕ → Outcome) : Type 0 where
+  names : (id : Id) → target ≡ Some id → ((p : ℕ) → f p ≡ reply_with (reply.Place p) (with_address s id p))
+      → AddressCase s target f
+  alike : ((p q : ℕ) → f p ≡ f q) → AddressCase s target f
 
 module _ (s : State) where
   abbrev on_target : Option Id → ℕ → Outcome
   on_target target p =
-      option_map_or (λ id. reply_with (reply.Place p) (with_place s id p)) target (refuses refusal.Null s)
+      option_map_or (λ id. reply_with (reply.Place p) (with_address s id p)) target (refuses refusal.Null s)
 
   abbrev on_pinned : Bool → Option Id → ℕ → Outcome
   on_pinned b target p = if b then on_target target p else refuses refusal.WrongKind s
@@ -81,19 +81,19 @@ module _ (s : State) where
   on_row row p =
       option_map_or (λ (h : Handle Id). on_pinned (pins h) h.target p) row (refuses refusal.NotLive s)
 
-  case_target : (target : Option Id) → PlaceCase s target (on_target target)
+  case_target : (target : Option Id) → AddressCase s target (on_target target)
   case_target None = alike (λ p q. refl)
   case_target (Some id) = names id refl (λ p. refl)
 
-  case_pinned : (b : Bool) (target : Option Id) → PlaceCase s (cond b target None) (on_pinned b target)
+  case_pinned : (b : Bool) (target : Option Id) → AddressCase s (cond b target None) (on_pinned b target)
   case_pinned true target = case_target target
   case_pinned false target = alike (λ p q. refl)
 
-  case_row : (row : Option (Handle Id)) → PlaceCase s (pinned_by row) (on_row row)
+  case_row : (row : Option (Handle Id)) → AddressCase s (pinned_by row) (on_row row)
   case_row None = alike (λ p q. refl)
   case_row (Some h) = case_pinned (pins h) h.target
 
-  case_slot : (slot : Option Slot) → PlaceCase s (option_and_then (λ x. pinned_by (handle_at s x)) slot)
+  case_slot : (slot : Option Slot) → AddressCase s (option_and_then (λ x. pinned_by (handle_at s x)) slot)
       (λ p. option_map_or (λ x. on_row (handle_at s x) p) slot (refuses refusal.EmptyRegister s))
   case_slot None = alike (λ p q. refl)
   case_slot (Some slot) = case_row (handle_at s slot)
@@ -187,34 +187,35 @@ module _ (n : Numbers) (s : State) (d e : Entry) (t u : State) (w : IsWellFormed
       (λ y. by_outcomes _ _ refl x y) b) a
 
   -- an address
-  one_place : (o : Option ℕ) (id : Id) (p q : ℕ) → d.reply ≡ reply.Place p → e.reply ≡ reply.Place q
-      → MatchOption o (IsFreePlace s id p) (λ own. p ≡ own)
-      → MatchOption o (IsFreePlace s id q) (λ own. q ≡ own) → p ≡ q
-  one_place None id p q a b f g =
+  one_address : (o : Option ℕ) (id : Id) (p q : ℕ) → d.reply ≡ reply.Place p → e.reply ≡ reply.Place q
+      → MatchOption o (IsFreeAddress s id p) (λ own. p ≡ own)
+      → MatchOption o (IsFreeAddress s id q) (λ own. q ≡ own) → p ≡ q
+  one_address None id p q a b f g =
       let low = f.small in let high = g.small in
-      places_determined d e same p q (omega arith) (omega arith) a b
-  one_place (Some own) id p q a b f g = f ∙ sym g
+      addresses_determined d e same p q (omega arith) (omega arith) a b
+  one_address (Some own) id p q a b f g = f ∙ sym g
 
-  by_place : (h : ℕ) → RepliesPlace s d t h → RepliesPlace s e u h → IsAlike d e
-  by_place h a b = by (case_slot s (handle_register_of s d.caller h))
+  by_index : (h : ℕ) → RepliesAddress s d t h → RepliesAddress s e u h → IsAlike d e
+  by_index h a b = by (case_slot s (handle_register_of s d.caller h))
     where
-      moved : reply_place s d.caller h b.place ≡ reply_place s e.caller h b.place
-      moved = ap (λ c. reply_place s c h b.place) callers
+      moved : reply_address s d.caller h b.address ≡ reply_address s e.caller h b.address
+      moved = ap (λ c. reply_address s c h b.address) callers
 
-      may : (id : Id) → pinned_target s d.caller h ≡ Some id → MayReturn s id b.place
-      may = subst (λ c. (id : Id) → pinned_target s c h ≡ Some id → MayReturn s id b.place) (sym callers)
+      may : (id : Id) → pinned_target s d.caller h ≡ Some id → MayReturn s id b.address
+      may = subst (λ c. (id : Id) → pinned_target s c h ≡ Some id → MayReturn s id b.address) (sym callers)
           b.may
 
-      by : PlaceCase s (pinned_target s d.caller h) (reply_place s d.caller h) → IsAlike d e
-      by (alike f) = by_outcomes _ _ (f a.place b.place ∙ moved) a.outcome b.outcome
+      by : AddressCase s (pinned_target s d.caller h) (reply_address s d.caller h) → IsAlike d e
+      by (alike f) = by_outcomes _ _ (f a.address b.address ∙ moved) a.outcome b.outcome
       by (names id target is_root) =
-          let first : d.reply ≡ reply.Place a.place =
-          a.outcome.reply ∙ ap (λ (o : Outcome). o.reply) (is_root a.place) in
-          let second : e.reply ≡ reply.Place b.place =
-          b.outcome.reply ∙ ap (λ (o : Outcome). o.reply) (sym moved ∙ is_root b.place) in
-          let places : a.place ≡ b.place =
-          one_place (get s.places id.0) id a.place b.place first second (a.may id target) (may id target) in
-          by_outcomes _ _ (ap (reply_place s d.caller h) places ∙ moved) a.outcome b.outcome
+          let first : d.reply ≡ reply.Place a.address =
+          a.outcome.reply ∙ ap (λ (o : Outcome). o.reply) (is_root a.address) in
+          let second : e.reply ≡ reply.Place b.address =
+          b.outcome.reply ∙ ap (λ (o : Outcome). o.reply) (sym moved ∙ is_root b.address) in
+          let pinned : a.address ≡ b.address =
+          one_address (get s.pinned id.0) id a.address b.address first second (a.may id target)
+          (may id target) in
+          by_outcomes _ _ (ap (reply_address s d.caller h) pinned ∙ moved) a.outcome b.outcome
 
   by_root : (r : ℕ) → RepliesRoot s d t r → RepliesRoot s e u r → IsAlike d e
   by_root r a b = by_outcomes _ _
@@ -248,7 +249,7 @@ module _ (n : Numbers) (s : State) (d e : Entry) (t u : State) (w : IsWellFormed
       by_outcomes _ _ (ap (λ c. new_object n s c r fields fin) callers) a.1 b.1
   by_way (makes_handle r make target) a b = by_making r make target a b
   by_way (collects k) a b = by_collection k a b
-  by_way (replies_place h) a b = by_place h a b
+  by_way (replies_address h) a b = by_index h a b
   by_way (gives_back kind) a b = by_trim kind a b
   by_way (adds_entry v key) a b = by_adding v key a b
   by_way (replies_root r) a b = by_root r a b

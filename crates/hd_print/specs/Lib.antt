@@ -1,3 +1,3 @@
-pub mod Operand
 pub mod EntryLines
 pub mod VerdictLaws
+pub mod Inside

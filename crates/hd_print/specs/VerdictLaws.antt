@@ -3,7 +3,7 @@ use Rattle.std.specs.Prelude.{◌≡◌, ℕ, List, ◌++◌, All}
 use Rattle.hd_model.specs.declared.command.Cmd.{Cmd}
 use Rattle.hd_model.specs.State.{Numbers}
 use Rattle.hd_model.specs.Text.{newline}
-use Rattle.hd_model.specs.Judged.{AreRight, IsNoRun}
+use Rattle.hd_model.specs.RunTexts.{AreRight, IsNoRun}
 
 -- a line has its end
 pub record HasEnd (line : List ℕ) : Type 0 where

@@ -5,7 +5,7 @@ ghost use Rattle.hd_model.specs.CommandText.{command_text, kind_name, strength_w
 ghost use Rattle.hd_model.specs.Grammar.{script_of};
 ghost use Rattle.hd_model.specs.Text.{newline};
 ghost use Rattle.hd_model.specs.Valid.{IsValid};
-ghost use Rattle.hd_print.specs.Operand.{operand_word};
+ghost use Rattle.hd_print.specs.Inside.{operand_word};
 
 use crate::line::Line;
 use Operand::{Handle, Number, Object, OfKind, OfStrength, Registered, Small};

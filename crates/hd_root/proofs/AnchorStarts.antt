@@ -12,7 +12,7 @@ use Rattle.hd_model.specs.Table.{Table, row_at}
 use Rattle.hd_model.proofs.Members.{mapped_in, mapped_from}
 use Rattle.hd_root.specs.declared.anchors.Anchor.{Anchor}
 use Rattle.hd_root.specs.declared.dependents.Link.{Link}
-use Rattle.hd_root.specs.Anchors.{AreStarts, anchor_of, id_of, node_of}
+use Rattle.hd_root.specs.Inside.{AreStarts, anchor_of, id_of, node_of}
 use Rattle.hd_root.specs.Links.{AreLinks}
 use Rattle.hd_root.specs.Search.{IsNode, address, number}
 use Rattle.hd_walk.specs.declared.trail.Found.{Found}

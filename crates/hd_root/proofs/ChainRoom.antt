@@ -12,8 +12,8 @@ use Rattle.hd_model.proofs.MapBuild.{in_keys, had_source}
 use Rattle.hd_model.proofs.Members.{mapped_from, pairs_mapped}
 use Rattle.hd_model.proofs.PropertyCounts.{fewer}
 use Rattle.hd_heap.specs.Sound.{IsSound}
-use Rattle.hd_root.specs.Chain.{AreFew}
-use Rattle.hd_root.specs.Search.{AreObjects, address}
+use Rattle.hd_root.specs.Inside.{AreFew}
+use Rattle.hd_root.specs.{Inside.AreObjects, Search.address}
 use Rattle.hd_walk.specs.declared.trail.Found.{Found}
 use Rattle.hd_walk.specs.Trail.{IsOnce, IsReadBack}
 

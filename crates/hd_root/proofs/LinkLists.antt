@@ -6,7 +6,7 @@ use Rattle.std.proofs.lemmas.List.{length_push}
 use Rattle.std.proofs.lemmas.Option.{same_Some, slice_get_within}
 use Rattle.hd_model.specs.declared.data.Addr.{Addr}
 use Rattle.hd_root.specs.declared.dependents.Link.{Link}
-use Rattle.hd_root.specs.Links.{Attaches, HasNone, IsLastAt, IsLast, AreChained, IsPut}
+use Rattle.hd_root.specs.{Links.Attaches, Inside.HasNone, Inside.IsLastAt, Inside.IsLast, Inside.AreChained, Inside.IsPut}
 use Rattle.hd_walk.proofs.Slices.{at_left, at_end, at_push}
 
 -- links from an index on with the target x attach y to it

@@ -17,7 +17,7 @@ use Rattle.hd_model.specs.Table.{Table, IsTable, chain_of, fits, kind_at, kind_i
 use Rattle.hd_model.specs.Reach.{IsAttached}
 use Rattle.hd_model.proofs.Members.{not_in_none, first_in, member_cases, pairs_first, pairs_rest}
 use Rattle.hd_root.specs.declared.dependents.Link.{Link}
-use Rattle.hd_root.specs.Links.{Attaches, IsPut, HasGathered, AreLinks, both_of, attached_in}
+use Rattle.hd_root.specs.{Links.Attaches, Links.AreLinks, Inside.IsPut, Inside.HasGathered, Inside.both_of, Inside.attached_in}
 use Rattle.hd_root.proofs.LinkLists.{put_keeps, put_attaches, put_only}
 
 -- a row that attaches something has a target and a secondary, and the other way round

@@ -9,11 +9,12 @@ use Rattle.hd_model.specs.Anchors.{IsUnrooted}
 use Rattle.hd_model.specs.Heap.{Heap}
 use Rattle.hd_model.specs.Table.{Table}
 use Rattle.hd_root.specs.declared.dependents.Link.{Link}
-use Rattle.hd_root.specs.Anchors.{AreStarts}
-use Rattle.hd_root.specs.Chain.{IsPath, IsLeastChain, IsChainOf}
-use Rattle.hd_root.specs.Search.{AreObjects, EdgeBy, EdgeIn, IsNode, address, in_any_order, number}
+use Rattle.hd_root.specs.Inside.{AreStarts}
+use Rattle.hd_root.specs.{Chain.IsPath, Chain.IsLeastChain, Inside.IsChainOf}
+use Rattle.hd_root.specs.{Inside.AreObjects, Search.EdgeBy, Search.EdgeIn, Search.IsNode, Search.address, Search.in_any_order, Search.number}
 use Rattle.hd_walk.specs.declared.trail.Found.{Found}
-use Rattle.hd_walk.specs.Chains.{IsLeast, IsWalk}
+use Rattle.hd_walk.specs.Chains.{IsWalk}
+use Rattle.hd_walk.proofs.LeastChains.{IsLeast}
 use Rattle.hd_walk.specs.Trail.{IsFalling, with_all}
 use Rattle.hd_walk.specs.Walk.{AreNodes, HasEnded, IsAtGoal}
 use Rattle.hd_walk.proofs.NamedChains.{shortest_of, unrooted_of}

@@ -11,8 +11,8 @@ use Rattle.hd_model.specs.Scene.{fields_at}
 use Rattle.hd_model.specs.Table.{Table}
 use Rattle.hd_model.proofs.Members.{not_in_none, first_in, later_in, member_cases}
 use Rattle.hd_root.specs.declared.dependents.Link.{Link}
-use Rattle.hd_root.specs.Links.{Attaches, IsLast}
-use Rattle.hd_root.specs.Search.{EdgeBy, HasListed, IsNode, address, in_any_order, nodes_in}
+use Rattle.hd_root.specs.{Links.Attaches, Inside.IsLast}
+use Rattle.hd_root.specs.{Search.EdgeBy, Search.IsNode, Search.address, Search.in_any_order, Inside.HasListed, Inside.nodes_in}
 use Rattle.hd_root.proofs.LinkLists.{AttachesFrom, from_end, from_all, from_next, to_next}
 use Rattle.hd_walk.specs.Walk.{AreTargets}
 

@@ -1,4 +1,4 @@
 pub mod Links
 pub mod Search
-pub mod Anchors
 pub mod Chain
+pub mod Inside

@@ -1,5 +1,5 @@
 -- A search over the objects of a heap. The node of an object is the number of its address.
-use Rattle.std.specs.Prelude.{◌≡◌, ℕ, true, List, [], ◌∷◌, ◌++◌, slice_get, Option, None, Some, Contains}
+use Rattle.std.specs.Prelude.{◌≡◌, ℕ, true, List}
 use Rattle.hd_model.specs.declared.data.Addr.{Addr}
 use Rattle.hd_model.specs.Heap.{Heap, has_object, object_at, id_at}
 use Rattle.hd_model.specs.Names.{HasClosedFields, NamesObjects}
@@ -7,7 +7,6 @@ use Rattle.hd_model.specs.Reach.{IsEdge}
 use Rattle.hd_model.specs.Table.{Table, row_at}
 use Rattle.hd_root.specs.declared.dependents.Link.{Link}
 use Rattle.hd_root.specs.Links.{AreLinks}
-use Rattle.hd_walk.specs.declared.trail.Found.{Found}
 
 -- the edges of a heap and a table, and the identity of an object as a number
 abbrev pub EdgeIn : Heap → Table → Addr → Addr → Type 0
@@ -33,19 +32,3 @@ pub record IsNode (h : Heap) (t : Table) (links : List Link) (x : ℕ) : Type 0 
 -- any order of targets will do
 abbrev pub in_any_order : ℕ → ℕ → Type 0
 in_any_order x y = Unit {0}
-
--- all nodes with a property are listed after others
-pub record HasListed (P : ℕ → Type 0) (old new : List ℕ) : Type 0 where
-  pub added : List ℕ
-  pub extends : new ≡ old ++ added
-  pub only : (y : ℕ) → Contains added y → P y
-  pub all : (y : ℕ) → P y → Contains added y
-
--- the node of what a field references, if anything
-abbrev pub nodes_in : Option Addr → List ℕ
-nodes_in None = []
-nodes_in (Some a) = a.0 ∷ []
-
--- all that is found are objects
-abbrev pub AreObjects : Heap → List Found → Type 0
-AreObjects h found = (i : ℕ) (x : Found) → slice_get found i ≡ Some x → has_object h (address x.at) ≡ true

@@ -4,7 +4,7 @@ ghost use Rattle.std.specs.Prelude.{◌≡◌, true, map, Contains, IfOk};
 ghost use Rattle.std.specs.List.Sorted.{IsPermutation, IsNonDecreasingBy};
 ghost use Rattle.hd_model.specs.declared.data.Addr.{Addr as AddrValue};
 ghost use Rattle.hd_model.specs.Heap.{has_object};
-ghost use Rattle.hd_root.specs.Anchors.{AreStarts, anchor_of, id_of, node_of};
+ghost use Rattle.hd_root.specs.Inside.{AreStarts, anchor_of, id_of, node_of};
 
 use hd_heap::Heap;
 use hd_model::Addr;

@@ -1,6 +1,6 @@
 ghost use Rattle.std.specs.Prelude.{◌≡◌, ◌<◌, length, slice_get, Some, IfOk};
-ghost use Rattle.hd_root.specs.Chain.{IsChainOf};
-ghost use Rattle.hd_root.specs.Search.{AreObjects};
+ghost use Rattle.hd_root.specs.Inside.{IsChainOf};
+ghost use Rattle.hd_root.specs.Inside.{AreObjects};
 ghost use Rattle.hd_walk.specs.Trail.{IsFalling};
 
 use hd_heap::Heap;
@@ -18,7 +18,7 @@ pub struct Chain {
 impl Model for Chain {
     ghost use Rattle.std.specs.Prelude.{List, map};
     ghost use Rattle.hd_model.specs.declared.data.Addr.{Addr};
-    ghost use Rattle.hd_root.specs.Chain.{AreFew};
+    ghost use Rattle.hd_root.specs.Inside.{AreFew};
     ghost use Rattle.hd_root.specs.Search.{address};
 
     ghost Value = { List Addr };

@@ -3,7 +3,7 @@
 
 ghost use Rattle.std.specs.Prelude.{◌≡◌, ◌+◌, ◌*◌, ◌<◌, ◌≤◌, [], length, slice_get, Some, IfOk, OnOk};
 ghost use Rattle.std.specs.FinMap.{get};
-ghost use Rattle.hd_root.specs.Links.{AreLinks, HasGathered, IsLast, IsPut, attached_in};
+ghost use Rattle.hd_root.specs.{Links.AreLinks, Inside.HasGathered, Inside.IsLast, Inside.IsPut, Inside.attached_in};
 
 use hd_model::limits::ROWS;
 use hd_model::{Addr, Kind, Slot};
@@ -33,7 +33,7 @@ impl Model for Dependents {
     ghost use Rattle.std.specs.Prelude.{List, nat_eq};
     ghost use Rattle.std.specs.HashMap.{get};
     ghost use Rattle.hd_root.specs.declared.dependents.Link.{Link};
-    ghost use Rattle.hd_root.specs.Links.{AreChained};
+    ghost use Rattle.hd_root.specs.Inside.{AreChained};
 
     ghost Value = { List Link };
 
@@ -91,14 +91,14 @@ pub(crate) fn dependents_of(alloc: Global, seg: &Seg) -> Result<Dependents, Allo
     let mut dependents = Dependents::empty(alloc);
     let mut block = seg.first(Kind::Dependent);
     while let Some(at) = block {
-        put_block(seg, at, &mut dependents)?;
+        add_links_of_block(seg, at, &mut dependents)?;
         block = seg.after(at);
     }
     Ok(dependents)
 }
 
 // Puts the rows of a block.
-fn put_block(seg: &Seg, block: u32, dependents: &mut Dependents) -> Result<(), AllocError>
+fn add_links_of_block(seg: &Seg, block: u32, dependents: &mut Dependents) -> Result<(), AllocError>
     requires low { 1 ≤ block }
     requires high { block ≤ seg.now.blocks }
     ensures { let first = block * ROWS in

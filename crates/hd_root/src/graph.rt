@@ -3,7 +3,7 @@ ghost use Rattle.std.specs.Prelude.{◌≡◌, ◌++◌, ◌<◌, ◌^◌, true,
 ghost use Rattle.hd_model.specs.Heap.{has_object, object_at};
 ghost use Rattle.hd_model.specs.Scene.{fields_at};
 ghost use Rattle.hd_root.specs.Links.{Attaches};
-ghost use Rattle.hd_root.specs.Search.{HasListed, address, nodes_in};
+ghost use Rattle.hd_root.specs.{Inside.HasListed, Inside.nodes_in, Search.address};
 
 use crate::dependents::Dependents;
 use hd_heap::Heap;

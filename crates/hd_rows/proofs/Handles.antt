@@ -13,7 +13,7 @@ use Rattle.hd_ages.specs.Clumps.{clump_at}
 use Rattle.hd_seg.specs.declared.row.Row.{Row}
 use Rattle.hd_commands.specs.Handles.{extra_of}
 use Rattle.hd_seg.specs.Row.{extra_from, row_of}
-use Rattle.hd_rows.specs.Checks.{IsPlain}
+use Rattle.hd_rows.specs.Inside.{IsPlain}
 
 extra_again : (e : state.Extra Addr) → extra_of (extra_from e) ≡ e
 extra_again state.nothing = refl

@@ -39,7 +39,7 @@ module _ (old new : Heap) (at : Addr) (o : Placed) (m : IsMade old new at o)
   made_is_there : has_object new at ≡ true
   made_is_there =
       there_now at
-      (ap (λ k. is_some (map.get new.objects k)) m.place
+      (ap (λ k. is_some (map.get new.objects k)) m.address
       ∙ ap (λ (os : map.FinMap nat_cmp Placed). is_some (map.get os Key)) objects_are
       ∙ ap is_some (get_inserted old.objects Key o))
 

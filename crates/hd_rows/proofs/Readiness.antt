@@ -13,7 +13,7 @@ use Rattle.hd_model.specs.Table.{Table, Queue}
 use Rattle.hd_model.proofs.Members.{not_in_none}
 use Rattle.hd_plan.specs.Plan.{HasNoEmptyRegion}
 use Rattle.hd_gc.specs.Ready.{IsReady, parts}
-use Rattle.hd_rows.specs.Checks.{IsBare, AreAlone, ArePlain}
+use Rattle.hd_rows.specs.Inside.{IsBare, AreAlone, ArePlain}
 
 module _ (h : Heap) (bare : IsBare h) where
   field_object : (x y : Addr) (o : Option (Object Addr)) → object_at h x ≡ o → Contains (fields_in o) (Some y)

@@ -1,4 +1,3 @@
 pub mod Toy
-pub mod Checks
 pub mod Mirror
-pub mod Roots
+pub mod Inside

@@ -38,7 +38,7 @@ fn set_header(rt: &impl Abort, region: &mut Region, at: u32, v: u64, registered:
     region.set_registered(at, registered);
 }
 
-// Walks from some places on: the first object that starts there or later.
+// Walks from some offsets on: the first object that starts there or later.
 fn walks(rt: &impl Abort, region: &Region, table: &[(u32, Option<u32>)]) {
     for (from, found) in table {
         same_at(rt, from, region.walk(*from), *found);
@@ -51,7 +51,7 @@ fn remove(rt: &impl Abort, region: &mut Region, at: u32) {
     region.remove(at);
 }
 
-// An object is at a place, and the next one at another.
+// An object is at an offset, and the next one at another.
 fn is_stored(rt: &impl Abort, region: &Region, at: u32, next: Option<u32>) {
     assert!(rt; region.is_object(at));
     same(rt, region.after(at), next);

@@ -7,7 +7,7 @@ ghost use Rattle.hd_model.specs.Heap.{has_object, object_at, id_at};
 ghost use Rattle.hd_model.specs.Names.{HasClosedFields};
 ghost use Rattle.hd_model.specs.Scene.{IsField};
 ghost use Rattle.hd_model.specs.Table.{row_at};
-ghost use Rattle.hd_rows.specs.Checks.{HasNullFields, IsBare, IsAlone, AreAlone, IsPlain, ArePlain};
+ghost use Rattle.hd_rows.specs.Inside.{HasNullFields, IsBare, IsAlone, AreAlone, IsPlain, ArePlain};
 
 use hd_ages::AgeMap;
 use hd_heap::Heap;

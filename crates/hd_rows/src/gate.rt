@@ -264,14 +264,14 @@ fn work<R: Wait>(
     rt: &R,
     shared: &Shared,
     caller: &mut Caller,
-    place: usize,
+    index: usize,
     times: u32,
     cmds: &[Cmd],
 )
     requires { IsCallerOf shared.now caller.old }
     ensures { IsSameCaller caller.old caller.new }
 {
-    let k = (place % 16) as u8;
+    let k = (index % 16) as u8;
     follow(rt, shared, caller, &[new(1), Cmd::SPut { k, s: 1 }]);
     for _time in 0..times {
         follow(rt, shared, caller, cmds);
@@ -291,10 +291,10 @@ fn work_all<R: Threads + Wait + Sync>(
     requires threads { 0 < threads }
     ensures { AreAll shared.now callers.new }
 {
-    let each = |place: usize, caller: &mut Caller|
+    let each = |index: usize, caller: &mut Caller|
         requires { IsSync R.row × IsCallerOf shared.now caller.old }
         ensures { IsSameCaller caller.old caller.new }
-    { work(rt, shared, caller, place, times, cmds) };
+    { work(rt, shared, caller, index, times, cmds) };
     for_each_mut(rt, callers.all(), threads, &each);
 }
 

@@ -133,8 +133,8 @@ fn make_young(ages: &mut AgeMap)
     requires { length ages.old ≡ CLUMPS * TABLE }
     ensures { length ages.new ≡ CLUMPS * TABLE }
 {
-    for place in 0..CLUMPS * TABLE {
-        lower(ages, place / CLUMPS + 1, place % CLUMPS, 0);
+    for index in 0..CLUMPS * TABLE {
+        lower(ages, index / CLUMPS + 1, index % CLUMPS, 0);
     }
 }
 
@@ -147,8 +147,8 @@ fn chain(rt: &impl Abort, seg: &mut Seg, third: u32, rising: bool)
 {
     let first = block(rt, seg, Kind::Dependent);
     for clump in 0..CLUMPS {
-        let place = CLUMPS * third + clump;
-        let from = if rising { place } else { 11 - place };
+        let index = CLUMPS * third + clump;
+        let from = if rising { index } else { 11 - index };
         let extra = Extra::Secondary(Some(Addr(from + 1)));
         put(rt, seg, first + CLUMP * clump, Some(from), extra);
     }

@@ -153,7 +153,7 @@ fn older_objects_do_not_join(rt: HostRuntime) -> Result<(), Fail> {
 }
 
 #[test]
-fn settling_spares_those_before_a_place(rt: HostRuntime) -> Result<(), Fail> {
+fn settling_leaves_those_before_an_index(rt: HostRuntime) -> Result<(), Fail> {
     let mut heap = heap_of(rt.alloc(), &[true, true, true])?;
     let mut queue = queue_of(&rt, rt.alloc(), &heap, 2, false, 3)?;
     settle(&mut heap, &queue, 3);
@@ -192,7 +192,7 @@ impl<'h> Forward for Mirror<'h> {
 
     ghost kept = { λ m. has_object m.heap.now };
 
-    ghost place = { λ m. mirrored };
+    ghost forwarding = { λ m. mirrored };
 
     ghost keeps = { λ m laid. laid };
 

@@ -4,7 +4,7 @@ ghost use Rattle.hd_model.specs.declared.data.Addr.{Addr as AddrValue};
 ghost use Rattle.hd_model.specs.Heap.{has_object, object_at};
 ghost use Rattle.hd_model.specs.Names.{NamesObjects};
 ghost use Rattle.hd_model.specs.Table.{row_at};
-ghost use Rattle.hd_rows.specs.Roots.{NamesIn};
+ghost use Rattle.hd_rows.specs.Inside.{NamesIn};
 
 use crate::checks::{is_closed, is_object_at};
 use crate::heap::{new, store};

@@ -373,7 +373,7 @@ impl Meeting {
     }
 
     // Whether all came, and none went on without the others.
-    fn took_place(&self) -> bool {
+    fn met(&self) -> bool {
         self.came.load(Ordering::SeqCst) == self.callers && self.missed.load(Ordering::SeqCst) == 0
     }
 }
@@ -424,7 +424,7 @@ fn two_callers_meet(rt: HostRuntime) -> Result<(), Fail> {
     let mut sink = MemorySink::open(alloc, ROOM, &[])?;
     let pace = Meeting::of(2);
     same(&rt, run_status(&rt, alloc, &scripts, &mut sink, &pace), 0);
-    assert!(rt; pace.took_place());
+    assert!(rt; pace.met());
     Ok(())
 }
 
@@ -434,6 +434,6 @@ fn the_callers_of_a_load_meet(rt: HostRuntime) -> Result<(), Fail> {
     let mut sink = MemorySink::open(alloc, ROOM, &[])?;
     let pace = Meeting::of(4);
     same(&rt, load_status(&rt, alloc, &mut sink, &pace), 0);
-    assert!(rt; pace.took_place());
+    assert!(rt; pace.met());
     Ok(())
 }

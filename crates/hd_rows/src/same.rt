@@ -12,7 +12,7 @@ pub(crate) fn same<T: PartialEq + Debug + Drop>(rt: &impl Abort, found: T, want:
     assert_eq!(rt; found, want);
 }
 
-/// The same, at a place of a table that a failure names.
+/// The same, in a row of a table that a failure names.
 pub(crate) fn same_at<T, A>(rt: &impl Abort, at: A, found: T, want: T)
 where
     T: PartialEq + Debug + Drop,

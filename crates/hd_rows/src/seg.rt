@@ -137,7 +137,7 @@ fn a_row_is_read_by_its_kind_and_gets_another_target(rt: HostRuntime) -> Result<
     Ok(())
 }
 
-// The block at a place of a chain, without what the call promises.
+// The block at an index of a chain, without what the call promises.
 fn block_at(seg: &Seg, kind: Kind, place: u32) -> Option<u32> {
     seg.block_at(kind, place)
 }

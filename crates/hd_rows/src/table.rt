@@ -7,7 +7,7 @@ ghost use Rattle.hd_model.specs.Heap.{objects_of};
 ghost use Rattle.hd_model.specs.Names.{NamesObjects};
 ghost use Rattle.hd_model.specs.Table.{row_at};
 ghost use Rattle.hd_commands.specs.Handles.{extra_of};
-ghost use Rattle.hd_rows.specs.Toy.{NamesBelow, fits_by, toy_basis};
+ghost use Rattle.hd_rows.specs.{Inside.NamesBelow, Inside.fits_by, Toy.toy_basis};
 
 use crate::toy::Toy;
 use hd_ages::AgeMap;

@@ -145,7 +145,7 @@ impl Forward for Turned {
 
     ghost kept = { λ f. is_below f.objects };
 
-    ghost place = { λ f. turned f.objects };
+    ghost forwarding = { λ f. turned f.objects };
 
     ghost keeps = { λ f laid. laid };
 

@@ -291,7 +291,7 @@ const MANY: [Part; 7] = [
 
 // A slot stays held once its key was taken out: no handle gets it, its block does not go back, and
 // the next entry is in it.
-const HELD: [Part; 6] = [
+const HELD_PARTS: [Part; 6] = [
     (
         "new r0 0\ncadd r0 r0\ncremove r0\n",
         1,
@@ -331,5 +331,5 @@ fn many_entries_come_and_go(rt: HostRuntime) -> Result<(), Fail> {
 
 #[test]
 fn a_slot_without_a_key_stays_held(rt: HostRuntime) -> Result<(), Fail> {
-    assert_parts(&rt, "2", &HELD)
+    assert_parts(&rt, "2", &HELD_PARTS)
 }

@@ -4,7 +4,7 @@ use Rattle.std.specs.List.{concat}
 use Rattle.std.proofs.lemmas.Bool.{true≢false}
 use Rattle.std.proofs.lemmas.List.{append_cancel_left}
 use Rattle.std.proofs.lemmas.List.Elements.{All-head, All-tail}
-use Rattle.hd_model.specs.{Grammar.script_of, Judged.cut_lines}
+use Rattle.hd_model.specs.{Grammar.script_of, RunTexts.cut_lines}
 use Rattle.hd_audit.proofs.LineCuts.{lines_again}
 use Rattle.hd_script.specs.AuditInput.{IsAuditInput, IsDivided, IsNoAuditInput, NoneDivides, in_all, in_script, is_dividing, undivided}
 

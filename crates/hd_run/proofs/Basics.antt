@@ -42,13 +42,13 @@ pub use Rattle.hd_print.specs.declared.entries.Form.{Form}
 pub use Rattle.hd_print.specs.declared.entries.Form.TheVariants.{Full, Plain}
 pub use Rattle.hd_run.specs.Bounds.{numbers_for}
 pub use Rattle.hd_run.specs.Claims.{DecidesStatus, AreBytesRefused, AsksForLoad, AsksToRead, HasLine, IsStatus, KeepsCount, KeepsRun, Promise, RefusesScript, RunsWhole, StopsForMemory, Together}
-pub use Rattle.hd_run.specs.Ending.{Cause, CauseBy, CauseOfFault, FaultCause, IsLoadScript, IsProgram, Keeps, Lists, RanBy, ReadBytes, ReadProgram, ReadWhole, RefusedBy, RunBy, RunCause, ScriptBy, StoppedAtBy, journal_in, kept_of, kept_that, numbers_by, run_ending, world_of, world_that}
+pub use Rattle.hd_run.specs.{Ending.Cause, Ending.CauseBy, Ending.CauseOfFault, Ending.FaultCause, Ending.IsLoadScript, Ending.IsProgram, Ending.RanBy, Ending.ReadBytes, Ending.ReadProgram, Ending.ReadWhole, Ending.RefusedBy, Ending.RunBy, Ending.RunCause, Ending.ScriptBy, Ending.StoppedAtBy, Ending.journal_in, Ending.kept_of, Ending.kept_that, Ending.numbers_by, Ending.world_of, Ending.world_that, Inside.Keeps, Inside.Lists, Inside.run_ending}
 pub use Rattle.hd_run.specs.Modes.{in_threads, mode_of, output_by, output_of, runs_alone, traits_of}
-pub use Rattle.hd_run.specs.Report.{HasFewCallers, HasSumOf, IsReported, IsWritable, Reports, Writes, fault_status, memory_text, output_for, ran_text, status_of, stopped_text, text_for, whole_text}
-pub use Rattle.hd_run.specs.Together.{HasPlayed, HavePlayed, IsReadyToPlay, MayWantMemory, RanAllTogether, StoppedTogether}
-pub use Rattle.hd_run.specs.Turns.{IsReadyFor, IsReadyToRun, RanWhole, StoppedAt, list_of, taken_by, turn_of, turns_from, turns_of}
-pub use Rattle.hd_run.specs.Words.{GivesNumber, GivesNumbers, IsFaultOfWords, IsInLimits, IsRefusal, asked_by, audit_of, is_given, listing_of, number_in, number_of, program, request_of, request_or_usage, solo_of, unless_faulty, with_numbers}
-pub use Rattle.hd_run.specs.Work.{IsJob, Worked}
+pub use Rattle.hd_run.specs.{Inside.HasFewCallers, Inside.HasSumOf, Inside.IsWritable, Inside.Writes, Report.IsReported, Report.Reports, Report.fault_status, Report.memory_text, Report.output_for, Report.ran_text, Report.status_of, Report.stopped_text, Report.text_for, Report.whole_text}
+pub use Rattle.hd_run.specs.{Inside.HasPlayed, Inside.HavePlayed, Inside.IsReadyToPlay, Together.MayRunOut, Together.RanAllTogether, Together.StoppedTogether}
+pub use Rattle.hd_run.specs.{Inside.IsReadyFor, Inside.IsReadyToRun, Turns.RanWhole, Turns.StoppedAt, Turns.list_of, Turns.taken_by, Turns.turn_of, Turns.turns_from, Turns.turns_of}
+pub use Rattle.hd_run.specs.{Inside.GivesNumber, Inside.GivesNumbers, Inside.IsFaultOfWords, Inside.IsInLimits, Inside.IsRefusal, Inside.request_or_usage, Words.asked_by, Words.audit_of, Words.is_given, Words.listing_of, Words.number_in, Words.number_of, Words.program, Words.request_of, Words.solo_of, Words.unless_faulty, Words.with_numbers}
+pub use Rattle.hd_run.specs.Inside.{IsJob, Worked}
 pub use Rattle.hd_run.specs.declared.ending.Ending.{Ending}
 pub use Rattle.hd_run.specs.declared.ending.Ending.TheVariants.{Done, Refused, Stopped}
 pub use Rattle.hd_run.specs.declared.fault.Fault.{Fault}

@@ -5,12 +5,12 @@ use Rattle.hd_model.proofs.Basics.{cases_eq, ⊎_elim}
 use Rattle.hd_model.proofs.StepChains.{run_from_solo}
 use Rattle.hd_model.specs.FullText.{full_text_of}
 use Rattle.hd_model.specs.Grammar.{IsScript, script_of}
-use Rattle.hd_model.specs.Judged.{IsNoRun, IsRunText}
+use Rattle.hd_model.specs.RunTexts.{IsNoRun, IsRunText}
 use Rattle.hd_model.specs.State.{Numbers}
 use Rattle.hd_io.specs.Sink.{Appends}
 use Rattle.hd_script.specs.AuditInput.{IsDivided}
 use Rattle.hd_audit.proofs.RunTexts.{runs_have_no_wrong_line}
-use Rattle.hd_audit.specs.Judging.{IsRight}
+use Rattle.hd_audit.specs.RightVerdicts.{IsRight}
 use Rattle.hd_audit.specs.declared.lines.Verdict.{Verdict}
 use Rattle.hd_audit.specs.declared.lines.Verdict.TheVariants as verdict
 use Rattle.hd_run.specs.Audit.{HasNoRun}

@@ -1,5 +1,5 @@
 -- How a caller goes through its list.
-use Rattle.hd_run.proofs.Basics.{CallerView, Cmd, Entry, HasDone, HasPlayed, IsSameCaller, IsTrue, List, MayWantMemory, Reply, [], ap, arith, commands_of, drop, drop_all, drop_more, get_or, having_seen, length, length-drop, map-append, subst, sym, take, take-append-drop, take_more, takes_memory, ℕ, ◌++◌, ◌+◌, ◌<◌, ◌∙◌, ◌∷◌, ◌≡◌, ◌≤◌}
+use Rattle.hd_run.proofs.Basics.{CallerView, Cmd, Entry, HasDone, HasPlayed, IsSameCaller, IsTrue, List, MayRunOut, Reply, [], ap, arith, commands_of, drop, drop_all, drop_more, get_or, having_seen, length, length-drop, map-append, subst, sym, take, take-append-drop, take_more, takes_memory, ℕ, ◌++◌, ◌+◌, ◌<◌, ◌∙◌, ◌∷◌, ◌≡◌, ◌≤◌}
 
 -- a caller that began as this one has done this number of commands of its list
 pub record IsAt (list : List Cmd) (begun p : CallerView) (i : ℕ) : Type 0 where
@@ -35,7 +35,7 @@ module _ (list : List Cmd) (begun : CallerView) where
     left = drop i list;
     parts = sym (take-append-drop i list) ∙ ap (λ v. v ++ drop i list) (sym at.done);
     room = omega (arith, length-drop i list, at.room);
-    wants = subst MayWantMemory (sym (drop_more list i cmd lt ∙ ap (λ c. c ∷ drop (i + 1) list) here)) wants;
+    wants = subst MayRunOut (sym (drop_more list i cmd lt ∙ ap (λ c. c ∷ drop (i + 1) list) here)) wants;
   }
 
   -- which changed nothing but what it has seen
@@ -56,5 +56,5 @@ module _ (list : List Cmd) (begun : CallerView) where
     left = drop i list;
     parts = sym (take-append-drop i list) ∙ ap (λ v. v ++ drop i list) (sym at.done);
     room = omega (arith, length-drop i list, at.room);
-    wants = subst MayWantMemory (sym (drop_all i list all)) tt;
+    wants = subst MayRunOut (sym (drop_all i list all)) tt;
   }

@@ -1,5 +1,5 @@
 -- The callers of a shared world once each has gone through its list: what they did is one run.
-use Rattle.hd_run.proofs.Basics.{All, All-cons, All-nil, All-weaker, Any, AreAll, Begin, Bool, CALLERS, CallerView, Chain, Cmd, Entry, HasFewCallers, HasParts, HasPlayed, HavePlayed, IsReadyToPlay, List, MatchBool, MayWantMemory, Numbers, RanAllTogether, Run, RunCause, State, StoppedTogether, WorldView, [], ap, arith, cases_lt, commands_of, drop, drop_all, false, get_or-map, get_or_past, in_threads, inl, inr, length, length-map, link, list_of, map, nil_from_length, part_of, refl, run_ending, slice_index_or, stay, subst, sym, true, ℕ, ◌++◌, ◌<◌, ◌∙◌, ◌∷◌, ◌≡◌, ◌≤◌}
+use Rattle.hd_run.proofs.Basics.{All, All-cons, All-nil, All-weaker, Any, AreAll, Begin, Bool, CALLERS, CallerView, Chain, Cmd, Entry, HasFewCallers, HasParts, HasPlayed, HavePlayed, IsReadyToPlay, List, MatchBool, MayRunOut, Numbers, RanAllTogether, Run, RunCause, State, StoppedTogether, WorldView, [], ap, arith, cases_lt, commands_of, drop, drop_all, false, get_or-map, get_or_past, in_threads, inl, inr, length, length-map, link, list_of, map, nil_from_length, part_of, refl, run_ending, slice_index_or, stay, subst, sym, true, ℕ, ◌++◌, ◌<◌, ◌∙◌, ◌∷◌, ◌≡◌, ◌≤◌}
 use Rattle.hd_model.specs.Step.{Step}
 use Rattle.hd_custody.specs.Views.{Named}
 use Rattle.hd_run.specs.declared.ending.Ran.TheVariants as ran
@@ -78,7 +78,7 @@ module _ (s : Named) (lists : List (List Cmd)) (before : List CallerView)
       pub record Did (c : ℕ) (p : CallerView) : Type 0 where
         pub parts : list_of lists c ≡ commands_of (part_of w.journal c) ++ left c
         pub room : length (left c) ≡ p.room
-        pub wants : MayWantMemory (left c)
+        pub wants : MayRunOut (left c)
 
       did : (c : ℕ) (d : CallerView) → c < length after → Did c (slice_index_or after c d)
       did c d lt =
@@ -98,7 +98,7 @@ module _ (s : Named) (lists : List (List Cmd)) (before : List CallerView)
           record {
             parts = split ∙ ap (λ v. commands_of (part_of w.journal c) ++ v) (sym rest);
             room = ap length rest ∙ p.room;
-            wants = subst MayWantMemory (sym rest) p.wants;
+            wants = subst MayRunOut (sym rest) p.wants;
           }
 
       -- nobody else has a list, or left anything of it
@@ -116,10 +116,10 @@ module _ (s : Named) (lists : List (List Cmd)) (before : List CallerView)
             ∙ (λ i. commands_of (sym (has_parts.others c ge) i) ++ sym (nothing_left c ge) i)
       ]
 
-      wants_at : (c : ℕ) → MayWantMemory (left c)
+      wants_at : (c : ℕ) → MayRunOut (left c)
       wants_at c = elim (cases_lt c (length after)) [
         | inl lt ↦ (did c (some_of after c lt) lt).wants
-        | inr ge ↦ subst MayWantMemory (sym (nothing_left c ge)) tt
+        | inr ge ↦ subst MayRunOut (sym (nothing_left c ge)) tt
       ]
 
       module _ (n : Numbers) (numbers : w.numbers ≡ n) (run : Run w.numbers w.journal w.state) where

@@ -1,22 +1,12 @@
 -- What an audit finds, its cause, and its report. The texts and the statuses are this project's own.
 use Rattle.std.specs.Prelude.{◌≡◌, ℕ, ◌++◌, ◌⊎◌, List, codes, decimal, Option, None, Some}
-use Rattle.hd_model.specs.{declared.command.Cmd.Cmd, Judged.IsRunText, Judged.IsNoRun, State.Numbers, Text.newline}
+use Rattle.hd_model.specs.{declared.command.Cmd.Cmd, RunTexts.IsRunText, RunTexts.IsNoRun, State.Numbers, Text.newline}
 use Rattle.hd_io.specs.Sink.{SinkView}
 use Rattle.hd_io.specs.Source.{SourceView}
 use Rattle.hd_script.specs.AuditInput.{IsAuditInput, IsNoAuditInput}
-use Rattle.hd_audit.specs.declared.lines.Verdict.{Verdict}
-use Rattle.hd_audit.specs.declared.lines.Verdict.TheVariants as verdict
 use Rattle.hd_run.specs.{declared.audit.Finding.Finding, declared.outcome.Kept.TheVariants.Nothing, declared.outcome.Outcome.Outcome, declared.request.Request.Request, Bounds.Bounds, Bounds.numbers_for, Ending.CauseOfFault, Ending.ReadBytes, Report.IsReported, Report.fault_status, Report.fault_text}
 use Rattle.hd_run.specs.declared.audit.Finding.TheVariants.{Refused, Right, WrongAt}
-use Rattle.hd_run.specs.declared.fault.Fault.TheVariants.{Usage, Unread, OverSize, BadLine, NoMemory}
-
--- ---- what is found
-
--- what a verdict comes to
-abbrev pub finding_of : Verdict → Finding
-finding_of verdict.Run = Right
-finding_of (verdict.NotRun line) = WrongAt line
-finding_of verdict.Memory = Refused NoMemory
+use Rattle.hd_run.specs.declared.fault.Fault.TheVariants.{Usage, NoMemory}
 
 -- the bytes are a script, a dividing line and a text, and this is true of the text in a run within the
 -- limits
@@ -34,16 +24,6 @@ HasRun b bytes = IsJudged b bytes IsRunText
 -- it is not: this line of it is the first that is not right, or the one that is missing
 abbrev pub HasNoRun : Bounds → List ℕ → ℕ → Type 0
 HasNoRun b bytes line = IsJudged b bytes (λ n lists text. IsNoRun n lists text line)
-
--- what is found in bytes; out of memory means nothing for them
-abbrev pub FindsIn : Bounds → List ℕ → Finding → Type 0
-FindsIn b bytes (Refused Usage) = ⊥
-FindsIn b bytes (Refused Unread) = ⊥
-FindsIn b bytes (Refused OverSize) = ⊥
-FindsIn b bytes (Refused (BadLine k)) = IsNoAuditInput bytes k
-FindsIn b bytes (Refused NoMemory) = Unit {0}
-FindsIn b bytes Right = HasRun b bytes
-FindsIn b bytes (WrongAt line) = HasNoRun b bytes line
 
 -- ---- its cause
 

@@ -1,7 +1,7 @@
 -- How the work of a call ends before its report is written, and the cause of each ending. The work
 -- goes in this order: the words, reading, the size, the grammar, running. All this is the project's
 -- own.
-use Rattle.std.specs.Prelude.{◌≡◌, ◌⊎◌, Bool, true, false, ℕ, ◌+◌, ◌≤◌, List, [], length, Option, None, Some, Result, Ok, Err}
+use Rattle.std.specs.Prelude.{◌≡◌, ◌⊎◌, Bool, true, false, ℕ, ◌+◌, ◌≤◌, List, [], length, Option, None, Some, Ok, Err}
 use Rattle.hd_model.specs.{declared.command.Cmd.Cmd, declared.data.Entry.Entry, declared.data.RootId.RootId, declared.limits.TheConstants.MOST_BYTES, declared.limits.TheConstants.MOST_ROUNDS, Generated.load_numbers, Generated.generated_lists, Grammar.script_of, Grammar.AreLists, RootText.roots_of, State.Numbers}
 use Rattle.hd_io.specs.declared.source.ReadFault.{ReadFault}
 use Rattle.hd_io.specs.declared.source.ReadFault.TheVariants as read_fault
@@ -42,24 +42,6 @@ kept_of (Refused fault) = Nothing
 kept_of (Stopped run) = kept_that run
 kept_of (Done run roots) = kept_that run
 
--- the ending of a run that keeps its world, by whether it was whole
-abbrev pub run_ending : Bool → Ran → Ending
-run_ending true run = Done run None
-run_ending false run = Stopped run
-
--- an ending once roots were to be listed: those of a world that ran its whole script, unless memory ran out
-abbrev pub Lists : Ending → Ending → Type 0
-Lists (Refused fault) after = after ≡ Refused fault
-Lists (Stopped run) after = after ≡ Stopped run
-Lists (Done run roots) after =
-    (after ≡ Stopped run) ⊎ (after ≡ Done run (Some (roots_of (world_that run).state)))
-
--- an ending that keeps the world that ran
-abbrev pub Keeps : Ending → Type 0
-Keeps (Refused fault) = ⊥
-Keeps (Stopped run) = Unit {0}
-Keeps (Done run roots) = Unit {0}
-
 -- why nothing was run, where not all was read
 abbrev pub unread_fault : ReadFault → Fault
 unread_fault read_fault.Failed = Unread
@@ -70,11 +52,6 @@ unread_fault read_fault.Memory = NoMemory
 abbrev pub unparsed_fault : ScriptFault → Fault
 unparsed_fault (script_fault.Line k) = BadLine k
 unparsed_fault script_fault.Memory = NoMemory
-
--- what bytes come to: the lists of a script, or why there are none
-abbrev pub script_or_fault : Result (List (List Cmd)) ScriptFault → Result (List (List Cmd)) Fault
-script_or_fault (Ok lists) = Ok lists
-script_or_fault (Err fault) = Err (unparsed_fault fault)
 
 -- the source was read to its end, within the limit, and gave these bytes
 pub record ReadWhole (old new : SourceView) (bytes : List ℕ) : Type 0 where

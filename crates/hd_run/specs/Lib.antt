@@ -4,7 +4,6 @@ pub mod Words
 pub mod Turns
 pub mod Together
 pub mod Ending
-pub mod Work
 pub mod Report
 pub mod Claims
 pub mod Audit
@@ -12,3 +11,4 @@ pub mod AuditClaims
 pub mod Laws
 pub mod Still
 pub mod PrintedRuns
+pub mod Inside

@@ -30,42 +30,16 @@ in_threads = record { threads = true; lists_roots = false }
 -- what each mode is: whether it reads a script, and else makes that of a load; how it runs it; whether it
 -- judges a text and runs nothing; and how it writes a run where plain lines are asked for, and where full
 -- ones
+abbrev pub traits_by : Bool → Manner → Bool → (plain full : Output) → Traits
+traits_by reads manner judges plain full =
+    record { reads = reads; manner = manner; judges = judges; plain = plain; full = full }
+
 abbrev pub traits_of : Mode → Traits
-traits_of Solo = record {
-  reads = true;
-  manner = alone;
-  judges = false;
-  plain = Lines Plain;
-  full = Lines Full;
-}
-traits_of Run = record {
-  reads = true;
-  manner = in_threads;
-  judges = false;
-  plain = Lines Plain;
-  full = Lines Full;
-}
-traits_of Load = record {
-  reads = false;
-  manner = in_threads;
-  judges = false;
-  plain = Summary;
-  full = Summary;
-}
-traits_of Roots = record {
-  reads = true;
-  manner = listing;
-  judges = false;
-  plain = Lines Plain;
-  full = Lines Plain;
-}
-traits_of Audit = record {
-  reads = true;
-  manner = alone;
-  judges = true;
-  plain = Lines Plain;
-  full = Lines Plain;
-}
+traits_of Solo = traits_by true alone false (Lines Plain) (Lines Full)
+traits_of Run = traits_by true in_threads false (Lines Plain) (Lines Full)
+traits_of Load = traits_by false in_threads false Summary Summary
+traits_of Roots = traits_by true listing false (Lines Plain) (Lines Plain)
+traits_of Audit = traits_by true alone true (Lines Plain) (Lines Plain)
 
 -- whether one thread runs the script, and lists the roots or not
 abbrev pub runs_alone : Bool → Traits → Bool

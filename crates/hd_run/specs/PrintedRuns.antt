@@ -3,7 +3,7 @@ use Rattle.std.specs.Prelude.{◌≡◌, ◌⊎◌, ℕ, ◌≤◌, Bool, true, 
 use Rattle.hd_model.specs.{declared.command.Cmd.Cmd, declared.limits.TheConstants.MOST_BYTES, FullText.full_text_of, State.Numbers}
 use Rattle.hd_io.specs.{Counts.Rose, Source.SourceView, Sink.SinkView}
 use Rattle.hd_script.specs.AuditInput.{IsDivided}
-use Rattle.hd_audit.specs.Judging.{IsRight}
+use Rattle.hd_audit.specs.RightVerdicts.{IsRight}
 use Rattle.hd_audit.specs.declared.lines.Verdict.{Verdict}
 use Rattle.hd_audit.specs.declared.lines.Verdict.TheVariants.{Run, Memory}
 use Rattle.hd_print.specs.declared.entries.Form.TheVariants.{Full}

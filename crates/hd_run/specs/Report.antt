@@ -1,6 +1,6 @@
 -- What a call writes and returns. The texts and the statuses are this project's own.
-use Rattle.std.specs.Prelude.{◌≡◌, ℕ, ◌^◌, ◌<◌, sum_by, List, ◌++◌, ◌⊎◌, codes, decimal, Option, None, Some, Result, MatchResult, All}
-use Rattle.hd_model.specs.{declared.data.Entry.Entry, declared.data.RootId.RootId, declared.limits.TheConstants.CALLERS, Generated.load_text_of, Generated.value_returned, RootText.list_text}
+use Rattle.std.specs.Prelude.{◌≡◌, ℕ, List, ◌++◌, ◌⊎◌, codes, decimal, Option, None, Some}
+use Rattle.hd_model.specs.{declared.data.Entry.Entry, declared.data.RootId.RootId, Generated.load_text_of, RootText.list_text}
 use Rattle.hd_model.specs.Text.{newline, text_of}
 use Rattle.hd_model.specs.FullText.{full_text_of}
 use Rattle.hd_io.specs.Sink.{SinkView, Took, WriteBrokeOff}
@@ -10,7 +10,7 @@ use Rattle.hd_world.specs.World.{WorldView}
 use Rattle.hd_run.specs.{declared.fault.Fault.Fault, declared.ending.Ending.Ending, declared.outcome.Outcome.Outcome, declared.mode.Output.Output, declared.mode.Output.TheVariants.Lines, declared.mode.Output.TheVariants.Summary, declared.request.Request.Request, Modes.traits_of, Modes.output_of}
 use Rattle.hd_run.specs.declared.fault.Fault.TheVariants.{Usage, Unread, OverSize, BadLine, NoMemory}
 use Rattle.hd_run.specs.declared.ending.Ending.TheVariants.{Refused, Stopped, Done}
-use Rattle.hd_run.specs.Ending.{world_that, kept_of, world_of, journal_in, roots_by}
+use Rattle.hd_run.specs.Ending.{world_that, kept_of, roots_by}
 
 -- the status of each fault, and of each ending
 abbrev pub fault_status : Fault → ℕ
@@ -68,30 +68,6 @@ text_for output (Done run roots) = ran_text output (world_that run) roots
 abbrev pub output_for : Option Request → Output
 output_for None = Lines Plain
 output_for (Some r) = output_of r
-
--- the sink took all of a text; or a write failed, after a prefix of it
-abbrev pub Writes : {T E : Type 0} → SinkView → SinkView → List ℕ → Result T E → Type 0
-Writes old new text result =
-    MatchResult result (λ _. Took old new text) (λ _. WriteBrokeOff old new text)
-
--- the numbers of callers are below their limit
-abbrev pub HasFewCallers : List Entry → Type 0
-HasFewCallers journal = All (λ (e : Entry). e.caller < CALLERS) journal
-
--- the sum that a load reports fits in 64 bits
-abbrev pub HasSum : Output → WorldView → Type 0
-HasSum (Lines form) w = Unit {0}
-HasSum Summary w = sum_by (λ (e : Entry). value_returned e.reply) w.journal < 2 ^ 64
-
-abbrev pub HasSumOf : Output → Ending → Type 0
-HasSumOf output (Refused fault) = Unit {0}
-HasSumOf output (Stopped run) = Unit {0}
-HasSumOf output (Done run roots) = HasSum output (world_that run)
-
--- the text of an ending can be written
-pub record IsWritable (output : Output) (ending : Ending) : Type 0 where
-  pub callers : HasFewCallers (journal_in (world_of (kept_of ending)))
-  pub sum : HasSumOf output ending
 
 -- all of a text is written and its own status returned; or a write failed after a prefix of the text, and the
 -- status is 5

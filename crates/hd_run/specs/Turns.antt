@@ -1,7 +1,7 @@
 -- Runs of callers one after another, as lists of turns: a caller and a command. That callers are
 -- taken so is this project's own.
-use Rattle.std.specs.Prelude.{◌≡◌, ℕ, ◌+◌, ◌≤◌, List, [], ◌∷◌, ◌++◌, map, filter, length, slice_index_or, ◌==◌, IsTrue, sum_by}
-use Rattle.hd_model.specs.{declared.command.Cmd.Cmd, declared.data.Entry.Entry, declared.limits.TheConstants.CALLERS, State.Numbers, State.start_of, Run.SoloRun, Valid.takes_memory}
+use Rattle.std.specs.Prelude.{◌≡◌, ℕ, ◌+◌, List, [], ◌∷◌, ◌++◌, map, filter, slice_index_or, ◌==◌, IsTrue}
+use Rattle.hd_model.specs.{declared.command.Cmd.Cmd, declared.data.Entry.Entry, State.Numbers, Run.SoloRun, Valid.takes_memory}
 use Rattle.hd_store.specs.Offers.{FitsHeap}
 use Rattle.hd_world.specs.World.{WorldView}
 
@@ -45,24 +45,3 @@ pub record StoppedAt (n : Numbers) (lists : List (List Cmd)) (w : WorldView) : T
   pub ran : RanUpTo n lists (next ∷ rest) w
   pub wants : IsTrue (takes_memory next.1)
   pub fits : FitsHeap n w.state next.1
-
--- a world that has turns left, and room for their entries
-pub record IsReadyFor (n : Numbers) (lists : List (List Cmd)) (left : List (ℕ × Cmd))
-    (w : WorldView) : Type 0 where
-  pub ran : RanUpTo n lists left w
-  pub room : length left ≤ w.spare
-
--- an empty world for a script of at most as many callers as a world may have, with these numbers and room for
--- all its commands
-pub record IsOpenFor (lists : List (List Cmd)) (n : Numbers) (w : WorldView) : Type 0 where
-  pub numbers : w.numbers ≡ n
-  pub empty : w.journal ≡ []
-  pub state : w.state ≡ start_of w.numbers
-  pub room : w.spare ≡ sum_by length lists
-  pub few : length lists ≤ CALLERS
-
--- an empty world for a script, of at most as many callers as a world may have, with all its turns left
-pub record IsReadyToRun (lists : List (List Cmd)) (w : WorldView) : Type 0 where
-  pub few : length lists ≤ CALLERS
-  pub callers : w.numbers.callers ≡ length lists
-  pub ready : IsReadyFor w.numbers lists (turns_from 0 lists) w

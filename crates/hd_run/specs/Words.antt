@@ -1,11 +1,11 @@
 -- What the words of a command line ask for. The modes, the options and their limits are this project's own;
 -- which words a command takes, and which values it finds in them, is as `clap` has it.
-use Rattle.std.specs.Prelude.{◌≡◌, ◌≢◌, ◌⊎◌, ℕ, ◌≤◌, Bool, true, false, List, [], ◌∷◌, map, codes, Option, None, Some, Result, Ok, Err, String, string_bytes, option_map, option_and_then, if◌then◌else◌}
+use Rattle.std.specs.Prelude.{ℕ, Bool, true, false, List, [], ◌∷◌, map, codes, Option, None, Some, String, string_bytes, option_map, option_and_then, if◌then◌else◌}
 use Rattle.std.specs.{Option.option_map_or, declared.alloc.Global.Global, Str.bytes_eq, Str.Parse.digits_value, Str.Parse.without_leading_plus}
-use Rattle.clap.specs.Words.{App, IsUnsignedIn, Row, Rule, Text, first_of, one_of, fault_of, matches_of, new_app, new_rule, one_text, with_rule}
-use Rattle.clap.specs.{declared.error.kind.ErrorKind.ErrorKind, declared.error.kind.ErrorKind.TheVariants.OutOfMemory, declared.builder.action.ArgAction.TheVariants.SetTrue, declared.builder.value_parser.ValueParser.TheVariants.Unsigned, declared.parser.matches.Found.Found}
+use Rattle.clap.specs.Words.{App, Row, Rule, Text, first_of, one_of, fault_of, matches_of, new_app, new_rule, with_rule}
+use Rattle.clap.specs.{declared.error.kind.ErrorKind.ErrorKind, declared.builder.action.ArgAction.TheVariants.SetTrue, declared.builder.value_parser.ValueParser.TheVariants.Unsigned}
 use Rattle.hd_model.specs.declared.limits.TheConstants.{HEAP, BLOCKS, MOST_ROUNDS}
-use Rattle.hd_run.specs.{declared.limits.TheConstants.LEAST_HEAP, declared.request.TheConstants.ROUNDS, declared.fault.Fault.Fault, declared.fault.Fault.TheVariants.Usage, declared.fault.Fault.TheVariants.NoMemory, declared.mode.Mode.Mode, declared.request.Request.Request}
+use Rattle.hd_run.specs.{declared.limits.TheConstants.LEAST_HEAP, declared.request.TheConstants.ROUNDS, declared.mode.Mode.Mode, declared.request.Request.Request}
 use Rattle.hd_print.specs.EntryLines.{form_of}
 use Rattle.hd_run.specs.Modes.{mode_of, traits_of, runs_alone}
 
@@ -89,32 +89,3 @@ listing_of asked = if_alone true asked
 abbrev pub audit_of : Option Request → Option Request
 audit_of None = None
 audit_of (Some r) = if (traits_of r.mode).judges then Some r else None
-
--- why words are refused: memory ran out, or they ask for nothing
-abbrev pub IsFaultOfWords : Option Request → Fault → Type 0
-IsFaultOfWords asked fault = (fault ≡ NoMemory) ⊎ ((fault ≡ Usage) × (asked ≡ None))
-
--- what is asked for, or that nothing is
-abbrev pub request_or_usage : Option Request → Result Request Fault
-request_or_usage None = Err Usage
-request_or_usage (Some request) = Ok request
-
--- why the command does not take words, by the kind of its error: memory ran out in it, or they are not valid
-abbrev pub IsRefusal : ErrorKind → Fault → Type 0
-IsRefusal kind fault =
-    ((fault ≡ NoMemory) × (kind ≡ OutOfMemory)) ⊎ ((fault ≡ Usage) × (kind ≢ OutOfMemory))
-
--- the rounds are ones that a load may have
-pub record IsInLimits (request : Request) : Type 0 where
-  pub least : 1 ≤ request.rounds
-  pub most : request.rounds ≤ MOST_ROUNDS
-
--- what was found for an option, if anything, is a number within limits
-abbrev pub GivesNumber : Found → Text → ℕ → ℕ → Type 0
-GivesNumber found name least most =
-    (text : Text) → one_text found name ≡ Some text → IsUnsignedIn least most text
-
-pub record GivesNumbers (found : Found) : Type 0 where
-  pub heap : GivesNumber found (codes "heap") LEAST_HEAP HEAP
-  pub blocks : GivesNumber found (codes "blocks") 1 BLOCKS
-  pub rounds : GivesNumber found (codes "rounds") 1 MOST_ROUNDS

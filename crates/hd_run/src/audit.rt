@@ -1,7 +1,7 @@
 // The judgement of a text against its script.
 ghost use Rattle.std.specs.Prelude.{◌≡◌, ◌≤◌, length};
 ghost use Rattle.hd_model.specs.declared.limits.TheConstants.{MOST_BYTES};
-ghost use Rattle.hd_run.specs.Audit.{FindsIn, FindingCause, finding_of, finding_status};
+ghost use Rattle.hd_run.specs.{Inside.FindsIn, Inside.finding_of, Audit.FindingCause, Audit.finding_status};
 
 use crate::fault::{Fault, unparsed, unread};
 use crate::limits::Limits;

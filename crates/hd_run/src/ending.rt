@@ -1,6 +1,6 @@
 ghost use Rattle.std.specs.Prelude.{◌≡◌};
 ghost use Rattle.hd_run.specs.Ending.{kept_of, kept_that, world_that};
-ghost use Rattle.hd_run.specs.{Ending.run_ending, Ending.Lists, Report.status_of};
+ghost use Rattle.hd_run.specs.{Inside.run_ending, Inside.Lists, Report.status_of};
 
 use crate::Kept;
 use crate::fault::Fault;

@@ -212,8 +212,8 @@ pub fn load<R: Threads + Wait + Sync, K: Sink, P: Pace>(
 }
 
 /// The world that a script leads to, over a heap of at most `heap` cells, 3 to 1,000,000, and a
-/// table of `blocks` blocks, 1 to 256: its callers are taken as `solo` takes them, one after another
-/// in rising number, each to its end.
+/// table of `blocks` blocks, 1 to 256: its callers are taken as `solo` takes them, one after
+/// another in rising number, each to its end.
 pub fn solo_world(alloc: Global, scripts: &Scripts, heap: u32, blocks: u32) -> Result<World, Memory>
     requires heap { (LEAST_HEAP ≤ heap) × (heap ≤ HEAP) }
     requires blocks { (1 ≤ blocks) × (blocks ≤ BLOCKS) }

@@ -1,6 +1,6 @@
 ghost use Rattle.std.specs.Prelude.{◌≡◌, ◌≤◌, [], IfOk, sum_by, length};
 ghost use Rattle.hd_model.specs.State.{start_of};
-ghost use Rattle.hd_run.specs.{declared.limits.TheConstants.LEAST_HEAP, Bounds.numbers_for, Turns.IsOpenFor};
+ghost use Rattle.hd_run.specs.{declared.limits.TheConstants.LEAST_HEAP, Bounds.numbers_for, Inside.IsOpenFor};
 
 use hd_model::Memory;
 use hd_model::limits::{BLOCKS, HEAP};

@@ -2,7 +2,7 @@ ghost use Rattle.std.specs.Prelude.{◌≡◌, ◌≤◌, ◌++◌, decimal, len
 ghost use Rattle.hd_print.specs.EntryLines.{lines_by};
 ghost use Rattle.hd_model.specs.Text.{newline};
 ghost use Rattle.hd_run.specs.{Ending.world_that, declared.mode.Output.TheVariants.Lines};
-ghost use Rattle.hd_run.specs.Report.{Reports, Writes, HasFewCallers, HasSum, IsWritable};
+ghost use Rattle.hd_run.specs.{Report.Reports, Inside.Writes, Inside.HasFewCallers, Inside.HasSum, Inside.IsWritable};
 ghost use Rattle.hd_run.specs.Report.{text_for, stopped_text, ran_text, whole_text};
 ghost use Rattle.hd_run.specs.Audit.{finding_text, ReportsFinding};
 

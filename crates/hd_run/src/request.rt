@@ -3,8 +3,8 @@ ghost use Rattle.clap.specs.Words.{app_of, rule_of, found_of, kind_of, rows_of};
 ghost use Rattle.hd_run.specs.Modes.{traits_of, runs_alone, output_of};
 ghost use Rattle.hd_run.specs.Words.{request_of, if_alone, audit_of, asked_by, number_rule};
 ghost use Rattle.hd_run.specs.Words.{flag_rule, numbered, program, is_given};
-ghost use Rattle.hd_run.specs.Words.{number_of, request_or_usage, IsRefusal};
-ghost use Rattle.hd_run.specs.Words.{IsFaultOfWords, IsInLimits, GivesNumbers, GivesNumber};
+ghost use Rattle.hd_run.specs.{Words.number_of, Inside.request_or_usage, Inside.IsRefusal};
+ghost use Rattle.hd_run.specs.Inside.{IsFaultOfWords, IsInLimits, GivesNumbers, GivesNumber};
 
 use crate::fault::Fault;
 use crate::limits::{LEAST_HEAP, Limits};

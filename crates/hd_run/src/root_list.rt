@@ -1,7 +1,7 @@
 // The roots of a world, and their lines.
 ghost use Rattle.std.specs.Prelude.{◌≡◌, flat_map, IfOk};
 ghost use Rattle.hd_model.specs.RootText.{list_text, root_text, roots_of};
-ghost use Rattle.hd_run.specs.Report.{Writes};
+ghost use Rattle.hd_run.specs.Inside.{Writes};
 
 use hd_io::{Failed, Sink, write_all};
 use hd_model::{Memory, RootId};

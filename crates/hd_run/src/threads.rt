@@ -1,7 +1,7 @@
 // The callers of a script in threads of their own.
 ghost use Rattle.std.specs.Prelude.{◌≡◌, ◌<◌, ◌≤◌, [], length, map, All, Any, IfOk, MatchBool};
-ghost use Rattle.hd_run.specs.{Bounds.numbers_for, Ending.RunCause, Ending.Keeps, Modes.in_threads, Turns.list_of};
-ghost use Rattle.hd_run.specs.Together.{IsReadyToPlay, AreReadyToPlay, HasPlayed, HavePlayed};
+ghost use Rattle.hd_run.specs.{Bounds.numbers_for, Ending.RunCause, Modes.in_threads, Turns.list_of, Inside.Keeps};
+ghost use Rattle.hd_run.specs.Inside.{IsReadyToPlay, AreReadyToPlay, HasPlayed, HavePlayed};
 
 use crate::ending::{Ending, Ran};
 use crate::fault::Fault;

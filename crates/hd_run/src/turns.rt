@@ -1,7 +1,7 @@
 ghost use Rattle.std.specs.Prelude.{◌≡◌, ◌+◌, ◌<◌, [], drop, length, IfOk, OnOk, OnErr};
-ghost use Rattle.hd_run.specs.{Bounds.numbers_for, Ending.RunCause, Ending.Keeps};
+ghost use Rattle.hd_run.specs.{Bounds.numbers_for, Ending.RunCause, Inside.Keeps};
 ghost use Rattle.hd_run.specs.Modes as modes;
-ghost use Rattle.hd_run.specs.Turns.{turns_from, IsReadyFor, IsReadyToRun, RanWhole, StoppedAt};
+ghost use Rattle.hd_run.specs.{Turns.turns_from, Turns.RanWhole, Turns.StoppedAt, Inside.IsReadyFor, Inside.IsReadyToRun};
 
 use crate::ending::{Ending, Ran};
 use crate::limits::Limits;

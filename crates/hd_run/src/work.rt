@@ -1,7 +1,7 @@
 ghost use Rattle.std.specs.Prelude.{◌≡◌, false, IfOk, IfErr};
-ghost use Rattle.hd_run.specs.{Bounds.numbers_for, Modes.alone, Modes.traits_of, Words.IsInLimits, Work.IsJob, Work.Worked};
+ghost use Rattle.hd_run.specs.{Bounds.numbers_for, Modes.alone, Modes.traits_of, Inside.IsInLimits, Inside.IsJob, Inside.Worked};
 ghost use Rattle.hd_run.specs.declared.mode.Manner.{Manner};
-ghost use Rattle.hd_run.specs.Ending.{FaultCause, ReadProgram, RefusedBy, RunCause, script_or_fault};
+ghost use Rattle.hd_run.specs.{Ending.FaultCause, Ending.ReadProgram, Ending.RefusedBy, Ending.RunCause, Inside.script_or_fault};
 
 use crate::ending::Ending;
 use crate::fault::{Fault, unparsed, unread};

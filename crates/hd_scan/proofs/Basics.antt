@@ -8,7 +8,7 @@ pub use Rattle.std.specs.Option.{option_to_list}
 pub use Rattle.std.specs.Prelude.{Contains, MatchResult, option_and_then, option_map}
 pub use Rattle.hd_ages.proofs.WalkProgress.{IsUnderway, all_past, all_to_come, begins, few_to_come, goes_on, row_due, row_live, row_of_kind, row_past, row_same, row_target}
 pub use Rattle.hd_ages.proofs.WalkWrites.{IsChanging, change_row, change_smaller, change_start, changed, changed_count, changed_steps}
-pub use Rattle.hd_ages.specs.Rows.{IsDueRow}
+pub use Rattle.hd_ages.proofs.WalkSlots.{IsDueRow}
 pub use Rattle.hd_ages.specs.Walk.{Ends, Gives, IsOn, clumps_to_come, due_slots, slots_to_come}
 pub use Rattle.hd_ages.specs.declared.due_rows.DueRows.{DueRows}
 pub use Rattle.hd_model.proofs.EdgeChains.{grows_like, grows_none, grows_on}
@@ -30,9 +30,9 @@ pub use Rattle.hd_model.specs.Table.{IsTable, Table, chain_of, live_at, row_at}
 pub use Rattle.hd_model.specs.declared.data.Addr.{Addr}
 pub use Rattle.hd_model.specs.declared.data.Kind.{Kind}
 pub use Rattle.hd_model.specs.declared.limits.TheConstants.{BLOCKS, ROWS}
-pub use Rattle.hd_scan.specs.Gathering.{root_at, root_by, roots_of, roots_of_block}
-pub use Rattle.hd_scan.specs.Passes.{ClearPass, IsPinnedBy, IsRootAt, IsSweptAt, IsTaken, IsTargetBy, PassView, PinsBy, RootPass, view_at}
-pub use Rattle.hd_scan.specs.Tasks.{has_role, is_role, long_tasks, root_tasks, short_tasks, swept, takes, takes_any, task_kind, task_role}
+pub use Rattle.hd_scan.specs.{Inside.root_at, Inside.roots_of_block, Gathering.root_by, Gathering.roots_of}
+pub use Rattle.hd_scan.specs.{Passes.ClearPass, Passes.IsPinnedBy, Passes.IsRootAt, Passes.IsSweptAt, Passes.IsTaken, Passes.PassView, Passes.RootPass, Passes.view_at, Inside.IsTargetBy, Inside.PinsBy}
+pub use Rattle.hd_scan.specs.Tasks.{is_role, long_tasks, root_tasks, short_tasks, swept, takes, takes_any, task_kind, task_role}
 pub use Rattle.hd_scan.specs.Whole.{IsLostAt, IsPinTargetOf, IsTargetOf, WholeClear, WholeRoots}
 pub use Rattle.hd_scan.specs.declared.gathering.Root.{Root}
 pub use Rattle.hd_scan.specs.declared.task.Task.{Task}

@@ -5,4 +5,4 @@ pub mod RootPromote
 pub mod EntryRanges
 pub mod RootLists
 pub mod TaskRoles
-pub mod TestedPasses
+pub mod JoinedPasses

@@ -1,7 +1,12 @@
 -- The tasks of a role take exactly the handles that have it.
-use Rattle.hd_scan.proofs.Basics.{Addr, Bool, Extra, Handle, Kind, Option, Row, Task, ap, count, extra_again, extra_of, false, has_role, holds, is_kind, is_paired, is_role, long, long_tasks, nothing, refl, role_of, root_tasks, row_of, secondary, short, short_tasks, strength, suc, sym, takes, takes_any, task_kind, task_role, true, zero, ◌&&◌, ◌||◌, ◌∙◌, ◌≡◌}
+use Rattle.hd_scan.proofs.Basics.{Addr, Bool, Extra, Handle, Kind, Option, Row, Task, ap, count, extra_again, extra_of, false, holds, is_kind, is_paired, is_role, long, long_tasks, nothing, refl, role_of, root_tasks, row_of, secondary, short, short_tasks, strength, suc, sym, takes, takes_any, task_kind, task_role, true, zero, ◌&&◌, ◌||◌, ◌∙◌, ◌≡◌}
 use Rattle.hd_model.specs.declared.data.Kind.TheVariants as kind
 use Rattle.hd_scan.specs.declared.task.Task.TheVariants as task
+use Rattle.hd_model.specs.Role.{Role}
+use Rattle.hd_model.specs.Role.{role}
+
+abbrev pub has_role : {N : Type 0} → Role → Handle N → Bool
+has_role r h = is_role r (role h)
 
 or_none : (b : Bool) → (b || false) ≡ b
 or_none true = refl

@@ -3,3 +3,4 @@ pub mod Passes
 pub mod Whole
 pub mod Relocation
 pub mod Gathering
+pub mod Inside

@@ -5,18 +5,6 @@ use Rattle.hd_model.specs.Scene.{Objects, Rows, IsYoungField}
 use Rattle.hd_scan.specs.declared.task.Task.{Task}
 use Rattle.hd_scan.specs.Tasks.{is_clearing, takes, swept}
 
--- a task takes a handle with the target x
-pub record IsTargetBy {N : Type 0} (task : Task) (handle : Handle N) (x : N) : Type 0 where
-  pub takes : takes task handle ≡ true
-  pub target : handle.target ≡ Some x
-
--- of the targets of one handle, the task pins that of one which it takes and which pins
-pub record PinsBy {N : Type 0} (task : Task) (handle : Handle N) (before after : N → Bool) : Type 0 where
-  pub keeps : (x : N) → before x ≡ true → after x ≡ true
-  pub joins : (x : N) → IsTargetBy task handle x → pins handle ≡ true → after x ≡ true
-  pub only : (x : N) → after x ≡ true
-      → (before x ≡ true) ⊎ (IsTargetBy task handle x × (pins handle ≡ true))
-
 -- a handle that a task takes, in a visited slot, has the target x
 pub record IsTaken {N : Type 0} (rows : Rows N) (ages : List ℕ) (n : ℕ) (task : Task) (x : N) : Type 0 where
   pub slot : ℕ

@@ -5,21 +5,21 @@ use Rattle.hd_model.specs.State.{Handle, secondary_of, rename_extra}
 
 -- a handle whose target and secondary have their forwarding addresses, where it is one of those to be written
 abbrev pub relocated : {N : Type 0} → Bool → (N → N) → Handle N → Handle N
-relocated here place h = record {
+relocated here forwarding h = record {
   kind = h.kind;
-  target = cond here (option_map place h.target) h.target;
-  extra = cond here (rename_extra place h.extra) h.extra;
+  target = cond here (option_map forwarding h.target) h.target;
+  extra = cond here (rename_extra forwarding h.extra) h.extra;
 }
 
 -- the rows of one kind in visited slots have their forwarding addresses
 abbrev pub Relocates : (Addr → Addr) → List ℕ → ℕ → Kind → Table → Table → Type 0
-Relocates place ages n kind old new = (slot : ℕ) → row_at new slot
-    ≡ option_map (λ h. relocated (is_kind kind h.kind && is_due ages n slot) place h) (row_at old slot)
+Relocates forwarding ages n kind old new = (slot : ℕ) → row_at new slot
+    ≡ option_map (λ h. relocated (is_kind kind h.kind && is_due ages n slot) forwarding h) (row_at old slot)
 
 -- all rows of the kind have them
 abbrev pub RelocatesAll : (Addr → Addr) → Kind → Table → Table → Type 0
-RelocatesAll place kind old new = (slot : ℕ) → row_at new slot
-    ≡ option_map (λ h. relocated (is_kind kind h.kind) place h) (row_at old slot)
+RelocatesAll forwarding kind old new = (slot : ℕ) → row_at new slot
+    ≡ option_map (λ h. relocated (is_kind kind h.kind) forwarding h) (row_at old slot)
 
 -- what a handle references is kept
 pub record KeepsNames {N : Type 0} (kept : N → Bool) (h : Handle N) : Type 0 where

@@ -70,9 +70,6 @@ takes t h = is_kind (task_kind t) h.kind && is_role (task_role t) (role h)
 abbrev pub takes_any : {N : Type 0} → List Task → Handle N → Bool
 takes_any ts h = fold (λ b t. b || takes t h) false ts
 
-abbrev pub has_role : {N : Type 0} → Role → Handle N → Bool
-has_role r h = is_role r (role h)
-
 -- a handle after a clearing of those that pass a test, which visits its slot or does not: its target is null
 -- where the handle passes and the target is not promoted
 abbrev pub swept : {N : Type 0} → Bool → (Handle N → Bool) → (N → Bool) → Handle N → Handle N

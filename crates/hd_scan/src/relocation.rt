@@ -25,14 +25,14 @@ pub fn relocate<F: Forward, L: Ledger>(
     requires laid { F.laid forward.now }
     requires kept { CanRelocate (F.kept forward.now) ages.now n kind seg.old }
     requires blocks { CoversTable ages.now seg.old }
-    ensures relocates { Relocates (F.place forward.now) ages.now n kind seg.old seg.new }
+    ensures relocates { Relocates (F.forwarding forward.now) ages.now n kind seg.old seg.new }
     ensures table { IsSameTable seg.old seg.new }
     ensures steps { steps.new ≡ steps.old + visits_of seg.old ages.now n kind }
 
     // Where the ages are sound, no other row of the kind references what moves.
     ensures whole { (F.basis forward.now).condemned ≡ n →
         HasSoundAges (objects_of (F.basis forward.now)) (row_at seg.old) ages.now →
-        RelocatesAll (F.place forward.now) kind seg.old seg.new }
+        RelocatesAll (F.forwarding forward.now) kind seg.old seg.new }
 {
     if kind.paired() {
         relocate_rows(seg, ages, kind, true, forward, n, steps);
@@ -56,12 +56,12 @@ fn relocate_rows<F: Forward, L: Ledger>(
     requires kept { CanRelocate (F.kept forward.now) ages.now n kind seg.old }
     requires blocks { CoversTable ages.now seg.old }
     requires paired { is_paired kind ≡ paired }
-    ensures relocates { Relocates (F.place forward.now) ages.now n kind seg.old seg.new }
+    ensures relocates { Relocates (F.forwarding forward.now) ages.now n kind seg.old seg.new }
     ensures table { IsSameTable seg.old seg.new }
     ensures steps { steps.new ≡ steps.old + visits_of seg.old ages.now n kind }
     ensures whole { (F.basis forward.now).condemned ≡ n →
         HasSoundAges (objects_of (F.basis forward.now)) (row_at seg.old) ages.now →
-        RelocatesAll (F.place forward.now) kind seg.old seg.new }
+        RelocatesAll (F.forwarding forward.now) kind seg.old seg.new }
 {
     let mut rows = DueRows::start(seg, ages, kind, n);
     while let Some(slot) = rows.next(seg, ages, steps) {
@@ -77,7 +77,7 @@ fn relocate_row<F: Forward>(seg: &mut Seg, slot: Slot, paired: bool, forward: &F
     requires laid { F.laid forward.now }
     requires kept { KeepsNames (F.kept forward.now) (live_at seg.old slot.0) }
     ensures { let handle = live_at seg.old slot.0 in
-        Rewrites slot.0 (relocated true (F.place forward.now) handle) seg.old seg.new }
+        Rewrites slot.0 (relocated true (F.forwarding forward.now) handle) seg.old seg.new }
 {
     let row = seg.row_by(slot, paired);
     match row.extra {
@@ -98,7 +98,7 @@ fn relocate_row<F: Forward>(seg: &mut Seg, slot: Slot, paired: bool, forward: &F
 fn moved_name<F: Forward>(name: Option<Addr>, forward: &F) -> Option<Addr>
     requires laid { F.laid forward.now }
     requires kept { ForSome name (λ x. F.kept forward.now x ≡ true) }
-    ensures { result ≡ option_map (F.place forward.now) name }
+    ensures { result ≡ option_map (F.forwarding forward.now) name }
 {
     match name {
         Some(at) => Some(forward.moved(at)),

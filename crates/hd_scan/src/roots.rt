@@ -2,7 +2,7 @@ ghost use Rattle.std.specs.Prelude.{◌≡◌, ◌+◌, ◌*◌, ◌&&◌, ◌�
 ghost use Rattle.std.specs.FinMap.{get};
 ghost use Rattle.hd_model.specs.{Heap.objects_of, Kinds.is_paired, Leads.Grows, Scene.IsYoungField, Table.live_at, Table.row_at, Names.NamesObjects, Visits.MayVisit, Visits.visits_of, Ages.HasSoundAges};
 ghost use Rattle.hd_scan.specs.{Tasks.task_kind, Tasks.takes, Whole.WholeRoots};
-ghost use Rattle.hd_scan.specs.Passes.{IsTargetBy, PinsBy, RootPass, view_at};
+ghost use Rattle.hd_scan.specs.{Inside.IsTargetBy, Inside.PinsBy, Passes.RootPass, Passes.view_at};
 
 use crate::task::Task;
 use hd_ages::{AgeMap, DueRows};

@@ -31,5 +31,5 @@ pub use Rattle.hd_model.specs.declared.data.Id.{Id}
 pub use Rattle.hd_model.specs.declared.data.Slot.{Slot}
 pub use Rattle.hd_model.specs.declared.limits.TheConstants.{HEAP, MOST_COMMANDS, REGISTERS, ROUNDS_TO_COLLECTION}
 pub use Rattle.hd_script.specs.Laws.{FaultsComeFirst, IsAtFault, IsFirstAtFault, LinesMakeTheBytes, ListsFollowTheLines, WordsDecide, caller_after_lines, command_for, has_words, is_command}
-pub use Rattle.hd_script.specs.Lists.{AreCounted, IsOpened, contents}
-pub use Rattle.hd_script.specs.Words.{is_stop, line_after, starts_blank, starts_end, with_word, words_at}
+pub use Rattle.hd_script.specs.{Inside.AreCounted, Inside.IsOpened, Lists.contents}
+pub use Rattle.hd_script.specs.{Inside.is_stop, Inside.starts_end, Inside.with_word, Words.line_after, Words.starts_blank, Words.words_at}

@@ -41,10 +41,10 @@ command_added lists caller cmd are within valid room =
     record { right = right; total = total }
 
 module _ (lists : List (Vec Cmd Global)) (caller : ℕ) (old new : Vec Cmd Global)
-    (within : caller < length (contents lists)) (place : old ≡ get_or lists caller old) where
+    (within : caller < length (contents lists)) (index : old ≡ get_or lists caller old) where
   item_of : old.items ≡ get_or (contents lists) caller []
   item_of = listed lists caller old
-      (omega (arith, length-map lists (λ (v : Vec Cmd Global). v.items), within)) place
+      (omega (arith, length-map lists (λ (v : Vec Cmd Global). v.items), within)) index
 
   -- a caller's list in memory got a command
   pub written : (cmd : Cmd) → new.items ≡ old.items ++ cmd ∷ [] → contents (set lists caller new)
@@ -72,16 +72,16 @@ module _ (lists : List (Vec Cmd Global)) (caller : ℕ) (old new : Vec Cmd Globa
 pub counted_more : (lists : List (Vec Cmd Global)) (i : ℕ) (list : Vec Cmd Global) → i < length lists
     → list ≡ get_or lists i list → sum_by length (take (i + 1) (contents lists))
     ≡ sum_by length (take i (contents lists)) + length list.items
-counted_more lists i list within place =
+counted_more lists i list within index =
     sum_by_more length (contents lists) i []
     (omega (arith, length-map lists (λ (v : Vec Cmd Global). v.items), within))
     ∙ ap (λ (items : List Cmd). sum_by length (take i (contents lists)) + length items)
-    (sym (listed lists i list within place))
+    (sym (listed lists i list within index))
 
 -- and the count is at most that of all of them
 pub counted_fits : (lists : List (Vec Cmd Global)) (i : ℕ) (list : Vec Cmd Global) → i < length lists
     → list ≡ get_or lists i list →
     sum_by length (take i (contents lists)) + length list.items ≤ sum_by length (contents lists)
-counted_fits lists i list within place =
-    let more = counted_more lists i list within place in
+counted_fits lists i list within index =
+    let more = counted_more lists i list within index in
     omega (arith, more, sum_by-take-le length (contents lists) (i + 1))

@@ -4,7 +4,7 @@ use Rattle.std.specs.List.{concat}
 use Rattle.std.proofs.lemmas.List.Elements.{All-push}
 use Rattle.hd_model.specs.declared.command.Cmd.{Cmd}
 use Rattle.hd_model.specs.Grammar.{words_of, IsScript}
-use Rattle.hd_model.specs.Judged.{cut_lines, onto_line}
+use Rattle.hd_model.specs.RunTexts.{cut_lines, onto_line}
 use Rattle.hd_script.specs.Words.{words_at}
 use Rattle.hd_script.specs.AuditInput.{are_divider, is_dividing, NoneDivides, IsDivided, IsNoAuditInput, in_script, in_all, undivided, IsInputFault}
 use Rattle.hd_script.specs.Fault.{IsFaultOf}

@@ -34,10 +34,10 @@ module _ (above rest all : List (Option Reading)) (reading : Option Reading)
 
 -- no line up to an index is at fault
 abbrev IsClean : List (Option Reading) → ℕ → Type 0
-IsClean all n = (place : ℕ) → place < n → IsAtFault all place → ⊥
+IsClean all n = (index : ℕ) → index < n → IsAtFault all index → ⊥
 
 abbrev Settles : List (Option Reading) → Option ℕ → Type 0
-Settles all None = (place : ℕ) → IsAtFault all place → ⊥
+Settles all None = (index : ℕ) → IsAtFault all index → ⊥
 Settles all (Some line) = IsFirstAtFault all line
 
 -- the same for the next line
@@ -46,7 +46,7 @@ next_clean : (above rest all : List (Option Reading)) (reading : Option Reading)
     → IsClean all (length (above ++ reading ∷ []))
 next_clean above rest all reading e clean fine =
     let more : IsClean all (length above + 1) =
-    below_more (λ place. IsAtFault all place → ⊥) (length above) clean
+    below_more (λ index. IsAtFault all index → ⊥) (length above) clean
     (λ fault. fine (why_here above rest all reading e fault)) in
     subst (λ (n : ℕ). IsClean all n) (sym (length_push above reading)) more
 
@@ -54,7 +54,7 @@ found_here : (above rest all : List (Option Reading)) (reading : Option Reading)
     → all ≡ above ++ reading ∷ rest → IsClean all (length above) → Why reading above
     → IsFirstAtFault all (length above + 1)
 found_here above rest all reading e clean why = record {
-  place = length above;
+  index = length above;
   number = refl;
   fault = fault_here above rest all reading e why;
   first = clean;
@@ -79,7 +79,7 @@ fine reading above none why =
 settled : (above rest all : List (Option Reading)) → all ≡ above ++ rest → IsClean all (length above)
     → Settles all (first_fault (length above + 1) (count_by is_command above) rest)
 settled above [] all e clean =
-    λ place fault. clean place (omega (arith, fault.within, ap length (e ∙ append-nil above))) fault
+    λ index fault. clean index (omega (arith, fault.within, ap length (e ∙ append-nil above))) fault
 settled above (None ∷ rest) all e clean = found_here above rest all None e clean (inl refl)
 settled above (Some blank ∷ rest) all e clean =
     let r : Option Reading = Some blank in
@@ -109,7 +109,7 @@ settled above (Some (command c) ∷ rest) all e clean =
     (λ many. found_here above rest all r e clean (inr (refl, ltb-false count MOST_COMMANDS many)))
 
 settles : (readings : List (Option Reading)) → Settles readings (first_fault 1 0 readings)
-settles readings = settled [] readings readings refl (λ place below fault. omega (arith, below))
+settles readings = settled [] readings readings refl (λ index below fault. omega (arith, below))
 
 as_refused : (fault : Option ℕ) (lists : List (List Cmd)) (line : ℕ) → unless_fault fault lists ≡ Err line
     → fault ≡ Some line

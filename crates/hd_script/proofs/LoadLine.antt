@@ -3,8 +3,8 @@ use Rattle.hd_script.proofs.Basics.{Cmd, Entry, Id, List, None, Object, Option, 
 use Rattle.std.proofs.lemmas.List.Folds.{sum_by-replicate}
 use Rattle.hd_script.specs.Load.{IsLoadRun, collections_in, line_of_rounds, LoadsHaveTheirLine}
 use Rattle.hd_script.proofs.{LoadRounds.rounds_of, LoadRounds.rounds_length, LoadRun.Totals, LoadRun.totals}
-use Rattle.hd_script.proofs.LoadPosition.{news, Place, left_at, pending, holding, IsAtPlace, nowhere, at, left_of, Fits}
-use Rattle.hd_script.proofs.LoadStep.{bit, written, place}
+use Rattle.hd_script.proofs.LoadPosition.{news, Index, left_at, pending, holding, IsAtIndex, nowhere, at, left_of, Fits}
+use Rattle.hd_script.proofs.LoadStep.{bit, written, index}
 use Rattle.hd_model.proofs.MemberWeights.{sum_ones}
 use Rattle.hd_script.proofs.LoadCount.{by_parts, callers_small, list_of_caller, collects_in, news_in, written_in}
 
@@ -22,18 +22,18 @@ nothing_held c =
     replicate_cases (λ (row : List (Option Slot)). get_or row 0 None ≡ None) 4 c (replicate REGISTERS None) []
     (replicate_cases (λ (o : Option Slot). o ≡ None) REGISTERS 0 None None refl refl) refl
 
-place_first : (c j m : ℕ) → IsAtPlace (start_of load_numbers) c (place news j m None)
-place_first c j m = record {
+index_first : (c j m : ℕ) → IsAtIndex (start_of load_numbers) c (index news j m None)
+index_first c j m = record {
   owns = tt;
   held = nothing_held c;
   empty = refl;
   live = λ x h. absurd (none-some x h);
 }
 
-abbrev first : ℕ → Place
-first rounds = place news 1 rounds None
+abbrev first : ℕ → Index
+first rounds = index news 1 rounds None
 
-abbrev all_first : ℕ → List Place
+abbrev all_first : ℕ → List Index
 all_first rounds = replicate 4 (first rounds)
 
 fits_first : (rounds : ℕ) → rounds ≤ 3000 → Fits (start_of load_numbers) (all_first rounds)
@@ -41,10 +41,10 @@ fits_first rounds few = record {
   four = length-replicate 4 (first rounds);
   well = start_is_well_formed load_numbers;
   room = omega (arith, nothing_used, sum_by-replicate left_of 4 (first rounds));
-  at_place = λ c small. replicate_cases (IsAtPlace (start_of load_numbers) c) 4 c (first rounds) nowhere
-      (place_first c 1 rounds) (place_first c 0 0);
+  at_index = λ c small. replicate_cases (IsAtIndex (start_of load_numbers) c) 4 c (first rounds) nowhere
+      (index_first c 1 rounds) (index_first c 0 0);
   apart = λ b c small_b small_c ne x e g.
-      none-some x (sym (replicate_cases (λ (p : Place). p.held ≡ None) 4 b (first rounds) nowhere refl refl)
+      none-some x (sym (replicate_cases (λ (p : Index). p.held ≡ None) 4 b (first rounds) nowhere refl refl)
       ∙ e);
 }
 

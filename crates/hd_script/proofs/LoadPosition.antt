@@ -17,7 +17,7 @@ pub data Line : Type 0 where
 
 -- the line, the number of its round, how many rounds come after that one (for `news`, with it), and what
 -- register h0 has
-pub record Place : Type 0 where
+pub record Index : Type 0 where
   pub line : Line
   pub round : ℕ
   pub left : ℕ
@@ -57,11 +57,11 @@ left_by c others j m = from_other c j m
 left_by c frees j m = from_free c j m
 left_by c collects j m = cmd.Collect (j % 3) ∷ rounds_from c (j + 1) m
 
-abbrev pub left_at : ℕ → Place → List Cmd
+abbrev pub left_at : ℕ → Index → List Cmd
 left_at c p = left_by c p.line p.round p.left
 
 -- where a caller is after a round: at a collection, or at the next round
-abbrev pub after_round : Bool → ℕ → ℕ → Place
+abbrev pub after_round : Bool → ℕ → ℕ → Index
 after_round true j m = record { line = collects; round = j; left = m; held = None }
 after_round false j m = record { line = news; round = j + 1; left = m; held = None }
 
@@ -84,7 +84,7 @@ pending_by others j = 0
 pending_by frees j = 0
 pending_by collects j = 0
 
-abbrev pub pending : Place → ℕ
+abbrev pub pending : Index → ℕ
 pending p = pending_by p.line p.round
 
 -- the handle that is held
@@ -92,7 +92,7 @@ abbrev pub one_if_some : Option Slot → ℕ
 one_if_some None = 0
 one_if_some (Some slot) = 1
 
-abbrev pub holding : Place → ℕ
+abbrev pub holding : Index → ℕ
 holding p = one_if_some p.held
 
 -- ---- what the state has for a caller at its position
@@ -130,7 +130,7 @@ EmptyBy others h = Unit {0}
 EmptyBy frees h = Unit {0}
 EmptyBy collects h = h ≡ None
 
-pub record IsAtPlace (s : State) (c : ℕ) (p : Place) : Type 0 where
+pub record IsAtIndex (s : State) (c : ℕ) (p : Index) : Type 0 where
   pub owns : OwnsBy s c p.line p.round
   pub held : handle_register_of s c 0 ≡ p.held
   pub empty : EmptyBy p.line p.held
@@ -150,19 +150,19 @@ pub record Frame (s t : State) (c : ℕ) : Type 0 where
 
 -- all callers are at their positions, no two of them hold the same slot, and there is room for all `new` to
 -- come
-abbrev pub nowhere : Place
+abbrev pub nowhere : Index
 nowhere = record { line = news; round = 0; left = 0; held = None }
 
-abbrev pub at : List Place → ℕ → Place
-at places c = get_or places c nowhere
+abbrev pub at : List Index → ℕ → Index
+at indexes c = get_or indexes c nowhere
 
-abbrev pub left_of : Place → ℕ
+abbrev pub left_of : Index → ℕ
 left_of p = p.left
 
-pub record Fits (s : State) (places : List Place) : Type 0 where
-  pub four : length places ≡ 4
+pub record Fits (s : State) (indexes : List Index) : Type 0 where
+  pub four : length indexes ≡ 4
   pub well : IsWellFormed load_numbers s
-  pub room : total_size s + 10 * sum_by left_of places ≤ 120000
-  pub at_place : (c : ℕ) → c < 4 → IsAtPlace s c (at places c)
-  pub apart : (b c : ℕ) → b < 4 → c < 4 → (b ≡ c → ⊥) → (x : Slot) → (at places b).held ≡ Some x
-      → (at places c).held ≡ Some x → ⊥
+  pub room : total_size s + 10 * sum_by left_of indexes ≤ 120000
+  pub at_index : (c : ℕ) → c < 4 → IsAtIndex s c (at indexes c)
+  pub apart : (b c : ℕ) → b < 4 → c < 4 → (b ≡ c → ⊥) → (x : Slot) → (at indexes b).held ≡ Some x
+      → (at indexes c).held ≡ Some x → ⊥

@@ -2,7 +2,7 @@
 use Rattle.std.specs.Prelude.{◌≡◌, ℕ, ◌+◌, Bool, true, false, List, [], ◌∷◌, ◌++◌, length, All, codes, bytes_eq, Err}
 use Rattle.hd_model.specs.declared.command.Cmd.{Cmd}
 use Rattle.hd_model.specs.Grammar.{script_of, IsScript}
-use Rattle.hd_model.specs.Judged.{cut_lines}
+use Rattle.hd_model.specs.RunTexts.{cut_lines}
 use Rattle.hd_script.specs.Words.{words_at}
 use Rattle.hd_script.specs.declared.fault.ScriptFault.{ScriptFault}
 use Rattle.hd_script.specs.declared.fault.ScriptFault.TheVariants.{Line, Memory}

@@ -57,22 +57,22 @@ is_command (Some (caller n)) = false
 is_command (Some (command c)) = true
 
 -- a line, by its index from 0, is at fault: it has no reading, or it is a command and too many are above it
-pub record IsAtFault (readings : List (Option Reading)) (place : ℕ) : Type 0 where
-  pub within : place < length readings
-  pub why : (slice_index_or readings place (Some blank) ≡ None)
-      ⊎ ((is_command (slice_index_or readings place None) ≡ true)
-      × (MOST_COMMANDS ≤ count_by is_command (take place readings)))
+pub record IsAtFault (readings : List (Option Reading)) (index : ℕ) : Type 0 where
+  pub within : index < length readings
+  pub why : (slice_index_or readings index (Some blank) ≡ None)
+      ⊎ ((is_command (slice_index_or readings index None) ≡ true)
+      × (MOST_COMMANDS ≤ count_by is_command (take index readings)))
 
 -- a line, by its number from 1, is the first that is at fault
 pub record IsFirstAtFault (readings : List (Option Reading)) (line : ℕ) : Type 0 where
-  pub place : ℕ
-  pub number : line ≡ place + 1
-  pub fault : IsAtFault readings place
-  pub first : (other : ℕ) → other < place → IsAtFault readings other → ⊥
+  pub index : ℕ
+  pub number : line ≡ index + 1
+  pub fault : IsAtFault readings index
+  pub first : (other : ℕ) → other < index → IsAtFault readings other → ⊥
 
 -- a script is refused for its first line at fault, and no script has one
 pub record FaultsComeFirst : Type 0 where
   pub refused : (bytes : List ℕ) (line : ℕ) → script_of bytes ≡ Err line
       → IsFirstAtFault (readings_of bytes) line
-  pub accepted : (bytes : List ℕ) (lists : List (List Cmd)) → script_of bytes ≡ Ok lists → (place : ℕ)
-      → IsAtFault (readings_of bytes) place → ⊥
+  pub accepted : (bytes : List ℕ) (lists : List (List Cmd)) → script_of bytes ≡ Ok lists → (index : ℕ)
+      → IsAtFault (readings_of bytes) index → ⊥

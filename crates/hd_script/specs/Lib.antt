@@ -5,3 +5,4 @@ pub mod Fault
 pub mod Laws
 pub mod Load
 pub mod AuditInput
+pub mod Inside

@@ -1,21 +1,12 @@
 -- The words of the first line of bytes, and where they begin and end.
-use Rattle.std.specs.Prelude.{ℕ, Bool, false, ◌||◌, if◌then◌else◌, List, [], ◌∷◌}
+use Rattle.std.specs.Prelude.{ℕ, Bool, false, if◌then◌else◌, List, [], ◌∷◌}
 use Rattle.std.specs.List.{before_first}
-use Rattle.hd_model.specs.Grammar.{is_blank, is_hash, is_line_end, words_of}
-
--- a byte before which a word ends
-abbrev pub is_stop : ℕ → Bool
-is_stop b = is_blank b || is_line_end b || is_hash b
+use Rattle.hd_model.specs.Grammar.{is_blank, is_line_end, words_of}
 
 -- whether the first byte is a space or a tab
 abbrev pub starts_blank : List ℕ → Bool
 starts_blank [] = false
 starts_blank (b ∷ bs) = is_blank b
-
--- whether the first byte is a line end
-abbrev pub starts_end : List ℕ → Bool
-starts_end [] = false
-starts_end (b ∷ bs) = is_line_end b
 
 -- the words of the first line
 unfoldable pub words_at : List ℕ → List (List ℕ)
@@ -25,8 +16,3 @@ words_at bytes = words_of (before_first is_line_end bytes)
 abbrev pub line_after : List ℕ → List ℕ
 line_after [] = []
 line_after (b ∷ bs) = if is_line_end b then bs else line_after bs
-
--- words with one more before them, or no words where that one is empty
-abbrev pub with_word : List ℕ → List (List ℕ) → List (List ℕ)
-with_word [] words = []
-with_word (b ∷ bs) words = (b ∷ bs) ∷ words

@@ -1,7 +1,7 @@
 // The input of an audit: a script, a dividing line, and the text that is judged.
 ghost use Rattle.std.specs.Prelude.{◌≡◌, ◌≤◌, length, MatchOption, IfSome, IfOk, IfErr};
 ghost use Rattle.hd_model.specs.Grammar.{AreLists};
-ghost use Rattle.hd_model.specs.Judged.{cut_lines};
+ghost use Rattle.hd_model.specs.RunTexts.{cut_lines};
 ghost use Rattle.hd_script.specs.AuditInput.{is_dividing, NoneDivides, IsDivided, IsAuditInput};
 ghost use Rattle.hd_script.specs.AuditInput.{IsInputFault};
 

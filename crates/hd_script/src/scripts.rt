@@ -1,7 +1,7 @@
 ghost use Rattle.std.specs.Prelude.{◌≡◌, ◌+◌, ◌<◌, ◌≤◌, max, [], ◌∷◌, ◌++◌, length, sum_by, slice_get, slice_index_or, slice_set, Some, IfOk, OnOk};
 ghost use Rattle.hd_model.specs.Valid.{IsValid};
 ghost use Rattle.hd_model.specs.Grammar.{AreLists};
-ghost use Rattle.hd_script.specs.Lists.{contents, IsOpened};
+ghost use Rattle.hd_script.specs.{Lists.contents, Inside.IsOpened};
 
 use hd_model::Cmd;
 use hd_model::limits::{CALLERS, MOST_COMMANDS};
@@ -18,7 +18,7 @@ pub struct Scripts {
 impl Model for Scripts {
     ghost use Rattle.std.specs.Prelude.{List};
     ghost use Rattle.hd_model.specs.declared.command.Cmd.{Cmd};
-    ghost use Rattle.hd_script.specs.Lists.{contents, AreCounted};
+    ghost use Rattle.hd_script.specs.{Lists.contents, Inside.AreCounted};
 
     ghost Value = { List (List Cmd) };
 
@@ -50,7 +50,7 @@ impl Scripts {
     /// The command of a caller at an index, from 0.
     pub fn cmd(&self, caller: u32, i: u32) -> Cmd
         requires caller { caller < length self.now }
-        requires place { i < length (slice_index_or self.now caller []) }
+        requires index { i < length (slice_index_or self.now caller []) }
         ensures value { slice_get (slice_index_or self.now caller []) i ≡ Some result }
         ensures valid { IsValid result }
     {

@@ -5,7 +5,7 @@ ghost use Rattle.std.specs.Prelude.{◌≡◌, ◌≤◌, false, [], ◌∷◌, 
 ghost use Rattle.std.specs.List.{position_or_len};
 ghost use Rattle.std.specs.Str.Lines.{strip_carriage_return};
 ghost use Rattle.hd_model.specs.Grammar.{is_line_end};
-ghost use Rattle.hd_script.specs.Words.{is_stop, starts_blank, starts_end, words_at, line_after, with_word};
+ghost use Rattle.hd_script.specs.{Inside.is_stop, Inside.starts_end, Inside.with_word, Words.starts_blank, Words.words_at, Words.line_after};
 
 /// The bytes after the first line and its end.
 pub(crate) fn after_line(bytes: &[u8]) -> &[u8]

@@ -1,12 +1,12 @@
-//! What a debugger sees of a store at one moment, as plain data: objects by identity, handles by slot,
-//! and what the heap and the table keep beside them.
+//! What a debugger sees of a store at one moment, as plain data: objects by identity, handles by
+//! slot, and what the heap and the table keep beside them.
 #![tactic(auto)]
 
 use hd_model::limits::REGISTERS;
 use hd_model::{Addr, Id, Kind, Slot, Strength};
 
 /// A caller's registers of either sort, and as many statics and entries of the board.
-pub const PLACES: usize = REGISTERS as usize;
+pub const INDEXES: usize = REGISTERS as usize;
 
 /// An object, with the address of its first cell.
 #[derive(Drop)]
@@ -78,10 +78,10 @@ pub struct Snapshot {
     pub entries: Vec<SeenEntry>,
     pub blocks: Vec<SeenBlock>,
     pub queue: Vec<Id>,
-    pub registers: Vec<[Option<Id>; PLACES]>,
-    pub handle_registers: Vec<[Option<Slot>; PLACES]>,
-    pub statics: [Option<Id>; PLACES],
-    pub board: [Option<Slot>; PLACES],
+    pub registers: Vec<[Option<Id>; INDEXES]>,
+    pub handle_registers: Vec<[Option<Slot>; INDEXES]>,
+    pub statics: [Option<Id>; INDEXES],
+    pub board: [Option<Slot>; INDEXES],
     /// The serial of the last object that each caller made, 0 where it made none.
     pub serials: Vec<u32>,
 }

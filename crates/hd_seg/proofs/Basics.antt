@@ -19,8 +19,8 @@ pub use Rattle.hd_model.specs.State.{BlockUse, Handle, extra_data, handles_of, s
 pub use Rattle.hd_model.specs.Table.{IsLeastWithout, IsTable, Table, chain_of, empty_table, fits, fits_in, has_handles, is_count, is_nothing, is_secondary, is_single, is_strength, kind_at, kind_in, live_at, row_at, with_block, with_data, with_row, without_block, without_row}
 pub use Rattle.hd_model.specs.declared.data.Addr.{Addr}
 pub use Rattle.hd_model.specs.declared.data.Kind.{Kind}
-pub use Rattle.hd_seg.specs.Blocks.{HasUnused, IsBlocks, IsLinked, IsListed, Uses, block_at, extras_at, numbered, use_at, use_of, uses_in}
-pub use Rattle.hd_seg.specs.Cells.{IsPaired, IsSeg, cell_at, cell_in, extra_held, extra_place, place_in, row_by, row_in, table_in, with_cell}
+pub use Rattle.hd_seg.specs.{Inside.HasUnused, Inside.IsBlocks, Inside.IsLinked, Inside.IsListed, Inside.numbered, Blocks.Uses, Blocks.block_at, Blocks.extras_at, Blocks.use_at, Blocks.use_of, Blocks.uses_in}
+pub use Rattle.hd_seg.specs.{Inside.IsPaired, Inside.IsSeg, Inside.with_cell, Cells.cell_at, Cells.cell_in, Cells.extra_held, Cells.extra_index, Cells.extra_index_in, Cells.row_by, Cells.row_in, Cells.table_in}
 pub use Rattle.hd_seg.specs.Mapped.{mapped, with_entry}
 pub use Rattle.hd_commands.specs.Handles.{extra_of}
 pub use Rattle.hd_seg.specs.Row.{block_kind_of, extra_from, handle_of, row_of}

@@ -18,20 +18,20 @@ module _ (table : List Block) (b : ℕ) (new : Block) (within : b < length table
 module _ {number given : ℕ} {table : List Block} {chains : List (List ℕ)}
     (inv : IsBlocks number given table chains)
     (k : Kind) (b : ℕ) (low : 1 ≤ b) (within : b < length table) (unused : use_at table b ≡ None)
-    {p : ℕ} (place_is : length (get_or chains (kind_number k) []) ≡ p) {cs : List (List ℕ)}
+    {p : ℕ} (index_is : length (get_or chains (kind_number k) []) ≡ p) {cs : List (List ℕ)}
     (chains_are : set chains (kind_number k) (get_or chains (kind_number k) [] ++ b ∷ []) ≡ cs) where
   abbrev chain : List ℕ
   chain = get_or chains (kind_number k) []
 
   abbrev pub with_rows : List Block
-  with_rows = set table b (record { kind = block.Rows k; place = p; extras = None })
+  with_rows = set table b (record { kind = block.Rows k; index = p; extras = None })
 
-  here : block_at with_rows b ≡ record { kind = block.Rows k; place = p; extras = None }
-  here = block_same table b (record { kind = block.Rows k; place = p; extras = None }) within b refl
+  here : block_at with_rows b ≡ record { kind = block.Rows k; index = p; extras = None }
+  here = block_same table b (record { kind = block.Rows k; index = p; extras = None }) within b refl
 
   there : (q : ℕ) → q ≢ b → block_at with_rows q ≡ block_at table q
   there q apart =
-      block_other table b (record { kind = block.Rows k; place = p; extras = None }) within q apart
+      block_other table b (record { kind = block.Rows k; index = p; extras = None }) within q apart
 
   use_there : (q : ℕ) → q ≢ b → use_at with_rows q ≡ use_at table q
   use_there q apart = ap (λ (x : Block). use_of x.kind) (there q apart)
@@ -63,7 +63,7 @@ module _ {number given : ℕ} {table : List Block} {chains : List (List ℕ)}
   kept j q i is =
       let away = there q (λ same. none_is_some (use_at table b) unused
       (some_of _ _ (ap (use_at table) (sym same) ∙ is.use_is))) in
-      listed_like (ap (λ (x : Block). use_of x.kind) away) (ap (λ (x : Block). x.place) away) is
+      listed_like (ap (λ (x : Block). use_of x.kind) away) (ap (λ (x : Block). x.index) away) is
 
   listed_here : (i : ℕ) → i < length (chain ++ b ∷ [])
       → IsListed number with_rows k (get_or (chain ++ b ∷ []) i 0) i
@@ -79,7 +79,7 @@ module _ {number given : ℕ} {table : List Block} {chains : List (List ℕ)}
               low = low;
               high = omega (arith, within, inv.size);
               use_is = use_here;
-              place_is = ap (λ (x : Block). x.place) here ∙ sym place_is ∙ last;
+              index_is = ap (λ (x : Block). x.index) here ∙ sym index_is ∙ last;
             })
       ]
 
@@ -102,7 +102,7 @@ module _ {number given : ℕ} {table : List Block} {chains : List (List ℕ)}
   pub blocks-add : IsBlocks number (given + 1) with_rows cs
   blocks-add = record {
     limit = inv.limit;
-    size = length-set table b (record { kind = block.Rows k; place = p; extras = None }) ∙ inv.size;
+    size = length-set table b (record { kind = block.Rows k; index = p; extras = None }) ∙ inv.size;
     counted = count-add;
     spare = (let known =
         sum_by-set length chains (kind_number k) (chain ++ b ∷ []) []
@@ -148,13 +148,13 @@ module _ {number given : ℕ} {table : List Block} {chains : List (List ℕ)}
     (a d : ℕ) (low : 1 ≤ a) (below : a < d) (within : d < length table) (unused : use_at table d ≡ None)
     (taken : IsSome (use_at table a))
     {of at : Block} (of_is : of ≡ block_at table a)
-    (at_is : at ≡ block_at (set table a (record { kind = of.kind; place = of.place; extras = Some d })) d)
+    (at_is : at ≡ block_at (set table a (record { kind = of.kind; index = of.index; extras = Some d })) d)
   where
     abbrev pub with_extras : Block
-    with_extras = record { kind = of.kind; place = of.place; extras = Some d }
+    with_extras = record { kind = of.kind; index = of.index; extras = Some d }
 
     abbrev pub as_data : Block
-    as_data = record { kind = block.Extras; place = at.place; extras = at.extras }
+    as_data = record { kind = block.Extras; index = at.index; extras = at.extras }
 
     abbrev pub with_both : List Block
     with_both = set (set table a with_extras) d as_data
@@ -231,7 +231,7 @@ module _ {number given : ℕ} {table : List Block} {chains : List (List ℕ)}
     kept_both k q i is =
         listed_like (use_other q (λ same. none_is_some _ unused
         (some_of _ _ (ap (use_at table) (sym same) ∙ is.use_is))))
-        (alike (λ (x : Block). x.place) refl refl q) is
+        (alike (λ (x : Block). x.index) refl refl q) is
 
     pub blocks-with_data : IsBlocks number (given + 1) with_both chains
     blocks-with_data = record {
@@ -264,8 +264,8 @@ module _ {number given : ℕ} {table : List Block} {chains : List (List ℕ)}
 
 -- ---- no block is in use
 
-none_at : (n : ℕ) (q : ℕ) → block_at (replicate n (record { kind = block.Unused; place = 0; extras = None }))
-    q ≡ record { kind = block.Unused; place = 0; extras = None }
+none_at : (n : ℕ) (q : ℕ) → block_at (replicate n (record { kind = block.Unused; index = 0; extras = None }))
+    q ≡ record { kind = block.Unused; index = 0; extras = None }
 none_at zero q = refl
 none_at (suc n) zero = refl
 none_at (suc n) (suc q) = none_at n q
@@ -277,7 +277,7 @@ no_chain (suc n) (suc q) = no_chain n q
 
 module _ (number : ℕ) where
   abbrev unused_blocks : List Block
-  unused_blocks = replicate (number + 1) (record { kind = block.Unused; place = 0; extras = None })
+  unused_blocks = replicate (number + 1) (record { kind = block.Unused; index = 0; extras = None })
 
   no_use : (q : ℕ) → use_at unused_blocks q ≡ None
   no_use q = ap (λ (x : Block). use_of x.kind) (none_at (number + 1) q)
@@ -292,11 +292,11 @@ module _ (number : ℕ) where
   extras-none = mapped-empty 1 number (extras_at unused_blocks) (λ q low high. no_extras q)
 
   pub blocks-none : number ≤ BLOCKS
-      → IsBlocks number 0 (replicate (number + 1) (record { kind = block.Unused; place = 0; extras = None }))
+      → IsBlocks number 0 (replicate (number + 1) (record { kind = block.Unused; index = 0; extras = None }))
       (replicate KINDS [])
   blocks-none few = record {
     limit = few;
-    size = length-replicate (number + 1) (record { kind = block.Unused; place = 0; extras = None });
+    size = length-replicate (number + 1) (record { kind = block.Unused; index = 0; extras = None });
     counted = sym (ap len uses-none ∙ len-empty nat_cmp BlockUse);
     spare = omega arith;
     linked = linked_by refl (λ k i lt. absurd (omega (arith, lt, ap length (no_chain KINDS (kind_number k)))))
@@ -305,7 +305,7 @@ module _ (number : ℕ) where
   }
 
   pub view-none : uses_in number
-      (replicate (number + 1) (record { kind = block.Unused; place = 0; extras = None })) (replicate KINDS [])
+      (replicate (number + 1) (record { kind = block.Unused; index = 0; extras = None })) (replicate KINDS [])
       ≡ record { table = empty_table number; extras = empty }
   view-none i = record {
     table = record { rows = empty; chains = replicate KINDS []; uses = uses-none i; blocks = number };

@@ -1,5 +1,5 @@
 -- Rows are unchanged where a block comes into use or is taken back.
-use Rattle.hd_seg.proofs.Basics.{Addr, BlockUse, Cell, IsPaired, IsSeg, IsTable, Kind, List, None, Option, ROWS, Some, Table, Uses, ap, arith, cases_eq, cell_at, cell_in, cond, extra_data, extra_place, false, get, get_beside, get_left, handles_of, has_handles, inl, inr, insert, is_paired, is_single, is_some, kind_in, len, mapped, not-true, place_in, refl, row_by, row_in, same_Some, sym, table_in, true, true≢false, with_block, with_data, without_block, ℕ, ◌%◌, ◌*◌, ◌+◌, ◌/◌, ◌∙◌, ◌≡◌, ◌≢◌, ◌≤◌}
+use Rattle.hd_seg.proofs.Basics.{Addr, BlockUse, Cell, IsPaired, IsSeg, IsTable, Kind, List, None, Option, ROWS, Some, Table, Uses, ap, arith, cases_eq, cell_at, cell_in, cond, extra_data, extra_index, false, get, get_beside, get_left, handles_of, has_handles, inl, inr, insert, is_paired, is_single, is_some, kind_in, len, mapped, not-true, extra_index_in, refl, row_by, row_in, same_Some, sym, table_in, true, true≢false, with_block, with_data, without_block, ℕ, ◌%◌, ◌*◌, ◌+◌, ◌/◌, ◌∙◌, ◌≡◌, ◌≢◌, ◌≤◌}
 use Rattle.hd_seg.proofs.FunctionMaps.{mapped-same, get-insert_same, get-remove_same}
 use Rattle.hd_seg.proofs.ChainLinks.{none_is_some, some_of, one_kind}
 use Rattle.hd_seg.proofs.{BlockAdd.extras_apart, RowCells.row-unused, RowCells.row-empty}
@@ -24,7 +24,7 @@ module _ {u : Uses} {cells : List Cell} {masks : List ℕ} {live : ℕ} (inv : I
         → cell_at cells q ≡ cell.Empty)
         → ((q : ℕ) (t : Option Addr) → cell_at cells q ≡ cell.Target t
         → has_handles (get v.table.uses (q / ROWS)) ≡ true)
-        → ((q : ℕ) → row_in u cells q ≡ None → cell_in cells (extra_place v q) ≡ cell.Empty)
+        → ((q : ℕ) → row_in u cells q ≡ None → cell_in cells (extra_index v q) ≡ cell.Empty)
         → IsPaired v → IsSeg v cells masks live
     seg-same table vacant targets cleared paired = record {
       table = table;
@@ -63,7 +63,7 @@ module _ {u : Uses} {cells : List Cell} {masks : List ℕ} {live : ℕ} (inv : I
         elim (cases_eq (q / ROWS) b) [
           | inl same ↦ row-empty _ _ _ (unused_cell q (was_none (q / ROWS) same))
               ∙ sym (row-empty _ _ _ (unused_cell q (was_none (q / ROWS) same)))
-          | inr apart ↦ ap (λ o. row_by o (cell_at cells q) (cell_in cells (extra_place u q)))
+          | inr apart ↦ ap (λ o. row_by o (cell_at cells q) (cell_in cells (extra_index u q)))
               (one_use (q / ROWS) apart)
         ]
 
@@ -123,8 +123,8 @@ module _ {u : Uses} {cells : List Cell} {masks : List ℕ} {live : ℕ} (inv : I
       d_none : (q : ℕ) → q ≡ d → get u.table.uses q ≡ None
       d_none q same = ap (get u.table.uses) same ∙ unused
 
-      place_other : (q : ℕ) → q / ROWS ≢ b → extra_place two q ≡ extra_place u q
-      place_other q not_b = ap (λ o. place_in o (q % ROWS)) (get_beside u.extras b d (q / ROWS) not_b)
+      index_other : (q : ℕ) → q / ROWS ≢ b → extra_index two q ≡ extra_index u q
+      index_other q not_b = ap (λ o. extra_index_in o (q % ROWS)) (get_beside u.extras b d (q / ROWS) not_b)
 
       pub two_rows : (q : ℕ) → row_in two cells q ≡ row_in u cells q
       two_rows q =
@@ -135,10 +135,10 @@ module _ {u : Uses} {cells : List Cell} {masks : List ℕ} {live : ℕ} (inv : I
               | inl same ↦ row-empty _ _ _ (unused_cell q (d_none (q / ROWS) same))
                   ∙ sym (row-empty _ _ _ (unused_cell q (d_none (q / ROWS) same)))
               | inr not_d ↦
-                  ap (λ o. row_by o (cell_at cells q) (cell_in cells (extra_place two q)))
+                  ap (λ o. row_by o (cell_at cells q) (cell_in cells (extra_index two q)))
                   (two_use (q / ROWS) not_b not_d)
                   ∙ ap (λ o. row_by (get u.table.uses (q / ROWS)) (cell_at cells q) (cell_in cells o))
-                  (place_other q not_b)
+                  (index_other q not_b)
             ]
           ]
 
@@ -166,14 +166,14 @@ module _ {u : Uses} {cells : List Cell} {masks : List ℕ} {live : ℕ} (inv : I
             ]
           ]
 
-      two_cleared : (q : ℕ) → row_in u cells q ≡ None → cell_in cells (extra_place two q) ≡ cell.Empty
+      two_cleared : (q : ℕ) → row_in u cells q ≡ None → cell_in cells (extra_index two q) ≡ cell.Empty
       two_cleared q nothing =
           elim (cases_eq (q / ROWS) b) [
             | inl same ↦
                 let at : (d * ROWS + q % ROWS) / ROWS ≡ d = omega arith in
-                ap (λ o. cell_in cells (place_in o (q % ROWS))) (get-insert_same u.extras b d (q / ROWS) same)
-                ∙ unused_cell (d * ROWS + q % ROWS) (d_none _ at)
-            | inr not_b ↦ ap (cell_in cells) (place_other q not_b) ∙ inv.cleared q nothing
+                ap (λ o. cell_in cells (extra_index_in o (q % ROWS))) (get-insert_same u.extras b d
+                (q / ROWS) same) ∙ unused_cell (d * ROWS + q % ROWS) (d_none _ at)
+            | inr not_b ↦ ap (cell_in cells) (index_other q not_b) ∙ inv.cleared q nothing
           ]
 
       old_data : (q e : ℕ) → q ≢ b → get two.extras q ≡ Some e → get u.extras q ≡ Some e
@@ -249,7 +249,7 @@ module _ {u : Uses} {cells : List Cell} {masks : List ℕ} {live : ℕ} (inv : I
     back_rows q =
         elim (cases_eq (q / ROWS) b) [
           | inl same ↦ row-unused _ _ _ (back_none (q / ROWS) same) ∙ sym (vacant q same)
-          | inr apart ↦ ap (λ o. row_by o (cell_at cells q) (cell_in cells (extra_place u q)))
+          | inr apart ↦ ap (λ o. row_by o (cell_at cells q) (cell_in cells (extra_index u q)))
               (back_use (q / ROWS) apart)
         ]
 

@@ -11,10 +11,10 @@ use Rattle.hd_seg.specs.declared.row.BlockKind.TheVariants as block
 
 -- one index
 abbrev placed : List Block → ℕ → ℕ → List Block
-placed table b i = set table b (record (block_at table b) { place = i })
+placed table b i = set table b (record (block_at table b) { index = i })
 
 -- what an index does not change
-like_placed : {A : Type 0} (f : Block → A) → ((x : Block) (i : ℕ) → f (record x { place = i }) ≡ f x)
+like_placed : {A : Type 0} (f : Block → A) → ((x : Block) (i : ℕ) → f (record x { index = i }) ≡ f x)
     → (table : List Block) (b i q : ℕ) → f (block_at (placed table b i) q) ≡ f (block_at table q)
 like_placed f alike [] b i q = refl
 like_placed f alike (x ∷ xs) zero i zero = alike x i
@@ -22,7 +22,7 @@ like_placed f alike (x ∷ xs) zero i (suc q) = refl
 like_placed f alike (x ∷ xs) (suc b) i zero = refl
 like_placed f alike (x ∷ xs) (suc b) i (suc q) = like_placed f alike xs b i q
 
-like-numbered : {A : Type 0} (f : Block → A) → ((x : Block) (i : ℕ) → f (record x { place = i }) ≡ f x)
+like-numbered : {A : Type 0} (f : Block → A) → ((x : Block) (i : ℕ) → f (record x { index = i }) ≡ f x)
     → (i : ℕ) (bs : List ℕ) (table : List Block) (q : ℕ) → f (block_at (numbered i bs table) q)
     ≡ f (block_at table q)
 like-numbered f alike i [] table q = refl
@@ -32,32 +32,32 @@ like-numbered f alike i (b ∷ bs) table q =
 pub length-numbered : (i : ℕ) (bs : List ℕ) (table : List Block) → length (numbered i bs table) ≡ length table
 length-numbered i [] table = refl
 length-numbered i (b ∷ bs) table = length-numbered (i + 1) bs (placed table b i)
-    ∙ length-set table b (record (block_at table b) { place = i })
+    ∙ length-set table b (record (block_at table b) { index = i })
 
 -- a block that is not among them keeps its index
-place_out : (i : ℕ) (bs : List ℕ) (table : List Block) (q : ℕ) → ((j : ℕ) → j < length bs → get_or bs j 0 ≢ q)
-    → (block_at (numbered i bs table) q).place ≡ (block_at table q).place
-place_out i [] table q out = refl
-place_out i (b ∷ bs) table q out =
-    place_out (i + 1) bs (placed table b i) q (λ j lt. out (suc j) (omega arith))
-    ∙ ap (λ (x : Block). x.place)
-    (get_or-set_other table b q (record (block_at table b) { place = i }) _
+index_out : (i : ℕ) (bs : List ℕ) (table : List Block) (q : ℕ) → ((j : ℕ) → j < length bs → get_or bs j 0 ≢ q)
+    → (block_at (numbered i bs table) q).index ≡ (block_at table q).index
+index_out i [] table q out = refl
+index_out i (b ∷ bs) table q out =
+    index_out (i + 1) bs (placed table b i) q (λ j lt. out (suc j) (omega arith))
+    ∙ ap (λ (x : Block). x.index)
+    (get_or-set_other table b q (record (block_at table b) { index = i }) _
     (λ same. out 0 (omega arith) (sym same)))
 
 -- one that is among them has the index that it got
-place_in : (i : ℕ) (bs : List ℕ) (table : List Block) (j : ℕ) → j < length bs
+extra_index_in : (i : ℕ) (bs : List ℕ) (table : List Block) (j : ℕ) → j < length bs
     → ((m n : ℕ) → m < n → n < length bs → get_or bs m 0 ≢ get_or bs n 0)
-    → get_or bs j 0 < length table → (block_at (numbered i bs table) (get_or bs j 0)).place ≡ i + j
-place_in i [] table j lt apart fits = absurd (omega arith)
-place_in i (b ∷ bs) table zero lt apart fits =
-    place_out (i + 1) bs (placed table b i) b
+    → get_or bs j 0 < length table → (block_at (numbered i bs table) (get_or bs j 0)).index ≡ i + j
+extra_index_in i [] table j lt apart fits = absurd (omega arith)
+extra_index_in i (b ∷ bs) table zero lt apart fits =
+    index_out (i + 1) bs (placed table b i) b
     (λ j below same. apart 0 (suc j) (omega arith) (omega arith) (sym same))
-    ∙ ap (λ (x : Block). x.place) (block_same table b (record (block_at table b) { place = i }) fits b refl)
+    ∙ ap (λ (x : Block). x.index) (block_same table b (record (block_at table b) { index = i }) fits b refl)
     ∙ omega arith
-place_in i (b ∷ bs) table (suc j) lt apart fits =
-    place_in (i + 1) bs (placed table b i) j (omega arith)
+extra_index_in i (b ∷ bs) table (suc j) lt apart fits =
+    extra_index_in (i + 1) bs (placed table b i) j (omega arith)
     (λ m n before last. apart (suc m) (suc n) (omega arith) (omega arith))
-    (omega (arith, fits, length-set table b (record (block_at table b) { place = i }))) ∙ omega arith
+    (omega (arith, fits, length-set table b (record (block_at table b) { index = i }))) ∙ omega arith
 
 -- ---- a filter that keeps all, and one that drops one element
 
@@ -102,7 +102,7 @@ Contains-remove xs p x has lt other =
 module _ {number given : ℕ} {table : List Block} {chains : List (List ℕ)}
     (inv : IsBlocks number given table chains)
     {u : Uses} (seen : uses_in number table chains ≡ u) (k : Kind) (b p : ℕ)
-    (place : slice_get (chain_of u.table k) p ≡ Some b) (single : get u.extras b ≡ None) where
+    (index : slice_get (chain_of u.table k) p ≡ Some b) (single : get u.extras b ≡ None) where
   abbrev pub chain : List ℕ
   chain = get_or chains (kind_number k) []
 
@@ -110,13 +110,13 @@ module _ {number given : ℕ} {table : List Block} {chains : List (List ℕ)}
   short = list.remove chain p
 
   abbrev pub freed : List Block
-  freed = set table b (record { kind = block.Unused; place = 0; extras = None })
+  freed = set table b (record { kind = block.Unused; index = 0; extras = None })
 
   abbrev pub moved : List Block
   moved = numbered p (drop p short) freed
 
   at : slice_get chain p ≡ Some b
-  at = ap (λ (v : Uses). slice_get (chain_of v.table k) p) seen ∙ place
+  at = ap (λ (v : Uses). slice_get (chain_of v.table k) p) seen ∙ index
 
   pub fits : p < length chain
   fits = slice_get_within chain p b at
@@ -137,11 +137,11 @@ module _ {number given : ℕ} {table : List Block} {chains : List (List ℕ)}
   length-short = length-remove chain p fits
 
   -- uses and data blocks
-  none_here : block_at freed b ≡ record { kind = block.Unused; place = 0; extras = None }
-  none_here = block_same table b (record { kind = block.Unused; place = 0; extras = None }) inside b refl
+  none_here : block_at freed b ≡ record { kind = block.Unused; index = 0; extras = None }
+  none_here = block_same table b (record { kind = block.Unused; index = 0; extras = None }) inside b refl
 
   freed_other : (q : ℕ) → q ≢ b → block_at freed q ≡ block_at table q
-  freed_other = block_other table b (record { kind = block.Unused; place = 0; extras = None }) inside
+  freed_other = block_other table b (record { kind = block.Unused; index = 0; extras = None }) inside
 
   use_moved : (q : ℕ) → use_at moved q ≡ use_at freed q
   use_moved = like-numbered (λ (x : Block). use_of x.kind) (λ x i. refl) p (drop p short) freed
@@ -196,27 +196,27 @@ module _ {number given : ℕ} {table : List Block} {chains : List (List ℕ)}
 
   not_b : (o : ℕ) → o < length chain → o ≢ p → get_or chain o 0 ≢ b
   not_b o lt other same =
-      other (sym (listed_was o lt).place_is ∙ ap (λ q. (block_at table q).place) same ∙ its.place_is)
+      other (sym (listed_was o lt).index_is ∙ ap (λ q. (block_at table q).index) same ∙ its.index_is)
 
   -- a block that is not after it keeps its chain index
-  place_kept : (q : ℕ) → q ≢ b → ((o : ℕ) → p < o → o < length chain → get_or chain o 0 ≢ q)
-      → (block_at moved q).place ≡ (block_at table q).place
-  place_kept q away out =
-      place_out p (drop p short) freed q
+  index_kept : (q : ℕ) → q ≢ b → ((o : ℕ) → p < o → o < length chain → get_or chain o 0 ≢ q)
+      → (block_at moved q).index ≡ (block_at table q).index
+  index_kept q away out =
+      index_out p (drop p short) freed q
       (λ j lt same. out (p + j + 1) (omega arith) (omega (arith, lt, length-tail)) (sym (tail j) ∙ same))
-      ∙ ap (λ (x : Block). x.place) (freed_other q away)
+      ∙ ap (λ (x : Block). x.index) (freed_other q away)
 
-  place_late : (i : ℕ) → p ≤ i → i < length short → (block_at moved (get_or short i 0)).place ≡ i
-  place_late i le lt =
+  index_late : (i : ℕ) → p ≤ i → i < length short → (block_at moved (get_or short i 0)).index ≡ i
+  index_late i le lt =
       let in_tail : get_or (drop p short) (i - p) 0 ≡ get_or short i 0 =
       get_or-drop p short (i - p) 0 ∙ ap (λ n. get_or short n 0) (omega arith) in
       let o : IsListed number table k (get_or chain (i + 1) 0) (i + 1) =
       listed_was (i + 1) (omega (arith, length-short)) in
-      ap (λ q. (block_at moved q).place) (sym in_tail)
-      ∙ place_in p (drop p short) freed (i - p) (omega (arith, length-tail, length-short))
+      ap (λ q. (block_at moved q).index) (sym in_tail)
+      ∙ extra_index_in p (drop p short) freed (i - p) (omega (arith, length-tail, length-short))
       (λ m n before last same. apart inv k (p + m + 1) (p + n + 1) 0 (omega arith)
       (omega (arith, length-tail)) (sym (tail m) ∙ same ∙ tail n))
-      (let known = length-set table b (record { kind = block.Unused; place = 0; extras = None }) in
+      (let known = length-set table b (record { kind = block.Unused; index = 0; extras = None }) in
       omega (arith, in_tail, above i le, o.high, known, inv.size))
       ∙ omega arith
 
@@ -227,7 +227,7 @@ module _ {number given : ℕ} {table : List Block} {chains : List (List ℕ)}
             let first : i < length chain = omega (arith, fits) in
             let away : get_or chain i 0 ≢ b = not_b i first (λ same. omega arith) in
             subst (λ q. IsListed number moved k q i) (sym (below i early))
-            (listed_like (use_other _ away) (place_kept _ away
+            (listed_like (use_other _ away) (index_kept _ away
             (λ o after last same. apart inv k i o 0 (omega arith) last (sym same))) (listed_was i first))
         | inr late ↦
             let next : i + 1 < length chain = omega (arith, length-short) in
@@ -237,7 +237,7 @@ module _ {number given : ℕ} {table : List Block} {chains : List (List ℕ)}
               high = omega (arith, above i late, o.high);
               use_is = ap (use_at moved) (above i late)
                   ∙ use_other _ (not_b (i + 1) next (λ same. omega arith)) ∙ o.use_is;
-              place_is = place_late i late lt;
+              index_is = index_late i late lt;
             }
       ]
 
@@ -260,7 +260,7 @@ module _ {number given : ℕ} {table : List Block} {chains : List (List ℕ)}
       λ o lt same. other (ap kind_number (one_kind (use_at table q) j k is.use_is
       (ap (use_at table) (sym same) ∙ (listed_was o lt).use_is))) in
       let away : q ≢ b = λ same. out p fits (at_index ∙ sym same) in
-      listed_like (use_other q away) (place_kept q away (λ o after last. out o last)) is
+      listed_like (use_other q away) (index_kept q away (λ o after last. out o last)) is
 
   -- the chain without the block
   filtered : filter (λ x. not (x == b)) chain ≡ short
@@ -270,7 +270,7 @@ module _ {number given : ℕ} {table : List Block} {chains : List (List ℕ)}
 
   pub length-moved : length moved ≡ length table
   length-moved = length-numbered p (drop p short) freed
-      ∙ length-set table b (record { kind = block.Unused; place = 0; extras = None })
+      ∙ length-set table b (record { kind = block.Unused; index = 0; extras = None })
 
   -- the blocks after it, as the program wrote them
   module _ {chain_now : List ℕ} (short_is : chain_now ≡ short) {freed_now new : List Block} (ys : List Block)

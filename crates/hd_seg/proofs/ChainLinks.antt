@@ -32,19 +32,19 @@ one_kind o j k is is' = sym (ap kind_in is) ∙ ap kind_in is'
 
 -- a block of which only the data block is changed is listed as before
 pub listed_like : {number : ℕ} {table after : List Block} {k : Kind} {b i : ℕ}
-    → use_at after b ≡ use_at table b → (block_at after b).place ≡ (block_at table b).place
+    → use_at after b ≡ use_at table b → (block_at after b).index ≡ (block_at table b).index
     → IsListed number table k b i → IsListed number after k b i
-listed_like used place is =
-    record { low = is.low; high = is.high; use_is = used ∙ is.use_is; place_is = place ∙ is.place_is }
+listed_like used index is =
+    record { low = is.low; high = is.high; use_is = used ∙ is.use_is; index_is = index ∙ is.index_is }
 
 pub found_in : {number : ℕ} {table : List Block} {chains : List (List ℕ)} → IsLinked number table chains
     → (k : Kind) (b : ℕ) → 1 ≤ b → b ≤ number → use_at table b ≡ Some (handles_of k)
     → Contains (get_or chains (kind_number k) []) b
 found_in {number} {table} {chains} linked k b low high is =
     let lt = linked.within k b low high is in (
-      (block_at table b).place,
+      (block_at table b).index,
       lt,
-      get_or_default (get_or chains (kind_number k) []) (block_at table b).place b 0 lt
+      get_or_default (get_or chains (kind_number k) []) (block_at table b).index b 0 lt
           ∙ linked.indexed k b low high is,
     )
 
@@ -59,10 +59,10 @@ linked_by {number} {table} {chains} kinds listed found = record {
   kinds = kinds;
   within = λ k b low high is.
       let h = found k b low high is in
-      let lt = h.1 in omega (arith, lt, place k b h);
+      let lt = h.1 in omega (arith, lt, index k b h);
   indexed = λ k b low high is.
       let h = found k b low high is in
-      ap (λ i. get_or (get_or chains (kind_number k) []) i 0) (place k b h) ∙ at k b h;
+      ap (λ i. get_or (get_or chains (kind_number k) []) i 0) (index k b h) ∙ at k b h;
   listed = listed;
 }
   where
@@ -70,9 +70,9 @@ linked_by {number} {table} {chains} kinds listed found = record {
         → get_or (get_or chains (kind_number k) []) h.0 0 ≡ b
     at k b h = get_or_default (get_or chains (kind_number k) []) h.0 0 b h.1 ∙ h.2
 
-    place : (k : Kind) (b : ℕ) (h : Contains (get_or chains (kind_number k) []) b) → (block_at table b).place
+    index : (k : Kind) (b : ℕ) (h : Contains (get_or chains (kind_number k) []) b) → (block_at table b).index
         ≡ h.0
-    place k b h = ap (λ q. (block_at table q).place) (sym (at k b h)) ∙ (listed k h.0 h.1).place_is
+    index k b h = ap (λ q. (block_at table q).index) (sym (at k b h)) ∙ (listed k h.0 h.1).index_is
 
 -- one kind gets another chain, and blocks of other kinds stay
 module _ {number : ℕ} {table after : List Block} {chains : List (List ℕ)} (was : IsLinked number table chains)
@@ -125,16 +125,16 @@ module _ {number given : ℕ} {table : List Block} {chains : List (List ℕ)}
       (range.0, range.1, sym (use_is b range.0 range.1) ∙ is)
 
   -- the chain index of a block that is in a chain
-  pub place_at : (k : Kind) (i : ℕ) (d : ℕ) → i < length (get_or chains (kind_number k) [])
-      → (block_at table (get_or (get_or chains (kind_number k) []) i d)).place ≡ i
-  place_at k i d lt =
-      ap (λ b. (block_at table b).place) (get_or_default (get_or chains (kind_number k) []) i d 0 lt)
-      ∙ (inv.linked.listed k i lt).place_is
+  pub index_at : (k : Kind) (i : ℕ) (d : ℕ) → i < length (get_or chains (kind_number k) [])
+      → (block_at table (get_or (get_or chains (kind_number k) []) i d)).index ≡ i
+  index_at k i d lt =
+      ap (λ b. (block_at table b).index) (get_or_default (get_or chains (kind_number k) []) i d 0 lt)
+      ∙ (inv.linked.listed k i lt).index_is
 
   pub apart : (k : Kind) → AllPairs (λ x y. x ≢ y) (get_or chains (kind_number k) [])
   apart k i j d lt below same =
-      let here : i ≡ j = sym (place_at k i d (omega arith)) ∙ ap (λ b. (block_at table b).place) same
-      ∙ place_at k j d below in
+      let here : i ≡ j = sym (index_at k i d (omega arith)) ∙ ap (λ b. (block_at table b).index) same
+      ∙ index_at k j d below in
       omega arith
 
   in_chain : (k : Kind) (b : ℕ) → Contains (get_or chains (kind_number k) []) b
@@ -184,10 +184,10 @@ module _ {number given : ℕ} {table : List Block} {chains : List (List ℕ)}
       omega (arith, ap length is, length-append before (b ∷ after)) in
       let here : get_or (get_or chains (kind_number k) []) (length before) 0 ≡ b =
       ap (λ xs. get_or xs (length before) 0) is ∙ get_or_at before b after 0 (length before) refl in
-      sym (place_at k p 0 (slice_get_within (get_or chains (kind_number k) []) p b at))
-      ∙ ap (λ x. (block_at table x).place)
+      sym (index_at k p 0 (slice_get_within (get_or chains (kind_number k) []) p b at))
+      ∙ ap (λ x. (block_at table x).index)
       (get_or_from_slice_get (get_or chains (kind_number k) []) p b 0 at ∙ sym here)
-      ∙ place_at k (length before) 0 lt
+      ∙ index_at k (length before) 0 lt
 
   -- no chain has more blocks than are in use
   pub chain_short : (k : Kind) → length (get_or chains (kind_number k) []) ≤ given
@@ -221,20 +221,20 @@ module _ {number given : ℕ} {table : List Block} {chains : List (List ℕ)}
     pub read_use : use_of x.kind ≡ Some (handles_of (kind_at u.table b))
     read_use = ap (λ (y : Block). use_of y.kind) is_read ∙ at_block.2
 
-    listed_in : (block_at table b).place < length (get_or chains (kind_number (kind_at u.table b)) [])
+    listed_in : (block_at table b).index < length (get_or chains (kind_number (kind_at u.table b)) [])
     listed_in = inv.linked.within (kind_at u.table b) b at_block.0 at_block.1 at_block.2
 
-    pub read_place : slice_get (chain_of u.table (kind_at u.table b)) x.place ≡ Some b
-    read_place =
-        ap (λ (y : Block). slice_get (chain_of u.table (kind_at u.table b)) y.place) is_read
-        ∙ ap (λ (v : Uses). slice_get (chain_of v.table (kind_at u.table b)) (block_at table b).place) (sym
+    pub read_index : slice_get (chain_of u.table (kind_at u.table b)) x.index ≡ Some b
+    read_index =
+        ap (λ (y : Block). slice_get (chain_of u.table (kind_at u.table b)) y.index) is_read
+        ∙ ap (λ (v : Uses). slice_get (chain_of v.table (kind_at u.table b)) (block_at table b).index) (sym
         seen)
-        ∙ slice_get-get_or _ (block_at table b).place 0 listed_in
+        ∙ slice_get-get_or _ (block_at table b).index 0 listed_in
         ∙ ap Some (inv.linked.indexed (kind_at u.table b) b at_block.0 at_block.1 at_block.2)
 
-    pub read_small : x.place < BLOCKS
+    pub read_small : x.index < BLOCKS
     read_small =
-        let known = ap (λ (y : Block). y.place) is_read in
+        let known = ap (λ (y : Block). y.index) is_read in
         let also = len-mapped_le 1 number (use_at table) in
         omega (arith, known, listed_in, chain_short inv (kind_at u.table b), inv.counted, also, inv.limit)
 

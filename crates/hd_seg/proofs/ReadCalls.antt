@@ -1,5 +1,5 @@
 -- What the reading calls return, by the fields and the value of a table.
-use Rattle.hd_seg.proofs.Basics.{Addr, BlockUse, CLUMP, CLUMPS, Cell, Contains, Extra, Handle, IfSome, IsLeastWithout, IsSeg, IsSome, IsTable, Kind, List, None, Option, ROWS, Row, Some, Table, Uses, [], ap, arith, bit_and, bit_at, bit_at-shr, cell_at, cell_in, chain_of, cond, contains_key, drop, drop_more, empty, empty_table, extra_held, extra_of, extra_place, get, get-empty, get_beside, get_or, get_or_from_slice_get, handles_of, has_handles, is_some, kind_at, kind_in, len, len-empty, length, length-replicate, live_at, mapped, nat_cmp, option_map, place_in, refl, replicate, row_by, row_in, row_of, same_Some, slice_get, slice_get_within, subst, suc, sym, table_in, take, take-append-drop, true, with_block, zero, ℕ, ◌%◌, ◌*◌, ◌++◌, ◌+◌, ◌/◌, ◌<◌, ◌^◌, ◌∙◌, ◌∷◌, ◌≡◌, ◌≤◌}
+use Rattle.hd_seg.proofs.Basics.{Addr, BlockUse, CLUMP, CLUMPS, Cell, Contains, Extra, Handle, IfSome, IsLeastWithout, IsSeg, IsSome, IsTable, Kind, List, None, Option, ROWS, Row, Some, Table, Uses, [], ap, arith, bit_and, bit_at, bit_at-shr, cell_at, cell_in, chain_of, cond, contains_key, drop, drop_more, empty, empty_table, extra_held, extra_of, extra_index, get, get-empty, get_beside, get_or, get_or_from_slice_get, handles_of, has_handles, is_some, kind_at, kind_in, len, len-empty, length, length-replicate, live_at, mapped, nat_cmp, option_map, extra_index_in, refl, replicate, row_by, row_in, row_of, same_Some, slice_get, slice_get_within, subst, suc, sym, table_in, take, take-append-drop, true, with_block, zero, ℕ, ◌%◌, ◌*◌, ◌++◌, ◌+◌, ◌/◌, ◌<◌, ◌^◌, ◌∙◌, ◌∷◌, ◌≡◌, ◌≤◌}
 use Rattle.std.proofs.lemmas.Nat.Bits.{bit_at-zero, bit_at_and, bit_at_ones, bit_at-lt}
 use Rattle.hd_model.proofs.WholeScenes.{if_some_from}
 use Rattle.hd_seg.proofs.{FunctionMaps.mapped-empty, RowRewrite.live_row}
@@ -79,7 +79,7 @@ module _ {u : Uses} {cells : List Cell} {masks : List ℕ} {live : ℕ} (inv : I
 
   -- a target is that of a live row
   pub row_read : (target : Option Addr) (e : Extra Addr) → cell_at cells slot ≡ cell.Target target
-      → e ≡ extra_held (cell_in cells (extra_place u slot))
+      → e ≡ extra_held (cell_in cells (extra_index u slot))
       → Some (record { target = target; extra = e }) ≡ option_map row_of (get t.rows slot)
   row_read target e is held =
       let handles : get u.table.uses (slot / ROWS)
@@ -89,13 +89,13 @@ module _ {u : Uses} {cells : List Cell} {masks : List ℕ} {live : ℕ} (inv : I
       ≡ Some (record {
         kind = kind_in (get u.table.uses (slot / ROWS));
         target = target;
-        extra = extra_of (extra_held (cell_in cells (extra_place u slot)));
+        extra = extra_of (extra_held (cell_in cells (extra_index u slot)));
       }) =
-      ap (λ o. row_by o (cell_at cells slot) (cell_in cells (extra_place u slot))) handles
+      ap (λ o. row_by o (cell_at cells slot) (cell_in cells (extra_index u slot))) handles
       ∙ ap (λ c. row_by (Some (handles_of (kind_in (get u.table.uses (slot / ROWS))))) c
-      (cell_in cells (extra_place u slot))) is in
+      (cell_in cells (extra_index u slot))) is in
       ap (λ x. let r : Row = record { target = target; extra = x } in Some r)
-      (held ∙ sym (extra-from-of (extra_held (cell_in cells (extra_place u slot)))))
+      (held ∙ sym (extra-from-of (extra_held (cell_in cells (extra_index u slot)))))
       ∙ sym (ap (option_map row_of) (seen ∙ row))
 
   -- the target of a live row, which no other cell has
@@ -103,7 +103,7 @@ module _ {u : Uses} {cells : List Cell} {masks : List ℕ} {live : ℕ} (inv : I
       → IsSome (get t.rows slot) → target ≡ (live_at t slot).target
   target_read target is live =
       ap (λ (r : Row). r.target)
-      (same_Some _ _ (row_read target (extra_held (cell_in cells (extra_place u slot))) is refl
+      (same_Some _ _ (row_read target (extra_held (cell_in cells (extra_index u slot))) is refl
       ∙ ap (option_map row_of) (live_row t slot live)))
 
   pub live_read : None ≡ option_map row_of (get t.rows slot) → IsSome (get t.rows slot) → ⊥
@@ -175,8 +175,8 @@ module _ (blocks : ℕ) where
   no_row : (q : ℕ) → row_in none bare q ≡ None
   no_row q = row-empty _ _ _ (empty_cell (ROWS * (blocks + 1)) q)
 
-  no_extra_cell : (q : ℕ) → cell_in bare (extra_place none q) ≡ cell.Empty
-  no_extra_cell q = ap (λ o. cell_in bare (place_in o (q % ROWS))) (get-empty nat_cmp (q / ROWS))
+  no_extra_cell : (q : ℕ) → cell_in bare (extra_index none q) ≡ cell.Empty
+  no_extra_cell q = ap (λ o. cell_in bare (extra_index_in o (q % ROWS))) (get-empty nat_cmp (q / ROWS))
 
   no_rows : mapped ROWS (ROWS * blocks) (row_in none bare) ≡ empty
   no_rows = mapped-empty ROWS (ROWS * blocks) (row_in none bare) (λ q low high. no_row q)

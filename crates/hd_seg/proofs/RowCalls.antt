@@ -1,5 +1,5 @@
 -- Each call on one row, by the fields of a table.
-use Rattle.hd_seg.proofs.Basics.{Addr, BlockUse, Cell, Extra, Handle, IsSeg, IsSome, Kind, List, None, Option, ROWS, Row, Some, Table, Uses, ap, arith, bit_or, bit_xor, cell_at, cell_in, extra_data, extra_from, extra_held, extra_of, extra_place, fits, fits_in, get, get_or, handle_of, handles_of, inl, inr, is_some, kind_at, kind_in, length, length-set, live_at, refl, row_by, row_in, set, sym, table_in, true, true≢false, unwrap_or, with_cell, with_row, without_row, ℕ, ◌%◌, ◌*◌, ◌+◌, ◌-◌, ◌/◌, ◌<◌, ◌^◌, ◌∙◌, ◌≡◌, ◌≤◌}
+use Rattle.hd_seg.proofs.Basics.{Addr, BlockUse, Cell, Extra, Handle, IsSeg, IsSome, Kind, List, None, Option, ROWS, Row, Some, Table, Uses, ap, arith, bit_or, bit_xor, cell_at, cell_in, extra_data, extra_from, extra_held, extra_of, extra_index, fits, fits_in, get, get_or, handle_of, handles_of, inl, inr, is_some, kind_at, kind_in, length, length-set, live_at, refl, row_by, row_in, set, sym, table_in, true, true≢false, unwrap_or, with_cell, with_row, without_row, ℕ, ◌%◌, ◌*◌, ◌+◌, ◌-◌, ◌/◌, ◌<◌, ◌^◌, ◌∙◌, ◌≡◌, ◌≤◌}
 use Rattle.hd_seg.proofs.{FunctionMaps.len-mapped_le, ChainLinks.none_is_some}
 use Rattle.hd_seg.proofs.RowCells.{extra-from-of, cases_option, parts, HasParts, row_is, IsWrite, writes, NoTarget, write_cell, write_extra, cell_now, cell_stays, extra_stays, held_now, emptied}
 use Rattle.hd_seg.proofs.RowChange.{inside, block_inside, view-put, view-take, seg-new, seg-same, seg-gone, some_live}
@@ -43,7 +43,7 @@ module _ {u : Uses} {cells : List Cell} {masks : List ℕ} {live : ℕ} (inv : I
     first = set cells slot (cell.Target row.target)
 
     abbrev pub put : List Cell
-    put = with_cell first (extra_place u slot) (cell.Extra row.extra)
+    put = with_cell first (extra_index u slot) (cell.Extra row.extra)
 
     pub put_write : IsWrite u slot cells put
     put_write = writes (write_cell inv.paired slot put_block cells (cell.Target row.target))
@@ -57,8 +57,8 @@ module _ {u : Uses} {cells : List Cell} {masks : List ℕ} {live : ℕ} (inv : I
 
     put_now : row_in u put slot ≡ Some (handle_of k row)
     put_now =
-        ap (λ o. row_by o (cell_at put slot) (cell_in put (extra_place u slot))) put_block
-        ∙ ap (λ c. row_by (Some (handles_of k)) c (cell_in put (extra_place u slot)))
+        ap (λ o. row_by o (cell_at put slot) (cell_in put (extra_index u slot))) put_block
+        ∙ ap (λ c. row_by (Some (handles_of k)) c (cell_in put (extra_index u slot)))
         (cell_stays inv.paired slot put_block first (cell.Extra row.extra)
         ∙ cell_now inv.paired slot put_block cells (cell.Target row.target) put_slot)
         ∙ ap (λ e. let h : Handle Addr = record { kind = k; target = row.target; extra = e } in Some h)
@@ -95,7 +95,7 @@ module _ {u : Uses} {cells : List Cell} {masks : List ℕ} {live : ℕ} (inv : I
         ]
 
     its_parts : HasParts (get u.table.uses (slot / ROWS)) (cell_at cells slot)
-        (cell_in cells (extra_place u slot)) h
+        (cell_in cells (extra_index u slot)) h
     its_parts = parts _ _ _ h live_row
 
     its_block : get u.table.uses (slot / ROWS) ≡ Some (handles_of h.kind)
@@ -116,9 +116,9 @@ module _ {u : Uses} {cells : List Cell} {masks : List ℕ} {live : ℕ} (inv : I
     live_high = omega (arith, live_slot, inv.room)
 
     -- its extra is read
-    pub extra_now : extra_held (cell_in cells (extra_place u slot)) ≡ extra_from h.extra
+    pub extra_now : extra_held (cell_in cells (extra_index u slot)) ≡ extra_from h.extra
     extra_now =
-        sym (extra-from-of (extra_held (cell_in cells (extra_place u slot)))) ∙ ap extra_from its_parts.extra_is
+        sym (extra-from-of (extra_held (cell_in cells (extra_index u slot)))) ∙ ap extra_from its_parts.extra_is
 
     pub live_mask : slot / ROWS < length masks
     live_mask = block_inside inv its_block (write_cell inv.paired slot its_block cells cell.Empty)
@@ -133,8 +133,8 @@ module _ {u : Uses} {cells : List Cell} {masks : List ℕ} {live : ℕ} (inv : I
 
       aim_now : row_in u aimed slot ≡ Some (record h { target = target })
       aim_now =
-          ap (λ o. row_by o (cell_at aimed slot) (cell_in aimed (extra_place u slot))) its_block
-          ∙ ap (λ c. row_by (Some (handles_of h.kind)) c (cell_in aimed (extra_place u slot)))
+          ap (λ o. row_by o (cell_at aimed slot) (cell_in aimed (extra_index u slot))) its_block
+          ∙ ap (λ c. row_by (Some (handles_of h.kind)) c (cell_in aimed (extra_index u slot)))
           (cell_now inv.paired slot its_block cells (cell.Target target) live_slot)
           ∙ ap (λ e. let g : Handle Addr = record { kind = h.kind; target = target; extra = e } in Some g)
           (ap (λ c. extra_of (extra_held c)) (extra_stays inv.paired slot its_block cells (cell.Target
@@ -150,15 +150,15 @@ module _ {u : Uses} {cells : List Cell} {masks : List ℕ} {live : ℕ} (inv : I
     -- another extra
     module _ (e : Extra Addr) (fitting : fits h.kind (extra_of e) ≡ true) where
       abbrev pub eked : List Cell
-      eked = with_cell cells (extra_place u slot) (cell.Extra e)
+      eked = with_cell cells (extra_index u slot) (cell.Extra e)
 
       eke_write : IsWrite u slot cells eked
       eke_write = write_extra inv.paired slot its_block cells (cell.Extra e) (no_target_extra e)
 
       eke_now : row_in u eked slot ≡ Some (record h { extra = extra_of e })
       eke_now =
-          ap (λ o. row_by o (cell_at eked slot) (cell_in eked (extra_place u slot))) its_block
-          ∙ ap (λ c. row_by (Some (handles_of h.kind)) c (cell_in eked (extra_place u slot)))
+          ap (λ o. row_by o (cell_at eked slot) (cell_in eked (extra_index u slot))) its_block
+          ∙ ap (λ c. row_by (Some (handles_of h.kind)) c (cell_in eked (extra_index u slot)))
           (cell_stays inv.paired slot its_block cells (cell.Extra e) ∙ its_parts.cell_is)
           ∙ ap (λ x. let g : Handle Addr = record { kind = h.kind; target = h.target; extra = x } in Some g)
           (held_now inv.paired slot its_block cells e inv.room fitting)
@@ -174,7 +174,7 @@ module _ {u : Uses} {cells : List Cell} {masks : List ℕ} {live : ℕ} (inv : I
     bare = set cells slot cell.Empty
 
     abbrev pub taken : List Cell
-    taken = with_cell bare (extra_place u slot) cell.Empty
+    taken = with_cell bare (extra_index u slot) cell.Empty
 
     take_write : IsWrite u slot cells taken
     take_write = writes (write_cell inv.paired slot its_block cells cell.Empty)

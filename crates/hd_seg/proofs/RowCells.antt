@@ -1,5 +1,5 @@
 -- Rows by their cells: what a write of a cell does to them, and what a table's users see of it.
-use Rattle.hd_seg.proofs.Basics.{Addr, BlockUse, Cell, Extra, Handle, IsPaired, IsSeg, IsTable, Kind, List, None, Option, ROWS, Some, Table, Uses, [], ap, arith, cell_at, cell_in, drop, extra_data, extra_from, extra_held, extra_of, extra_place, fits, get, get_or-set_other, get_or-set_same, handles_of, inl, inr, is_some, length, length-set, mapped, place_in, refl, row_by, row_in, set, subst, suc, sym, table_in, take, take_at, true, with_cell, zero, ℕ, ◌%◌, ◌*◌, ◌++◌, ◌+◌, ◌/◌, ◌<◌, ◌∙◌, ◌∷◌, ◌≡◌, ◌≢◌, ◌≤◌, ◌⊎◌}
+use Rattle.hd_seg.proofs.Basics.{Addr, BlockUse, Cell, Extra, Handle, IsPaired, IsSeg, IsTable, Kind, List, None, Option, ROWS, Some, Table, Uses, [], ap, arith, cell_at, cell_in, drop, extra_data, extra_from, extra_held, extra_of, extra_index, fits, get, get_or-set_other, get_or-set_same, handles_of, inl, inr, is_some, length, length-set, mapped, extra_index_in, refl, row_by, row_in, set, subst, suc, sym, table_in, take, take_at, true, with_cell, zero, ℕ, ◌%◌, ◌*◌, ◌++◌, ◌+◌, ◌/◌, ◌<◌, ◌∙◌, ◌∷◌, ◌≡◌, ◌≢◌, ◌≤◌, ◌⊎◌}
 use Rattle.hd_seg.proofs.FunctionMaps.{get-mapped, get-mapped_out, cases_within, len-mapped_le}
 use Rattle.hd_seg.proofs.{ChainLinks.some_of, BlockAdd.extras_apart, RowRewrite.single_nothing}
 use Rattle.hd_commands.specs.declared.handle.Extra.TheVariants as extra
@@ -69,31 +69,32 @@ parts (Some (handles_of k)) (cell.Target t) x h is =
 
 module _ {u : Uses} (p : IsPaired u) where
   -- the cell of an extra is in a data block
-  pub place_is : (q m : ℕ) → extra_place u q ≡ Some m
+  pub index_is : (q m : ℕ) → extra_index u q ≡ Some m
       → (d : ℕ) × ((get u.extras (q / ROWS) ≡ Some d) × (m ≡ d * ROWS + q % ROWS))
-  place_is q m is =
+  index_is q m is =
       elim (cases_option (get u.extras (q / ROWS))) [
-        | inl none ↦ let no : None ≡ Some m = sym (ap (λ o. place_in o (q % ROWS)) none) ∙ is in absurd (cc)
+        | inl none ↦ let no : None ≡ Some m =
+            sym (ap (λ o. extra_index_in o (q % ROWS)) none) ∙ is in absurd (cc)
         | inr some ↦ let here : Some (some.0 * ROWS + q % ROWS) ≡ Some m =
-            sym (ap (λ o. place_in o (q % ROWS)) some.1) ∙ is in (some.0, (some.1, cc))
+            sym (ap (λ o. extra_index_in o (q % ROWS)) some.1) ∙ is in (some.0, (some.1, cc))
       ]
 
-  pub place_extras : (q m : ℕ) → extra_place u q ≡ Some m → get u.table.uses (m / ROWS) ≡ Some extra_data
-  place_extras q m is =
-      let at : (d : ℕ) × ((get u.extras (q / ROWS) ≡ Some d) × (m ≡ d * ROWS + q % ROWS)) = place_is q m is in
+  pub index_extras : (q m : ℕ) → extra_index u q ≡ Some m → get u.table.uses (m / ROWS) ≡ Some extra_data
+  index_extras q m is =
+      let at : (d : ℕ) × ((get u.extras (q / ROWS) ≡ Some d) × (m ≡ d * ROWS + q % ROWS)) = index_is q m is in
       let here : m / ROWS ≡ at.0 = omega (arith, at.1.1) in
       ap (get u.table.uses) here ∙ p.used (q / ROWS) at.0 at.1.0
 
-  pub place_within : (q m : ℕ) → extra_place u q ≡ Some m → m < ROWS * (u.table.blocks + 1)
-  place_within q m is =
-      let at : (d : ℕ) × ((get u.extras (q / ROWS) ≡ Some d) × (m ≡ d * ROWS + q % ROWS)) = place_is q m is in
+  pub index_within : (q m : ℕ) → extra_index u q ≡ Some m → m < ROWS * (u.table.blocks + 1)
+  index_within q m is =
+      let at : (d : ℕ) × ((get u.extras (q / ROWS) ≡ Some d) × (m ≡ d * ROWS + q % ROWS)) = index_is q m is in
       omega (arith, at.1.1, p.within (q / ROWS) at.0 at.1.0)
 
   -- two slots have their extras in two cells
-  pub place_apart : (q s m : ℕ) → extra_place u q ≡ Some m → extra_place u s ≡ Some m → q ≡ s
-  place_apart q s m is is' =
-      let a : (d : ℕ) × ((get u.extras (q / ROWS) ≡ Some d) × (m ≡ d * ROWS + q % ROWS)) = place_is q m is in
-      let b : (d : ℕ) × ((get u.extras (s / ROWS) ≡ Some d) × (m ≡ d * ROWS + s % ROWS)) = place_is s m is' in
+  pub index_apart : (q s m : ℕ) → extra_index u q ≡ Some m → extra_index u s ≡ Some m → q ≡ s
+  index_apart q s m is is' =
+      let a : (d : ℕ) × ((get u.extras (q / ROWS) ≡ Some d) × (m ≡ d * ROWS + q % ROWS)) = index_is q m is in
+      let b : (d : ℕ) × ((get u.extras (s / ROWS) ≡ Some d) × (m ≡ d * ROWS + s % ROWS)) = index_is s m is' in
       let same : a.0 ≡ b.0 = omega (arith, a.1.1, b.1.1) in
       let block : q / ROWS ≡ s / ROWS = p.apart (q / ROWS) (s / ROWS) b.0 (a.1.0 ∙ ap Some same) b.1.0 in
       omega (arith, a.1.1, b.1.1, block)
@@ -162,7 +163,7 @@ pub record IsWrite (u : Uses) (slot : ℕ) (cells after : List Cell) : Type 0 wh
   pub size : length after ≡ length cells
   pub cell_other : (q : ℕ) → q ≢ slot → (get u.table.uses (q / ROWS) ≡ Some extra_data → ⊥)
       → cell_at after q ≡ cell_at cells q
-  pub extra_other : (q : ℕ) → q ≢ slot → cell_in after (extra_place u q) ≡ cell_in cells (extra_place u q)
+  pub extra_other : (q : ℕ) → q ≢ slot → cell_in after (extra_index u q) ≡ cell_in cells (extra_index u q)
   pub in_data : (q : ℕ) (t : Option Addr) → get u.table.uses (q / ROWS) ≡ Some extra_data
       → cell_at after q ≡ cell.Target t → cell_at cells q ≡ cell.Target t
 
@@ -201,8 +202,8 @@ length-with cells x (Some m) = length-set cells m x
 pub cells_back : {cells given after : List Cell} (ys : List Cell) (x : Cell) {n : ℕ} {o p : Option ℕ}
     → after ≡ with_cell given o x → given ≡ cells → o ≡ p → n ≡ length cells
     → take n (after ++ drop (length after) ys) ≡ with_cell cells p x
-cells_back {cells} {given} {after} ys x {n} {o} {p} written lent place size =
-    let is : after ≡ with_cell cells p x = written ∙ (λ i. with_cell (lent i) (place i) x) in
+cells_back {cells} {given} {after} ys x {n} {o} {p} written lent index size =
+    let is : after ≡ with_cell cells p x = written ∙ (λ i. with_cell (lent i) (index i) x) in
     take_at after (drop (length after) ys) n (ap length is ∙ length-with cells x p ∙ sym size) ∙ is
 
 -- the same, where the cell of a slot was written before
@@ -210,8 +211,8 @@ pub row_back : {cells given after : List Cell} (ys : List Cell) (slot : ℕ) (t 
     ℕ}
     → after ≡ with_cell (set given slot t) o x → given ≡ cells → o ≡ p → n ≡ length cells
     → take n (after ++ drop (length after) ys) ≡ with_cell (set cells slot t) p x
-row_back {cells} ys slot t x written lent place size =
-    cells_back ys x written (ap (λ xs. set xs slot t) lent) place (size ∙ sym (length-set cells slot t))
+row_back {cells} ys slot t x written lent index size =
+    cells_back ys x written (ap (λ xs. set xs slot t) lent) index (size ∙ sym (length-set cells slot t))
 
 pub seg_at : {u : Uses} {xs ys : List Cell} {masks : List ℕ} {live : ℕ} → xs ≡ ys → IsSeg u ys masks live
     → IsSeg u xs masks live
@@ -219,9 +220,9 @@ seg_at {u} {xs} {ys} {masks} {live} same = subst (λ cs. IsSeg u cs masks live) 
 
 module _ {u : Uses} (p : IsPaired u) (slot : ℕ) {k : Kind}
     (in_block : get u.table.uses (slot / ROWS) ≡ Some (handles_of k)) (cells : List Cell) where
-  place_not_slot : (q m : ℕ) → extra_place u q ≡ Some m → m ≢ slot
-  place_not_slot q m is same =
-      extras_apart _ k (sym (ap (λ n. get u.table.uses (n / ROWS)) same) ∙ place_extras p q m is) in_block
+  index_not_slot : (q m : ℕ) → extra_index u q ≡ Some m → m ≢ slot
+  index_not_slot q m is same =
+      extras_apart _ k (sym (ap (λ n. get u.table.uses (n / ROWS)) same) ∙ index_extras p q m is) in_block
 
   -- the slot's own cell
   cell_kept : (c : Cell) (o : Option ℕ) → ((m : ℕ) → o ≡ Some m → m ≢ slot) → cell_in (set cells slot c) o
@@ -233,7 +234,7 @@ module _ {u : Uses} (p : IsPaired u) (slot : ℕ) {k : Kind}
   write_cell c = record {
     size = length-set cells slot c;
     cell_other = λ q apart plain. get_or-set_other cells slot q c cell.Empty apart;
-    extra_other = λ q apart. cell_kept c (extra_place u q) (place_not_slot q);
+    extra_other = λ q apart. cell_kept c (extra_index u q) (index_not_slot q);
     in_data = λ q t data_block is.
         let apart : q ≢ slot = λ same. extras_apart _ k (sym (ap (λ n. get u.table.uses (n / ROWS)) same)
         ∙ data_block) in_block in
@@ -243,9 +244,9 @@ module _ {u : Uses} (p : IsPaired u) (slot : ℕ) {k : Kind}
   pub cell_now : (c : Cell) → slot < length cells → cell_at (set cells slot c) slot ≡ c
   cell_now c lt = get_or-set_same cells slot c cell.Empty lt
 
-  pub extra_stays : (c : Cell) → cell_in (set cells slot c) (extra_place u slot)
-      ≡ cell_in cells (extra_place u slot)
-  extra_stays c = cell_kept c (extra_place u slot) (place_not_slot slot)
+  pub extra_stays : (c : Cell) → cell_in (set cells slot c) (extra_index u slot)
+      ≡ cell_in cells (extra_index u slot)
+  extra_stays c = cell_kept c (extra_index u slot) (index_not_slot slot)
 
   -- the cell with the slot's extra
   other_cell : (x : Cell) (o : Option ℕ) (q : ℕ) → ((m : ℕ) → o ≡ Some m → q ≢ m)
@@ -258,18 +259,18 @@ module _ {u : Uses} (p : IsPaired u) (slot : ℕ) {k : Kind}
   other_extra x o None away = refl
   other_extra x o (Some m) away = other_cell x o m (λ n is same. away n is (ap Some same))
 
-  pub write_extra : (x : Cell) → NoTarget x → IsWrite u slot cells (with_cell cells (extra_place u slot) x)
+  pub write_extra : (x : Cell) → NoTarget x → IsWrite u slot cells (with_cell cells (extra_index u slot) x)
   write_extra x none = record {
-    size = length-with cells x (extra_place u slot);
-    cell_other = λ q apart plain. other_cell x (extra_place u slot) q
-        (λ m is same. plain (ap (λ n. get u.table.uses (n / ROWS)) same ∙ place_extras p slot m is));
-    extra_other = λ q apart. other_extra x (extra_place u slot) (extra_place u q)
-        (λ m is is'. apart (place_apart p q slot m is' is));
-    in_data = λ q t data_block is. target_before x none cells (extra_place u slot) q t is;
+    size = length-with cells x (extra_index u slot);
+    cell_other = λ q apart plain. other_cell x (extra_index u slot) q
+        (λ m is same. plain (ap (λ n. get u.table.uses (n / ROWS)) same ∙ index_extras p slot m is));
+    extra_other = λ q apart. other_extra x (extra_index u slot) (extra_index u q)
+        (λ m is is'. apart (index_apart p q slot m is' is));
+    in_data = λ q t data_block is. target_before x none cells (extra_index u slot) q t is;
   }
 
-  pub cell_stays : (x : Cell) → cell_at (with_cell cells (extra_place u slot) x) slot ≡ cell_at cells slot
-  cell_stays x = other_cell x (extra_place u slot) slot (λ m is same. place_not_slot slot m is (sym same))
+  pub cell_stays : (x : Cell) → cell_at (with_cell cells (extra_index u slot) x) slot ≡ cell_at cells slot
+  cell_stays x = other_cell x (extra_index u slot) slot (λ m is same. index_not_slot slot m is (sym same))
 
   extra_there : (x : Cell) (o : Option ℕ) (m : ℕ) → o ≡ Some m → m < length cells
       → cell_in (with_cell cells o x) o ≡ x
@@ -278,34 +279,35 @@ module _ {u : Uses} (p : IsPaired u) (slot : ℕ) {k : Kind}
 
   written_at : (x : Cell) (d : ℕ) → length cells ≡ ROWS * (u.table.blocks + 1)
       → get u.extras (slot / ROWS) ≡ Some d
-      → cell_in (with_cell cells (extra_place u slot) x) (extra_place u slot) ≡ x
+      → cell_in (with_cell cells (extra_index u slot) x) (extra_index u slot) ≡ x
   written_at x d room is =
-      let at : extra_place u slot ≡ Some (d * ROWS + slot % ROWS) = ap (λ o. place_in o (slot % ROWS)) is in
-      extra_there x (extra_place u slot) (d * ROWS + slot % ROWS) at (omega (
+      let at : extra_index u slot ≡ Some (d * ROWS + slot % ROWS) =
+      ap (λ o. extra_index_in o (slot % ROWS)) is in
+      extra_there x (extra_index u slot) (d * ROWS + slot % ROWS) at (omega (
         arith,
-        place_within p slot _ at,
+        index_within p slot _ at,
         room,
       ))
 
   -- the extra that was written, or nothing where the kind has no extra data
   pub held_now : (e : Extra Addr) → length cells ≡ ROWS * (u.table.blocks + 1) → fits k (extra_of e) ≡ true
-      → extra_of (extra_held (cell_in (with_cell cells (extra_place u slot) (cell.Extra e))
-      (extra_place u slot))) ≡ extra_of e
+      → extra_of (extra_held (cell_in (with_cell cells (extra_index u slot) (cell.Extra e))
+      (extra_index u slot))) ≡ extra_of e
   held_now e room fitting =
       elim (cases_option (get u.extras (slot / ROWS))) [
         | inl none ↦
-            ap (λ o. extra_of (extra_held (cell_in (with_cell cells (place_in o (slot % ROWS)) (cell.Extra e))
-            (place_in o (slot % ROWS))))) none
+            ap (λ o. extra_of (extra_held (cell_in (with_cell cells (extra_index_in o (slot % ROWS))
+            (cell.Extra e)) (extra_index_in o (slot % ROWS))))) none
             ∙ sym (single_nothing k (extra_of e)
             (sym (p.paired (slot / ROWS) k in_block) ∙ ap is_some none) fitting)
         | inr some ↦ ap (λ c. extra_of (extra_held c)) (written_at (cell.Extra e) some.0 room some.1)
       ]
 
   pub emptied : length cells ≡ ROWS * (u.table.blocks + 1)
-      → cell_in (with_cell cells (extra_place u slot) cell.Empty) (extra_place u slot) ≡ cell.Empty
+      → cell_in (with_cell cells (extra_index u slot) cell.Empty) (extra_index u slot) ≡ cell.Empty
   emptied room =
       elim (cases_option (get u.extras (slot / ROWS))) [
-        | inl none ↦ ap (λ o. cell_in (with_cell cells (place_in o (slot % ROWS)) cell.Empty)
-            (place_in o (slot % ROWS))) none
+        | inl none ↦ ap (λ o. cell_in (with_cell cells (extra_index_in o (slot % ROWS)) cell.Empty)
+            (extra_index_in o (slot % ROWS))) none
         | inr some ↦ written_at cell.Empty some.0 room some.1
       ]

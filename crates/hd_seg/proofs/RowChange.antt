@@ -1,5 +1,5 @@
 -- A table after one row changed: what its users see, and what it keeps.
-use Rattle.hd_seg.proofs.Basics.{Addr, Cell, FinMap, Handle, IsSeg, Kind, List, None, Option, ROWS, Some, Table, Uses, ap, arith, bit_at, bit_or, bit_xor, cases_eq, cases_lt, cell_at, cell_in, cond, empty_of_len, extra_data, extra_place, fits, flip_other, flip_same, get, get-empty, get_or, get_or-set_other, get_or-set_same, handles_of, has_handles, inl, inr, insert, is_some, len, len-insert, len-remove, length, length-set, mapped, nat_cmp, nat_cmp_total, refl, remove, row_by, row_in, same_Some, set, set_other, set_same, subst, sym, table_in, true, with_row, without_row, ℕ, ◌%◌, ◌*◌, ◌+◌, ◌-◌, ◌/◌, ◌<◌, ◌^◌, ◌∙◌, ◌≡◌, ◌≢◌, ◌≤◌}
+use Rattle.hd_seg.proofs.Basics.{Addr, Cell, FinMap, Handle, IsSeg, Kind, List, None, Option, ROWS, Some, Table, Uses, ap, arith, bit_at, bit_or, bit_xor, cases_eq, cases_lt, cell_at, cell_in, cond, empty_of_len, extra_data, extra_index, fits, flip_other, flip_same, get, get-empty, get_or, get_or-set_other, get_or-set_same, handles_of, has_handles, inl, inr, insert, is_some, len, len-insert, len-remove, length, length-set, mapped, nat_cmp, nat_cmp_total, refl, remove, row_by, row_in, same_Some, set, set_other, set_same, subst, sym, table_in, true, with_row, without_row, ℕ, ◌%◌, ◌*◌, ◌+◌, ◌-◌, ◌/◌, ◌<◌, ◌^◌, ◌∙◌, ◌≡◌, ◌≢◌, ◌≤◌}
 use Rattle.hd_seg.proofs.{FunctionMaps.mapped-insert, FunctionMaps.mapped-remove, ChainLinks.none_is_some, ChainLinks.some_of}
 use Rattle.hd_seg.proofs.RowCells.{cases_use, row-unused, row-extras, row-empty, row_is, IsWrite}
 use Rattle.hd_seg.specs.declared.cells.Cell.TheVariants as cell
@@ -29,7 +29,7 @@ module _ {u : Uses} {cells : List Cell} {masks : List ℕ} {live : ℕ} (inv : I
         | inr (inr rows) ↦
             let plain : get u.table.uses (q / ROWS) ≡ Some extra_data → ⊥ =
             λ extras. let no : Some (handles_of rows.0) ≡ Some extra_data = sym rows.1 ∙ extras in cc in
-            ap (λ c. row_by (get u.table.uses (q / ROWS)) c (cell_in after (extra_place u q)))
+            ap (λ c. row_by (get u.table.uses (q / ROWS)) c (cell_in after (extra_index u q)))
             (w.cell_other q apart plain)
             ∙ ap (row_by (get u.table.uses (q / ROWS)) (cell_at cells q)) (w.extra_other q apart)
       ]
@@ -84,7 +84,7 @@ module _ {u : Uses} {cells : List Cell} {masks : List ℕ} {live : ℕ} (inv : I
       ≡ bit_of (row_in u after (ROWS * b + i)))
       → ((h : Handle Addr) → row_in u after slot ≡ Some h → fits h.kind h.extra ≡ true)
       → (row_in u after slot ≡ None → (cell_at after slot ≡ cell.Empty)
-      × (cell_in after (extra_place u slot) ≡ cell.Empty))
+      × (cell_in after (extra_index u slot) ≡ cell.Empty))
       → IsSeg u after new_masks new_live
   seg-after new_masks new_live words counted bits fitting empty = record {
     table = inv.table;
@@ -105,7 +105,7 @@ module _ {u : Uses} {cells : List Cell} {masks : List ℕ} {live : ℕ} (inv : I
     targets = λ q t is. target_block q t is;
     cleared = λ q none.
         elim (cases_eq q slot) [
-          | inl same ↦ ap (λ s. cell_in after (extra_place u s)) same
+          | inl same ↦ ap (λ s. cell_in after (extra_index u s)) same
               ∙ (empty (ap (row_in u after) (sym same) ∙ none)).1
           | inr apart ↦ w.extra_other q apart ∙ inv.cleared q (sym (row_other q apart) ∙ none)
         ];
@@ -208,7 +208,7 @@ module _ {u : Uses} {cells : List Cell} {masks : List ℕ} {live : ℕ} (inv : I
           e)
           ∙ ap bit_of was
 
-      pub seg-gone : cell_in after (extra_place u slot) ≡ cell.Empty → (m b : ℕ)
+      pub seg-gone : cell_in after (extra_index u slot) ≡ cell.Empty → (m b : ℕ)
           → m ≡ get_or masks (slot / ROWS) 0 → b ≡ 2 ^ (slot % ROWS)
           → IsSeg u after (set masks (slot / ROWS) (bit_xor m b)) (live - 1)
       seg-gone extra_now m b m_is b_is =

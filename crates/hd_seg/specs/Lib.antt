@@ -3,3 +3,4 @@ pub mod Mapped
 pub mod Blocks
 pub mod Cells
 pub mod Rewriting
+pub mod Inside

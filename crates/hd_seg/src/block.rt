@@ -5,13 +5,13 @@ use crate::row::BlockKind;
 #[derive(Clone, Copy)]
 pub(crate) struct Block {
     pub(crate) kind: BlockKind,
-    pub(crate) place: u32,
+    pub(crate) index: u32,
     pub(crate) extras: Option<u32>,
 }
 
 /// An unused block.
 pub(crate) const UNUSED: Block = Block {
     kind: BlockKind::Unused,
-    place: 0,
+    index: 0,
     extras: None,
 };

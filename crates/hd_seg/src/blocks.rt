@@ -8,7 +8,7 @@ ghost use Rattle.hd_model.specs.Table.{empty_table, chain_of, has_handles, IsLea
 ghost use Rattle.hd_model.specs.Table.{with_block, with_data, without_block};
 ghost use Rattle.hd_model.specs.Table.{IsTable};
 ghost use Rattle.hd_seg.specs.Row.{block_kind_of};
-ghost use Rattle.hd_seg.specs.Blocks.{use_of, use_at, HasUnused, numbered};
+ghost use Rattle.hd_seg.specs.{Blocks.use_of, Blocks.use_at, Inside.HasUnused, Inside.numbered};
 
 use crate::block::{Block, UNUSED};
 use crate::row::BlockKind;
@@ -28,7 +28,7 @@ pub(crate) struct Blocks {
 
 impl Model for Blocks {
     ghost use Rattle.std.specs.Prelude.{◌≤◌, All, map, vec_capacity};
-    ghost use Rattle.hd_seg.specs.Blocks.{Uses, uses_code, uses_in, IsBlocks};
+    ghost use Rattle.hd_seg.specs.{Blocks.Uses, Blocks.uses_code, Blocks.uses_in, Inside.IsBlocks};
 
     ghost Value = { Uses };
 
@@ -85,9 +85,9 @@ fn renumber(table: &mut [Block], chain: &[u32], from: usize)
     requires few { length chain.now ≤ BLOCKS }
     ensures { table.new ≡ numbered from (drop from chain.now) table.old }
 {
-    for place in from..chain.len() {
-        let block = &mut table[chain[place] as usize];
-        block.place = place as u32;
+    for index in from..chain.len() {
+        let block = &mut table[chain[index] as usize];
+        block.index = index as u32;
     }
 }
 
@@ -165,11 +165,11 @@ impl Blocks {
     {
         let block = least_unused(&self.table, 1);
         let chain = &mut self.chains[kind.number() as usize];
-        let place = chain.len() as u32;
+        let index = chain.len() as u32;
         chain.push_reserved(block as u32);
         self.table[block] = Block {
             kind: BlockKind::Rows(kind),
-            place,
+            index,
             extras: None,
         };
         self.given += 1;
@@ -206,34 +206,34 @@ impl Blocks {
             self.new ≡ record self.old { table = without_block self.old.table kind block } }
         ensures table { IsTable self.new.table }
     {
-        let (kind, place) = self.listing(block);
+        let (kind, index) = self.chain_position(block);
         self.table[block as usize] = UNUSED;
         let chain = &mut self.chains[kind.number() as usize];
-        chain.remove(place);
-        renumber(&mut self.table, chain, place);
+        chain.remove(index);
+        renumber(&mut self.table, chain, index);
         self.given -= 1;
     }
 
     // The kind of a block of handles, and its index in the chain of that kind.
-    fn listing(&self, block: u32) -> (Kind, usize)
+    fn chain_position(&self, block: u32) -> (Kind, usize)
         requires { has_handles (get self.now.table.uses block) ≡ true }
         ensures kind { result.0 ≡ kind_at self.now.table block }
-        ensures place { slice_get (chain_of self.now.table result.0) result.1 ≡ Some block }
+        ensures index { slice_get (chain_of self.now.table result.0) result.1 ≡ Some block }
         ensures small { result.1 < BLOCKS }
     {
         let at = self.table[block as usize];
         match at.kind {
             BlockKind::Unused | BlockKind::Extras => unreachable!(),
-            BlockKind::Rows(kind) => (kind, at.place as usize),
+            BlockKind::Rows(kind) => (kind, at.index as usize),
         }
     }
 
     /// The block at an index of the chain of a kind, if the chain has so many.
-    pub(crate) fn at(&self, kind: Kind, place: u32) -> Option<u32>
-        ensures { result ≡ slice_get (chain_of self.now.table kind) place }
+    pub(crate) fn at(&self, kind: Kind, index: u32) -> Option<u32>
+        ensures { result ≡ slice_get (chain_of self.now.table kind) index }
     {
         let chain = &self.chains[kind.number() as usize];
-        chain.get(place as usize).copied()
+        chain.get(index as usize).copied()
     }
 
     /// The block after a block of handles in its chain.
@@ -243,8 +243,8 @@ impl Blocks {
             (before after : List ℕ) → chain_of self.now.table kind ≡ before ++ block ∷ after →
             result ≡ slice_get after 0 }
     {
-        let (kind, place) = self.listing(block);
+        let (kind, index) = self.chain_position(block);
         let chain = &self.chains[kind.number() as usize];
-        chain.get(place + 1).copied()
+        chain.get(index + 1).copied()
     }
 }

@@ -15,7 +15,7 @@ pub fn rewrite_row(seg: &mut Seg, slot: Slot, row: Row)
     requires fitting { fits (live_at seg.old slot.0).kind (extra_of row.extra) ≡ true }
     ensures { Rewrites slot.0 (handle_of (live_at seg.old slot.0).kind row) seg.old seg.new }
 {
-    // In this order the place of the extra is found once where a caller has read it before.
+    // In this order the index of the extra is found once where a caller has read it before.
     seg.set_extra(slot, row.extra);
     seg.set_row(slot, row.target);
 }

@@ -13,7 +13,7 @@ ghost use Rattle.hd_seg.specs.Row.{handle_of, row_of, block_kind_of};
 use crate::blocks::Blocks;
 use crate::cells::Cell;
 use crate::row::{BlockKind, Full, Row};
-use crate::writes::{cell_of, extra_in, extra_place, extra_place_of, write_cell, write_row};
+use crate::writes::{cell_of, extra_in, extra_index, extra_index_of, write_cell, write_row};
 use hd_commands::Extra;
 use hd_mask::bit;
 use hd_model::limits::{BLOCKS, CLUMP, CLUMPS, ROWS};
@@ -38,7 +38,7 @@ pub struct Seg {
 impl Model for Seg {
     ghost use Rattle.hd_model.specs.Table.{Table};
     ghost use Rattle.hd_model.specs.Code.{table_code};
-    ghost use Rattle.hd_seg.specs.Cells.{table_in, IsSeg};
+    ghost use Rattle.hd_seg.specs.{Cells.table_in, Inside.IsSeg};
 
     ghost Value = { Table };
 
@@ -134,14 +134,14 @@ impl Seg {
         match cell_of(&self.cells, slot) {
             Cell::Empty | Cell::Extra(_) => None,
             Cell::Target(target) => {
-                let extra = extra_in(&self.cells, extra_place(&self.blocks, slot));
+                let extra = extra_in(&self.cells, extra_index(&self.blocks, slot));
                 Some(Row { target, extra })
             }
         }
     }
 
-    /// The row of a live slot, where it is known whether its kind has extra data: where it has none,
-    /// one cell is read.
+    /// The row of a live slot, where it is known whether its kind has extra data: where it has
+    /// none, one cell is read.
     #[inline(always)]
     pub fn row_by(&self, slot: Slot, paired: bool) -> Row
         requires live { IsSome (get self.now.rows slot.0) }
@@ -154,8 +154,8 @@ impl Seg {
             let extra = Extra::Nothing;
             return Row { target, extra };
         }
-        let place = extra_place_of(&self.blocks, slot);
-        let extra = extra_in(&self.cells, place);
+        let index = extra_index_of(&self.blocks, slot);
+        let extra = extra_in(&self.cells, index);
         Row { target, extra }
     }
 
@@ -178,11 +178,11 @@ impl Seg {
         ensures { let kind = kind_at self.old (block_of slot) in
             self.new ≡ with_row self.old slot.0 (handle_of kind row) }
     {
-        let place = extra_place(&self.blocks, slot);
+        let index = extra_index(&self.blocks, slot);
         let block = (slot.0 / ROWS) as usize;
         let target = Cell::Target(row.target);
         let extra = Cell::Extra(row.extra);
-        write_row(&mut self.cells, slot, place, target, extra);
+        write_row(&mut self.cells, slot, index, target, extra);
         self.masks[block] |= bit(slot.0 % ROWS);
         self.live += 1;
     }
@@ -192,9 +192,9 @@ impl Seg {
         requires { IsSome (get self.old.rows slot.0) }
         ensures { self.new ≡ without_row self.old slot.0 }
     {
-        let place = extra_place(&self.blocks, slot);
+        let index = extra_index(&self.blocks, slot);
         let block = (slot.0 / ROWS) as usize;
-        write_row(&mut self.cells, slot, place, Cell::Empty, Cell::Empty);
+        write_row(&mut self.cells, slot, index, Cell::Empty, Cell::Empty);
         self.masks[block] ^= bit(slot.0 % ROWS);
         self.live -= 1;
     }
@@ -227,19 +227,19 @@ impl Seg {
         ensures { let handle = live_at self.old slot.0 in
             self.new ≡ with_row self.old slot.0 (record handle { extra = extra_of extra }) }
     {
-        let place = extra_place_of(&self.blocks, slot);
-        write_cell(&mut self.cells, place, Cell::Extra(extra));
+        let index = extra_index_of(&self.blocks, slot);
+        write_cell(&mut self.cells, index, Cell::Extra(extra));
     }
 
     /// The block at an index of the chain of a kind, if the chain has so many.
-    pub fn block_at(&self, kind: Kind, place: u32) -> Option<u32>
-        ensures value { result ≡ slice_get (chain_of self.now kind) place }
+    pub fn block_at(&self, kind: Kind, index: u32) -> Option<u32>
+        ensures value { result ≡ slice_get (chain_of self.now kind) index }
         ensures within { IfSome result (λ block. (1 ≤ block) × (block ≤ self.now.blocks)) }
         ensures of_kind { IfSome result (λ block.
             get self.now.uses block ≡ Some (handles_of kind)) }
         ensures table { IsTable self.now }
     {
-        self.blocks.at(kind, place)
+        self.blocks.at(kind, index)
     }
 
     /// The first block of the chain of a kind, if it has one.

@@ -1,7 +1,7 @@
 ghost use Rattle.std.specs.Prelude.{◌≡◌, ℕ, ◌+◌, ◌*◌, ◌%◌, ◌<◌, ◌≤◌, Some, length, slice_set};
 ghost use Rattle.std.specs.FinMap.{get};
 ghost use Rattle.std.specs.Option.{ForSome};
-ghost use Rattle.hd_seg.specs.Cells.{cell_at, cell_in, extra_held, extra_place, with_cell};
+ghost use Rattle.hd_seg.specs.{Cells.cell_at, Cells.cell_in, Cells.extra_held, Cells.extra_index, Inside.with_cell};
 
 use crate::blocks::Blocks;
 use crate::cells::Cell;
@@ -10,16 +10,16 @@ use hd_model::limits::{BLOCKS, ROWS};
 use hd_model::{Addr, Slot};
 
 /// The cell index of the extra of a slot's row, if its block has a data block.
-pub(crate) fn extra_place(blocks: &Blocks, slot: Slot) -> Option<usize>
+pub(crate) fn extra_index(blocks: &Blocks, slot: Slot) -> Option<usize>
     requires { (b d : ℕ) → get blocks.now.extras b ≡ Some d → d ≤ BLOCKS }
-    ensures { result ≡ extra_place blocks.now slot.0 }
+    ensures { result ≡ extra_index blocks.now slot.0 }
 {
     let data = blocks.extras(slot.0 / ROWS)?;
-    Some(place_in(data, slot))
+    Some(extra_index_in(data, slot))
 }
 
 // The cell index of the extra of a slot's row, in a data block.
-fn place_in(block: u32, slot: Slot) -> usize
+fn extra_index_in(block: u32, slot: Slot) -> usize
     requires { block ≤ BLOCKS }
     ensures { result ≡ block * ROWS + slot.0 % ROWS }
 {
@@ -27,14 +27,14 @@ fn place_in(block: u32, slot: Slot) -> usize
 }
 
 /// The same of a slot of the table.
-pub(crate) fn extra_place_of(blocks: &Blocks, slot: Slot) -> Option<usize>
+pub(crate) fn extra_index_of(blocks: &Blocks, slot: Slot) -> Option<usize>
     requires low { ROWS ≤ slot.0 }
     requires high { slot.0 < ROWS * (blocks.now.table.blocks + 1) }
     requires small { (b d : ℕ) → get blocks.now.extras b ≡ Some d → d ≤ BLOCKS }
-    ensures { result ≡ extra_place blocks.now slot.0 }
+    ensures { result ≡ extra_index blocks.now slot.0 }
 {
     let data = blocks.extras_of(slot.0 / ROWS)?;
-    Some(place_in(data, slot))
+    Some(extra_index_in(data, slot))
 }
 
 /// The cell of a slot, which may be any number.
@@ -45,26 +45,26 @@ pub(crate) fn cell_of(cells: &[Cell], slot: Slot) -> Cell
 }
 
 /// The extra in a cell, where there is one.
-pub(crate) fn extra_in(cells: &[Cell], place: Option<usize>) -> Extra<Addr>
-    requires { ForSome place (λ q. q < length cells.now) }
-    ensures { result ≡ extra_held (cell_in cells.now place) }
+pub(crate) fn extra_in(cells: &[Cell], index: Option<usize>) -> Extra<Addr>
+    requires { ForSome index (λ q. q < length cells.now) }
+    ensures { result ≡ extra_held (cell_in cells.now index) }
 {
-    let Some(place) = place else {
+    let Some(index) = index else {
         return Extra::Nothing;
     };
-    match cells[place] {
+    match cells[index] {
         Cell::Extra(extra) => extra,
         Cell::Empty | Cell::Target(_) => Extra::Nothing,
     }
 }
 
 /// Writes a cell, where there is one.
-pub(crate) fn write_cell(cells: &mut [Cell], place: Option<usize>, cell: Cell)
-    requires { ForSome place (λ q. q < length cells.old) }
-    ensures { cells.new ≡ with_cell cells.old place cell }
+pub(crate) fn write_cell(cells: &mut [Cell], index: Option<usize>, cell: Cell)
+    requires { ForSome index (λ q. q < length cells.old) }
+    ensures { cells.new ≡ with_cell cells.old index cell }
 {
-    if let Some(place) = place {
-        cells[place] = cell;
+    if let Some(index) = index {
+        cells[index] = cell;
     }
 }
 
@@ -72,14 +72,14 @@ pub(crate) fn write_cell(cells: &mut [Cell], place: Option<usize>, cell: Cell)
 pub(crate) fn write_row(
     cells: &mut [Cell],
     slot: Slot,
-    place: Option<usize>,
+    index: Option<usize>,
     target: Cell,
     extra: Cell,
 )
     requires slot { slot.0 < length cells.old }
-    requires place { ForSome place (λ q. q < length cells.old) }
-    ensures { cells.new ≡ with_cell (slice_set cells.old slot.0 target) place extra }
+    requires index { ForSome index (λ q. q < length cells.old) }
+    ensures { cells.new ≡ with_cell (slice_set cells.old slot.0 target) index extra }
 {
     cells[slot.0 as usize] = target;
-    write_cell(cells, place, extra);
+    write_cell(cells, index, extra);
 }

@@ -2,7 +2,7 @@
 use Rattle.std.proofs.Common.{Bool, List, Option, Some, [], ap, append_assoc, arith, cond, false, filter, refl, suc, sym, true, ℕ, ◌++◌, ◌+◌, ◌-◌, ◌<◌, ◌==◌, ◌∙◌, ◌∷◌, ◌≡◌, ◌≤◌}
 use Rattle.std.proofs.lemmas.Bool.{cond-false}
 use Rattle.std.specs.List.{range_with_len}
-use Rattle.hd_show.specs.Ranges.{from, left_word, range_word, ranges_from, ranges_word, up_to}
+use Rattle.hd_show.specs.{Ranges.from, Ranges.range_word, Ranges.ranges_from, Ranges.ranges_word, Ranges.up_to, Inside.left_word}
 use Rattle.hd_show.specs.declared.ranges.Range.{Range}
 
 -- a range with a comma stands before those of further numbers

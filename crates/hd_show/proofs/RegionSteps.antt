@@ -2,9 +2,9 @@
 use Rattle.std.proofs.Common.{Bool, List, ap, cond, count_by, filter, sum_by, sym, ℕ, ◌∙◌, ◌≡◌}
 use Rattle.hd_seen.specs.Seen.{ObjectSeen, object_shown, view_seen}
 use Rattle.hd_seen.specs.declared.Snapshot.{Snapshot}
-use Rattle.hd_show.specs.Heaps.{RegionCounts, cells_of, cells_seen_in, in_region, is_marked, is_pinned_in, regions_of, seen_in}
+use Rattle.hd_show.specs.{Heaps.RegionCounts, Heaps.cells_of, Heaps.in_region, Heaps.is_pinned_in, Heaps.regions_of, Inside.cells_seen_in, Inside.is_marked, Inside.seen_in}
 use Rattle.hd_show.specs.Pins.{is_pinned_by}
-use Rattle.hd_show.specs.Tally.{tally_at}
+use Rattle.hd_show.specs.Inside.{tally_at}
 use Rattle.hd_show.proofs.FilteredSums.{sum_filtered, sum_mapped}
 
 abbrev counts : List ℕ → List ℕ → List ℕ → RegionCounts

@@ -25,8 +25,8 @@ pub row_next : {A : Type 0} (make : ℕ × A → List ℕ) (n : ℕ) (xs : List 
     → (start text now : List ℕ) (k : ℕ) (x : A) → k ≡ n + i → x ≡ get_or xs i d
     → text ≡ start ++ flat_map make (enumerate_from n (take i xs)) → now ≡ text ++ make (k, x)
     → now ≡ start ++ flat_map make (enumerate_from n (take (i + 1) xs))
-row_next make n xs i d low start text now k x place item before after =
-    after ∙ (λ j. before j ++ make (place j, item j))
+row_next make n xs i d low start text now k x index item before after =
+    after ∙ (λ j. before j ++ make (index j, item j))
     ∙ append_assoc start (flat_map make (enumerate_from n (take i xs))) (make (n + i, get_or xs i d))
     ∙ ap (λ ys. start ++ ys) (sym (rows_suc make n xs i d low))
     ∙ ap (λ m. start ++ flat_map make (enumerate_from n (take m xs))) (sym (add-one i))

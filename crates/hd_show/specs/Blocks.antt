@@ -9,10 +9,8 @@ use Rattle.hd_seen.specs.Seen.{Picture}
 use Rattle.hd_seen.specs.declared.SeenBlock.{SeenBlock}
 use Rattle.hd_seen.specs.declared.SeenEntry.{SeenEntry}
 use Rattle.hd_seen.specs.declared.SeenHandle.{SeenHandle}
-use Rattle.hd_show.specs.declared.rows.Rows.{Rows}
 use Rattle.hd_show.specs.Columns.{cells_after, padded, row, table}
 use Rattle.hd_show.specs.Ranges.{ranges_of, ranges_word}
-use Rattle.hd_show.specs.Tally.{tally_at}
 
 -- how many handles, and how many entries of the weak table, each block has; and how many of both have a slot
 pub record RowCounts : Type 0 where
@@ -39,14 +37,6 @@ rows_of p = record {
   handles = λ block. count_by (handle_within block) p.handles;
   entries = λ block. count_by (entry_within block) p.entries;
   taken = λ slot. count_by (handle_at slot) p.handles + count_by (entry_at slot) p.entries;
-}
-
--- the counts that the program keeps
-abbrev pub rows_by : Rows → RowCounts
-rows_by rows = record {
-  handles = tally_at rows.handles;
-  entries = tally_at rows.entries;
-  taken = tally_at rows.taken;
 }
 
 -- the slots of a block that have neither a handle nor an entry: how many they are, and their rows

@@ -1,7 +1,6 @@
 -- Words of tables: each begins at its column, and what is not there is a hyphen.
-use Rattle.std.specs.Prelude.{ℕ, ◌-◌, List, [], ◌∷◌, ◌++◌, codes, decimal, length, replicate, flat_map, Option, Some, None}
+use Rattle.std.specs.Prelude.{ℕ, ◌-◌, List, [], ◌∷◌, ◌++◌, codes, length, replicate, flat_map, Option, Some, None}
 use Rattle.hd_model.specs.declared.data.Id.{Id}
-use Rattle.hd_model.specs.declared.data.Slot.{Slot}
 use Rattle.hd_model.specs.Text.{identity_text, newline}
 
 -- a line with blanks up to a column
@@ -25,7 +24,3 @@ table header make things = header ++ newline ++ flat_map make things ++ newline
 abbrev pub object_word : Option Id → List ℕ
 object_word None = codes "-"
 object_word (Some id) = identity_text id
-
-abbrev pub slot_word : Option Slot → List ℕ
-slot_word None = codes "-"
-slot_word (Some slot) = decimal slot.0

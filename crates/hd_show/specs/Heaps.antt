@@ -1,16 +1,13 @@
 -- What `show` writes of generations and regions, and what is counted by region.
-use Rattle.std.specs.Prelude.{ℕ, ◌+◌, ◌/◌, ◌==◌, ◌&&◌, Bool, true, if◌then◌else◌, List, [], ◌∷◌, ◌++◌, filter, flat_map, length, codes, decimal, count_by, sum_by, Option, Some, None}
+use Rattle.std.specs.Prelude.{ℕ, ◌+◌, ◌/◌, ◌==◌, ◌&&◌, Bool, true, List, [], ◌∷◌, ◌++◌, filter, flat_map, length, codes, decimal, count_by, sum_by, Option, Some, None}
 use Rattle.std.specs.List.{range_with_len}
 use Rattle.hd_model.specs.declared.limits.TheConstants.{HEADER, OLDEST, REGION}
 use Rattle.hd_model.specs.Text.{newline}
 use Rattle.hd_seen.specs.Seen.{ObjectSeen, Picture}
-use Rattle.hd_seen.specs.declared.SeenObject.{SeenObject}
 use Rattle.hd_seen.specs.declared.SeenRegion.{SeenRegion}
 use Rattle.hd_show.specs.declared.heaps.Sums.{Sums}
-use Rattle.hd_show.specs.declared.sums.RegionSums.{RegionSums}
 use Rattle.hd_show.specs.Columns.{row, table}
 use Rattle.hd_show.specs.Pins.{is_pinned_by}
-use Rattle.hd_show.specs.Tally.{tally_at}
 
 -- how many objects, cells and pinned objects each region has
 pub record RegionCounts : Type 0 where
@@ -36,24 +33,6 @@ regions_of p = record {
   pinned = λ r. count_by (is_pinned_in p r) p.objects;
 }
 
--- the counts that the program keeps
-abbrev pub regions_by : RegionSums → RegionCounts
-regions_by sums = record {
-  objects = tally_at sums.objects;
-  cells = tally_at sums.cells;
-  pinned = tally_at sums.pinned;
-}
-
--- the same tests of an object of the snapshot
-abbrev pub seen_in : ℕ → SeenObject → Bool
-seen_in r o = o.at.0 / REGION == r
-
-abbrev pub cells_seen_in : ℕ → SeenObject → ℕ
-cells_seen_in r o = if seen_in r o then length o.fields.items + HEADER else 0
-
-abbrev pub is_marked : (ℕ → Bool) → ℕ → SeenObject → Bool
-is_marked marked r o = seen_in r o && marked o.id.0
-
 -- what there is in some regions
 abbrev pub sums_of : RegionCounts → List SeenRegion → Sums
 sums_of c regions = record {
@@ -62,16 +41,6 @@ sums_of c regions = record {
   regions = length regions;
   pinned = sum_by (λ (r : SeenRegion). c.pinned r.number) regions;
   cards = sum_by (λ (r : SeenRegion). r.cards) regions;
-}
-
--- and in one region more
-abbrev pub with_region : RegionCounts → Sums → SeenRegion → Sums
-with_region c all r = record {
-  objects = all.objects + c.objects r.number;
-  cells = all.cells + c.cells r.number;
-  regions = all.regions + 1;
-  pinned = all.pinned + c.pinned r.number;
-  cards = all.cards + r.cards;
 }
 
 -- whether a region is of a generation; where none is asked for, each is

@@ -1,7 +1,6 @@
 pub mod Columns
 pub mod Lists
 pub mod Handles
-pub mod Tally
 pub mod Ranges
 pub mod Blocks
 pub mod Kinds
@@ -10,3 +9,4 @@ pub mod Heaps
 pub mod Registers
 pub mod Show
 pub mod Laws
+pub mod Inside

@@ -13,7 +13,7 @@ queue_row e = row (decimal e.0) ((8, identity_text e.1) ∷ [])
 abbrev pub queue_text : List Id → List ℕ
 queue_text queue = table (codes "QUEUED  OBJECT") queue_row (enumerate_from 1 queue)
 
--- the statics that have an object, and the places of the board that have a slot, by their number
+-- the statics that have an object, and the board indexes that have a slot, by their number
 abbrev pub static_rows : ℕ × Option Id → List ℕ
 static_rows (k, None) = []
 static_rows (k, Some id) = row (decimal k) ((8, identity_text id) ∷ [])

@@ -1,5 +1,5 @@
 -- Rising numbers as ranges.
-use Rattle.std.specs.Prelude.{ℕ, ◌+◌, ◌==◌, if◌then◌else◌, List, [], ◌∷◌, ◌++◌, map, codes, decimal, Option, Some, None}
+use Rattle.std.specs.Prelude.{ℕ, ◌+◌, ◌==◌, if◌then◌else◌, List, [], ◌∷◌, ◌++◌, map, codes, decimal}
 use Rattle.std.specs.List.{join_with_byte}
 use Rattle.hd_show.specs.declared.ranges.Range.{Range}
 
@@ -29,8 +29,3 @@ range_word r = if r.first == r.last then decimal r.first else decimal r.first ++
 abbrev pub ranges_word : List Range → List ℕ
 ranges_word [] = codes "-"
 ranges_word (r ∷ rs) = join_with_byte 44 (map range_word (r ∷ rs))
-
--- what is to be appended for the range before some numbers, if there is one, and for these
-abbrev pub left_word : Option Range → List ℕ → List ℕ
-left_word None ns = ranges_word (ranges_of ns)
-left_word (Some r) ns = ranges_word (ranges_from r ns)

@@ -1,6 +1,6 @@
 // The table of blocks.
 ghost use Rattle.std.specs.Prelude.{◌≡◌, ◌++◌, IfOk};
-ghost use Rattle.hd_show.specs.Blocks.{block_row, blocks_text, counts_line, data_row, kind_block_row, rows_by};
+ghost use Rattle.hd_show.specs.{Blocks.block_row, Blocks.blocks_text, Blocks.counts_line, Blocks.data_row, Blocks.kind_block_row, Inside.rows_by};
 
 use crate::columns::{pad, push_cell, push_end, push_hyphen};
 use crate::ranges::push_free;

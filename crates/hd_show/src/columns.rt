@@ -1,7 +1,7 @@
 // Words of tables: each begins at its column, and what is not there is a hyphen.
 ghost use Rattle.std.specs.Prelude.{◌≡◌, ◌++◌, ◌+◌, ◌≤◌, codes, decimal, length, max, IfOk};
 ghost use Rattle.hd_model.specs.Text.{identity_text, newline};
-ghost use Rattle.hd_show.specs.Columns.{padded, object_word, slot_word};
+ghost use Rattle.hd_show.specs.{Columns.padded, Columns.object_word, Inside.slot_word};
 
 use hd_model::{Id, Memory, Slot};
 use hd_print::{Line, Text};

@@ -1,6 +1,6 @@
 // The tables of generations and of regions.
 ghost use Rattle.std.specs.Prelude.{◌≡◌, ◌+◌, ◌++◌, ◌≤◌, filter, length, IfOk};
-ghost use Rattle.hd_show.specs.Heaps.{generation_row, generations_text, is_in, name_of, region_row, regions_by, regions_text, sums_of, with_region};
+ghost use Rattle.hd_show.specs.{Heaps.generation_row, Heaps.generations_text, Heaps.is_in, Heaps.name_of, Heaps.region_row, Heaps.regions_text, Heaps.sums_of, Inside.regions_by, Inside.with_region};
 
 use crate::columns::{push_cell, push_end};
 use crate::sums::RegionSums;

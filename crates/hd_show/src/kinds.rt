@@ -3,7 +3,7 @@ ghost use Rattle.std.specs.Prelude.{◌≡◌, ◌+◌, ◌++◌, ◌≤◌, cod
 ghost use Rattle.hd_seen.specs.Seen.{view_seen};
 ghost use Rattle.hd_seen.specs.declared.SeenBlock.{SeenBlock as Block};
 ghost use Rattle.hd_seen.specs.declared.SeenHandle.{SeenHandle as Handle};
-ghost use Rattle.hd_show.specs.Blocks.{free_in, rows_by};
+ghost use Rattle.hd_show.specs.{Blocks.free_in, Inside.rows_by};
 ghost use Rattle.hd_show.specs.Kinds.{block_is, handle_is, is_of, kind_row, kinds_text, name_of};
 
 use crate::columns::{push_cell, push_end};

@@ -18,12 +18,12 @@ pub(crate) fn push_queue(text: &mut Text, queue: &[Id]) -> Result<(), Memory>
     Ok(())
 }
 
-// Appends the line of a queued object and its place, from 1 on.
-fn push_queued(text: &mut Text, place: usize, id: Id) -> Result<(), Memory>
-    ensures { IfOk result (λ _. text.new ≡ text.old ++ queue_row (place, id)) }
+// Appends the line of a queued object and its position, from 1 on.
+fn push_queued(text: &mut Text, index: usize, id: Id) -> Result<(), Memory>
+    ensures { IfOk result (λ _. text.new ≡ text.old ++ queue_row (index, id)) }
 {
     let mut line = Line::new();
-    line.push_number(place);
+    line.push_number(index);
     pad(&mut line, 8);
     push_object(&mut line, Some(id));
     push_end(text, line)
@@ -55,7 +55,7 @@ fn push_static(text: &mut Text, k: usize, id: Option<Id>) -> Result<(), Memory>
     push_end(text, line)
 }
 
-/// Appends the places of the board that have a slot.
+/// Appends the board indexes that have a slot.
 pub(crate) fn push_board(text: &mut Text, board: &[Option<Slot>]) -> Result<(), Memory>
     ensures { IfOk result (λ _. text.new ≡ text.old ++ board_text board.now) }
 {
@@ -66,7 +66,7 @@ pub(crate) fn push_board(text: &mut Text, board: &[Option<Slot>]) -> Result<(), 
     Ok(())
 }
 
-// Appends the line of a place of the board, if it has a slot.
+// Appends the line of a board index, if it has a slot.
 fn push_posted(text: &mut Text, k: usize, slot: Option<Slot>) -> Result<(), Memory>
     ensures { IfOk result (λ _. text.new ≡ text.old ++ board_rows (k, slot)) }
 {

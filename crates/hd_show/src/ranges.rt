@@ -1,7 +1,7 @@
 // The free rows of a block, as ranges.
 ghost use Rattle.std.specs.Prelude.{◌≡◌, ℕ, ◌+◌, ◌==◌, false, List, [], ◌∷◌, ◌++◌, if◌then◌else◌, Some, IfOk};
-ghost use Rattle.hd_show.specs.Blocks.{free_rows, is_free_row, rows_by};
-ghost use Rattle.hd_show.specs.Ranges.{left_word, range_word, ranges_of, ranges_word};
+ghost use Rattle.hd_show.specs.{Blocks.free_rows, Blocks.is_free_row, Inside.rows_by};
+ghost use Rattle.hd_show.specs.{Inside.left_word, Ranges.range_word, Ranges.ranges_of, Ranges.ranges_word};
 
 use crate::rows::Rows;
 use hd_model::Memory;

@@ -7,13 +7,13 @@ ghost use Rattle.hd_show.specs.Registers.{caller_objects, caller_slots, handle_r
 use crate::columns::{pad, push_end, push_object, push_slot};
 use hd_model::{Id, Memory, Slot};
 use hd_print::{Line, Text};
-use hd_seen::PLACES;
+use hd_seen::INDEXES;
 
 /// Appends the registers of all callers.
 pub(crate) fn push_registers(
     text: &mut Text,
-    objects: &[[Option<Id>; PLACES]],
-    slots: &[[Option<Slot>; PLACES]],
+    objects: &[[Option<Id>; INDEXES]],
+    slots: &[[Option<Slot>; INDEXES]],
 ) -> Result<(), Memory>
     ensures { IfOk result (λ _. text.new ≡ text.old ++ registers_text objects.now slots.now) }
 {
@@ -24,7 +24,7 @@ pub(crate) fn push_registers(
 }
 
 // Appends the object registers of all callers.
-fn push_objects(text: &mut Text, objects: &[[Option<Id>; PLACES]]) -> Result<(), Memory>
+fn push_objects(text: &mut Text, objects: &[[Option<Id>; INDEXES]]) -> Result<(), Memory>
     ensures { IfOk result (λ _. text.new
         ≡ text.old ++ flat_map caller_objects (enumerate_from 0 objects.now)) }
 {
@@ -67,7 +67,7 @@ fn push_object_register(
 }
 
 // Appends the handle registers of all callers.
-fn push_slots(text: &mut Text, slots: &[[Option<Slot>; PLACES]]) -> Result<(), Memory>
+fn push_slots(text: &mut Text, slots: &[[Option<Slot>; INDEXES]]) -> Result<(), Memory>
     ensures { IfOk result (λ _. text.new
         ≡ text.old ++ flat_map caller_slots (enumerate_from 0 slots.now)) }
 {

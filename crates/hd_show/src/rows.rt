@@ -1,8 +1,8 @@
 // The handles and the weak table's entries, counted by block and by slot.
 ghost use Rattle.std.specs.Prelude.{◌≡◌, ℕ, ◌+◌, count_by, IfOk};
 ghost use Rattle.hd_seen.specs.Seen.{view_seen};
-ghost use Rattle.hd_show.specs.Tally.{tally_at};
-ghost use Rattle.hd_show.specs.Blocks.{entry_at, entry_within, free_in, handle_at, handle_within, is_free_row, rows_by, rows_of};
+ghost use Rattle.hd_show.specs.Inside.{tally_at};
+ghost use Rattle.hd_show.specs.{Blocks.entry_at, Blocks.entry_within, Blocks.free_in, Blocks.handle_at, Blocks.handle_within, Blocks.is_free_row, Blocks.rows_of, Inside.rows_by};
 
 use crate::tally::Tally;
 use hd_model::Memory;

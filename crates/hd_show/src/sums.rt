@@ -2,8 +2,8 @@
 ghost use Rattle.std.specs.Prelude.{◌≡◌, ℕ, nat_eq, count_by, if◌then◌else◌, sum_by, IfOk};
 ghost use Rattle.std.specs.HashSet.{contains};
 ghost use Rattle.hd_seen.specs.Seen.{view_seen};
-ghost use Rattle.hd_show.specs.Tally.{tally_at};
-ghost use Rattle.hd_show.specs.Heaps.{cells_seen_in, is_marked, regions_by, regions_of, seen_in};
+ghost use Rattle.hd_show.specs.Inside.{tally_at};
+ghost use Rattle.hd_show.specs.{Inside.cells_seen_in, Inside.is_marked, Inside.regions_by, Inside.seen_in, Heaps.regions_of};
 
 use crate::pins::pinned_objects;
 use crate::tally::{Tally, plus};

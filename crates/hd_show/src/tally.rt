@@ -1,6 +1,6 @@
 // Sums by number, each 0 until something is added.
 ghost use Rattle.std.specs.Prelude.{◌≡◌, ℕ, ◌+◌, ◌<◌, ◌==◌, [], if◌then◌else◌, length, IfOk};
-ghost use Rattle.hd_show.specs.Tally.{tally_at};
+ghost use Rattle.hd_show.specs.Inside.{tally_at};
 
 use hd_model::Memory;
 use std::alloc::Global;

@@ -33,7 +33,7 @@ pub fn change_of(cmd: Cmd) -> Change
         | Class::StoresTarget { .. }
         | Class::StoresSecondary { .. }
         | Class::Collects(_)
-        | Class::RepliesPlace { .. }
+        | Class::RepliesAddress { .. }
         | Class::LooksUp { .. }
         | Class::Searches { .. }
         | Class::Plain => Change::Keeps,

@@ -8,10 +8,10 @@ use Rattle.hd_model.specs.Heap.{HasIdentities, Heap, has_object, id_at, id_in, o
 use Rattle.hd_model.specs.Scene.{fields_at, fields_in, generation_at, generation_in}
 use Rattle.hd_store.proofs.IdentityReadings.{is_some-map}
 use Rattle.hd_store.specs.Reading.{objects_by_id}
-use Rattle.hd_store.specs.Store.{without_spare}
+use Rattle.hd_store.specs.Store.{without_free}
 
-pub same_place : (a b : Addr) → a.0 ≡ b.0 → a ≡ b
-same_place a b e = λ i. record { 0 = e i }
+pub same_index : (a b : Addr) → a.0 ≡ b.0 → a ≡ b
+same_index a b e = λ i. record { 0 = e i }
 
 module _ (h : Heap) (a : Addr) where
   pub has-there : has_object h a ≡ is_some (get h.objects a.0)
@@ -42,10 +42,10 @@ pub one_identity : (h : Heap) → HasIdentities h → (a b : Addr) → has_objec
     → (id_at h a).0 ≡ (id_at h b).0 → a ≡ b
 one_identity h identities a b is_a is_b same =
     let ids : id_at h a ≡ id_at h b = λ i. record { 0 = same i } in
-    same_place a b (identities a.0 b.0 (placed_at h a) (placed_at h b) (placed-there h a is_a)
+    same_index a b (identities a.0 b.0 (placed_at h a) (placed_at h b) (placed-there h a is_a)
     (placed-there h b is_b) (sym (id-there h a is_a) ∙ ids ∙ id-there h b is_b))
 
 -- the objects by identity do not depend on the free regions
-pub without-spare : (h : Heap) → objects_by_id (without_spare h) ≡ objects_by_id h
+pub without-free : (h : Heap) → objects_by_id (without_free h) ≡ objects_by_id h
 unfolding objects_by_id
-without-spare h = refl
+without-free h = refl

@@ -43,10 +43,10 @@ module _ (h : Heap) (sound : IsSound h) where
 
   module _ (identities : HasIdentities h) where
     -- an object is found at its address, and its region is in use
-    place_used : (x : ℕ) (b : Object Id) → get (objects_by_id h) x ≡ Some b
+    used_at : (x : ℕ) (b : Object Id) → get (objects_by_id h) x ≡ Some b
         → is_in_use h (address_of h x / REGION) ≡ true
     unfolding region_of
-    place_used x b there =
+    used_at x b there =
         let u = objects-under h x b there in
         let a : Addr = record { 0 = u.at } in
         let is : has_object h a ≡ true = has-there h a ∙ ap is_some u.is_stored in
@@ -60,7 +60,7 @@ module _ (h : Heap) (sound : IsSound h) where
     in_one objects same o has =
         let (e, rest) = mapped_from (object_seen h) (entries objects) o has in
         let there = get_entry objects e.0 e.1 rest.0 in
-        let used = place_used e.0 e.1 (ap (λ (m : FinMap nat_cmp (Object Id)). get m e.0) (sym same)
+        let used = used_at e.0 e.1 (ap (λ (m : FinMap nat_cmp (Object Id)). get m e.0) (sym same)
         ∙ there) in
         seen_once (o.address / REGION)
         (subst (λ (q : ObjectSeen). is_in_use h (q.address / REGION) ≡ true) rest.1 used)

@@ -1,6 +1,6 @@
 mod Ranges
 mod StoreSlots
-mod PlaceRows
+mod FilledRows
 mod Chains
 mod HeapObjects
 mod Walks

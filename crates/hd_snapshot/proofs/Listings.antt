@@ -20,7 +20,7 @@ use Rattle.hd_store.specs.Reading.{objects_by_id, read_object}
 use Rattle.hd_snapshot.proofs.FoundAddresses.{address-is}
 use Rattle.hd_snapshot.proofs.HeapObjects.{has-there, id-there, placed-there}
 use Rattle.hd_snapshot.specs.declared.objects.Located.{Located}
-use Rattle.hd_snapshot.specs.Located.{AreLocated, IsListing, number_of, shown_at}
+use Rattle.hd_snapshot.specs.Inside.{AreLocated, IsListing, number_of, shown_at}
 
 -- numbers that differ still differ in another order
 pub either_way : (a b : ℕ) → (a == b) ≡ (b == a)

@@ -8,9 +8,9 @@ use Rattle.hd_model.proofs.Members.{mapped_from, member_cases, not_in_none, pair
 use Rattle.hd_model.specs.declared.data.Addr.{Addr}
 use Rattle.hd_model.specs.declared.data.Id.{Id}
 use Rattle.hd_model.specs.Heap.{HasIdentities, Heap, has_object, id_at}
-use Rattle.hd_snapshot.proofs.HeapObjects.{one_identity, same_place}
+use Rattle.hd_snapshot.proofs.HeapObjects.{one_identity, same_index}
 use Rattle.hd_snapshot.specs.declared.objects.Located.{Located}
-use Rattle.hd_snapshot.specs.Located.{AreLocated, number_of}
+use Rattle.hd_snapshot.specs.Inside.{AreLocated, number_of}
 
 -- how far a walk has come
 abbrev pub past : Option Addr → ℕ
@@ -76,8 +76,8 @@ module _ {h : Heap} {after : Option Addr} {listed : List Located} (walking : IsW
         let one : o.at ≡ at = one_identity h identities o.at at it.0 next.member
         (ap (λ (i : Id). i.0) (sym it.1) ∙ rest.1 ∙ same ∙ sym y_is) in
         let low = walking.before o rest.0 in
-        let place : o.at.0 ≡ at.0 = ap (λ (a : Addr). a.0) one in
-        omega (arith, low, place, beyond)
+        let index : o.at.0 ≡ at.0 = ap (λ (a : Addr). a.0) one in
+        omega (arith, low, index, beyond)
 
     -- the next object is listed
     pub walk-step : IsWalking h (Some at) (listed ++ found ∷ [])
@@ -88,7 +88,7 @@ module _ {h : Heap} {after : Option Addr} {listed : List Located} (walking : IsW
           (Contains-push_cases listed found o among);
       before = λ o among. ⊎_elim
           (λ old. let low = walking.before o old in omega (arith, low, beyond))
-          (λ new. let place : at.0 ≡ o.at.0 = ap (λ (p : Located). p.at.0) new in omega (arith, place))
+          (λ new. let index : at.0 ≡ o.at.0 = ap (λ (p : Located). p.at.0) new in omega (arith, index))
           (Contains-push_cases listed found o among);
       all = λ a is low. by a is low (cases_lt a.0 (past after));
       once = subst (AllPairs (λ x y. x ≢ y)) (sym (map-append number_of listed (found ∷ [])))
@@ -104,4 +104,4 @@ module _ {h : Heap} {after : Option Addr} {listed : List Located} (walking : IsW
             let least = next.least a is (past-after after a new) in
             let same : at.0 ≡ a.0 = omega (arith, least, low) in
             subst (λ (b : Addr). Contains (listed ++ found ∷ []) (record { id = id_at h b; at = b }))
-            (same_place at a same) (Contains-push listed found)
+            (same_index at a same) (Contains-push listed found)

@@ -1,3 +1,3 @@
 pub mod Taken
-pub mod Located
 pub mod Laws
+pub mod Inside

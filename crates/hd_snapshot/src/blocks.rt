@@ -17,8 +17,9 @@ pub(crate) fn blocks(alloc: Global, store: &Store) -> Result<Vec<SeenBlock>, All
     ensures { IfOk result (λ seen. seen.items ≡ blocks_seen store.now.table) }
 {
     let mut seen = Vec::new(alloc);
-    add_chains(&mut seen, store.table(), store.blocks())?;
-    add_data(&mut seen, store.table(), store.blocks())?;
+    let contents = store.contents();
+    add_chains(&mut seen, contents.table(), contents.blocks())?;
+    add_data(&mut seen, contents.table(), contents.blocks())?;
     Ok(seen)
 }
 
@@ -46,8 +47,8 @@ fn add_chain(
 {
     // For the proof: a chain has no more blocks than the table.
     let _given = table.given();
-    for place in 0..blocks {
-        let Some(number) = table.block_at(kind, place) else {
+    for index in 0..blocks {
+        let Some(number) = table.block_at(kind, index) else {
             return Ok(());
         };
         seen.push(SeenBlock {

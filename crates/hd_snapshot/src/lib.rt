@@ -10,8 +10,8 @@ mod blocks;
 mod growing;
 mod laws;
 mod objects;
-mod places;
 mod regions;
+mod roots;
 mod rows;
 
 use hd_model::Memory;
@@ -43,11 +43,11 @@ fn take(alloc: Global, store: &Store) -> Result<Snapshot, AllocError>
         handles: rows::handles(alloc, store)?,
         entries: rows::entries(alloc, store)?,
         blocks: blocks::blocks(alloc, store)?,
-        queue: places::queue(alloc, store)?,
-        registers: places::registers(alloc, store)?,
-        handle_registers: places::handle_registers(alloc, store)?,
-        statics: places::statics(store),
-        board: places::board(store),
-        serials: places::serials(alloc, store)?,
+        queue: roots::queue(alloc, store)?,
+        registers: roots::registers(alloc, store)?,
+        handle_registers: roots::handle_registers(alloc, store)?,
+        statics: roots::statics(store),
+        board: roots::board(store),
+        serials: roots::serials(alloc, store)?,
     })
 }

@@ -7,7 +7,7 @@ ghost use Rattle.hd_model.specs.Heap.{HasIdentities, has_object, id_at, object_a
 ghost use Rattle.hd_model.specs.Scene.{fields_at};
 ghost use Rattle.hd_store.specs.Reading.{objects_by_id};
 ghost use Rattle.hd_seen.specs.Seen.{object_seen, object_shown};
-ghost use Rattle.hd_snapshot.specs.Located.{AreLocated, IsListing, IsWholeHeap, number_of, shown_at};
+ghost use Rattle.hd_snapshot.specs.Inside.{AreLocated, IsListing, IsWholeHeap, number_of, shown_at};
 ghost use Rattle.hd_snapshot.specs.declared.objects.Located.{Located as LocatedValue};
 
 use hd_heap::Heap;
@@ -28,9 +28,7 @@ pub(crate) fn objects(alloc: Global, store: &Store) -> Result<Vec<SeenObject>, A
     ensures { let h = store.now.heap in IfOk result (λ seen.
         map object_shown seen.items ≡ map (object_seen h) (entries store.now.state.objects)) }
 {
-    // For the proof: the store's state is one over its heap.
-    let _objects = store.objects();
-    objects_of(alloc, store.heap())
+    objects_of(alloc, store.contents().heap())
 }
 
 // Those of a heap.

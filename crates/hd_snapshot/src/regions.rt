@@ -18,7 +18,7 @@ use std::alloc::{AllocError, Global};
 pub(crate) fn regions(alloc: Global, store: &Store) -> Result<Vec<SeenRegion>, AllocError>
     ensures { IfOk result (λ seen. seen.items ≡ regions_seen store.now.heap) }
 {
-    regions_of(alloc, store.heap())
+    regions_of(alloc, store.contents().heap())
 }
 
 /// Each of them is of a generation up to the oldest, and each object is in exactly one.
@@ -26,8 +26,8 @@ pub(crate) fn part(store: &Store)
     ensures { IsParted (picture_of store.now) }
 {
     // For the proof: the store's state is one over its heap, which is sound.
-    let _objects = store.objects();
-    let _count = store.heap().count();
+    let contents = store.contents();
+    let _count = contents.heap().count();
 }
 
 // Those of a heap.

@@ -18,10 +18,10 @@ pub(crate) fn handles(alloc: Global, store: &Store) -> Result<Vec<SeenHandle>, A
     ensures { let ages = store.now.ages in let handles = store.now.state.handles in
         IfOk result (λ seen. seen.items ≡ map (handle_seen ages) (entries handles)) }
 {
-    // For the proof: the store is well formed.
-    let _objects = store.objects();
+    // It says for the proof too that the store is well formed.
+    let contents = store.contents();
     let mut seen = Vec::new(alloc);
-    for number in 0..ROWS * (store.blocks() + 1) {
+    for number in 0..ROWS * (contents.blocks() + 1) {
         let handle = handle_in(store, Slot(number));
         add(&mut seen, handle)?;
     }
@@ -33,10 +33,10 @@ pub(crate) fn entries(alloc: Global, store: &Store) -> Result<Vec<SeenEntry>, Al
     ensures { let ages = store.now.ages in let weak = store.now.state.weak in
         IfOk result (λ seen. seen.items ≡ map (entry_seen ages) (entries weak)) }
 {
-    // For the proof: the store is well formed.
-    let _objects = store.objects();
+    // It says for the proof too that the store is well formed.
+    let contents = store.contents();
     let mut seen = Vec::new(alloc);
-    for number in 0..ROWS * (store.blocks() + 1) {
+    for number in 0..ROWS * (contents.blocks() + 1) {
         let entry = entry_in(store, Slot(number));
         add(&mut seen, entry)?;
     }
@@ -49,7 +49,7 @@ fn handle_in(store: &Store, slot: Slot) -> Option<SeenHandle>
         result ≡ option_map (λ h. handle_seen ages (slot.0, h)) (get handles slot.0) }
 {
     // For the proof: a live handle is in a block of the table.
-    let _objects = store.objects();
+    let _contents = store.contents();
     let info = store.handle(slot)?;
     Some(seen_handle(slot, info, age(store, slot)))
 }
@@ -59,9 +59,9 @@ fn entry_in(store: &Store, slot: Slot) -> Option<SeenEntry>
     ensures { let ages = store.now.ages in let weak = store.now.state.weak in
         result ≡ option_map (λ e. entry_seen ages (slot.0, e)) (get weak slot.0) }
 {
-    // For the proof: a slot that is held is in a block of the table.
-    let _objects = store.objects();
-    let entry = store.entry(slot)?;
+    // It says for the proof too that a slot that is held is in a block of the table.
+    let contents = store.contents();
+    let entry = contents.entry(slot)?;
     Some(seen_entry(slot, entry, age(store, slot)))
 }
 
@@ -71,7 +71,10 @@ fn age(store: &Store, slot: Slot) -> u8
     requires high { slot.0 / ROWS ≤ store.now.numbers.blocks }
     ensures { result ≡ age_of store.now.ages slot.0 }
 {
-    store.ages().age(slot.0 / ROWS, slot.0 / CLUMP % CLUMPS)
+    store
+        .contents()
+        .ages()
+        .age(slot.0 / ROWS, slot.0 / CLUMP % CLUMPS)
 }
 
 // A handle, as it is seen.

@@ -7,7 +7,7 @@ use Rattle.std.specs.List.{position_or_len}
 use Rattle.hd_io.proofs.SourceBytes.{gave_more}
 use Rattle.hd_io.specs.Source.{SourceView, Gave, GaveCount, ReadFailed, ReadBrokeOff}
 use Rattle.hd_model.specs.Grammar.{is_line_end}
-use Rattle.hd_step.specs.Hand.{Hand, Filled, IsFirst}
+use Rattle.hd_step.specs.{Hand.Hand, Inside.Filled, Inside.IsFirst}
 
 -- the index of the first byte that ends a line, or the length
 abbrev pub end_or_len : List ℕ → ℕ

@@ -13,10 +13,19 @@ use Rattle.hd_model.specs.Run.{Run}
 use Rattle.hd_model.specs.Text.{lines_of, entry_text}
 use Rattle.hd_step.specs.declared.progress.Progress.{Progress}
 use Rattle.hd_step.specs.Dialogue.{Exchange, IsOfRun, Said, after_reading, after_words, has_own, is_own, lines_of_all, replies_of_all, reply_in, said_by, turn_of}
-use Rattle.hd_step.specs.Lines.{AfterReading, AfterWords, Answered, AreCounts, Called, IsReady, LeftOut, Noted}
+use Rattle.hd_step.specs.Inside.{AfterReading, AfterWords, Answered, AreCounts, Called, IsReady, LeftOut, Noted}
 use Rattle.hd_step.specs.Machine.{MachineView}
-use Rattle.hd_step.specs.Talk.{HasDoneLines, IsRunBy}
+use Rattle.hd_step.specs.Inside.{IsRunBy}
 use Rattle.hd_step.proofs.Exchanges.{count_of, count_push, lines_push, own_push, replies_push, said_push}
+use Rattle.hd_step.specs.Inside.{IsBad}
+
+-- lines were done so far
+pub record HasDoneLines (n : Numbers) (exchanges : List Exchange) (w : MachineView) (p : Progress) : Type 0
+  where
+    pub ready : IsReady w p
+    pub ran : IsRunBy n exchanges w
+    pub caller : (said_by (lines_of_all exchanges)).caller ≡ p.caller
+    pub bad : IsBad exchanges p.is_bad
 
 -- whole exchanges of a run
 pub of_run : {n : Numbers} {xs : List Exchange} {w : MachineView} → IsRunBy n xs w → IsOfRun n xs

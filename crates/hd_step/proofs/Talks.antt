@@ -22,13 +22,32 @@ use Rattle.hd_step.specs.declared.stop.Stop.{Stop}
 use Rattle.hd_step.specs.declared.stop.Stop.TheVariants as stop
 use Rattle.hd_step.specs.Dialogue.{Exchange, IsOfRun, lines_of_all, text_of_all, turn_of}
 use Rattle.hd_step.specs.Ending.{Conversed, Replied, StoppedIn}
-use Rattle.hd_step.specs.Hand.{Filled, Hand, IsFirst}
-use Rattle.hd_step.specs.Lines.{AfterWords, AreCounts, LineDone, LineStopped, stop_of}
+use Rattle.hd_step.specs.{Inside.Filled, Inside.IsFirst, Hand.Hand}
+use Rattle.hd_step.specs.Inside.{AfterWords, AreCounts, LineDone, LineStopped, stop_of}
 use Rattle.hd_step.specs.Machine.{IsNew, MachineView}
-use Rattle.hd_step.specs.Talk.{HasDoneLines, HasRead, IsOver, IsTalking}
+use Rattle.hd_step.specs.Inside.{IsOver}
+use Rattle.hd_step.proofs.LineSteps.{HasDoneLines}
 use Rattle.hd_step.proofs.Exchanges.{all_lines_push, text_push}
 use Rattle.hd_step.proofs.FirstLines.{end_or_len, gave_none, none_found, some_found}
 use Rattle.hd_step.proofs.LineSteps.{line_done}
+use Rattle.hd_io.specs.Source.{Gave}
+
+-- the bytes of the source so far are those lines, and then those at hand
+pub record HasRead (lines : List (List ℕ)) (h : Hand) (before after : SourceView) : Type 0 where
+  pub bytes : List ℕ
+  pub gave : Gave before after bytes
+  pub room : h.room + length bytes ≡ MOST_BYTES
+  pub cut : (rest : List ℕ) → (h.ended ≡ true → rest ≡ [])
+      → lines_in (bytes ++ rest) ≡ lines ++ lines_in (h.bytes ++ rest)
+  pub end : h.ended ≡ true → IsAtEnd after.left
+
+-- within a dialogue, between two lines
+pub record IsTalking (n : Numbers) (h : Hand) (w : MachineView) (p : Progress)
+    (source after : SourceView) (out new : SinkView) : Type 0 where
+  pub exchanges : List Exchange
+  pub done : HasDoneLines n exchanges w p
+  pub read : HasRead (lines_of_all exchanges) h source after
+  pub wrote : Took out new (text_of_all exchanges)
 
 -- ---- the first line
 

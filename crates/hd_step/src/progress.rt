@@ -2,7 +2,7 @@
 ghost use Rattle.std.specs.Prelude.{◌≡◌, ◌+◌, ◌^◌, ◌<◌, [], false, length, slice_index};
 ghost use Rattle.std.specs.Prelude.{slice_set};
 ghost use Rattle.hd_model.specs.declared.limits.TheConstants.{CALLERS};
-ghost use Rattle.hd_step.specs.Lines.{AreCounts};
+ghost use Rattle.hd_step.specs.Inside.{AreCounts};
 
 use hd_model::limits::CALLERS;
 

@@ -5,7 +5,7 @@ ghost use Rattle.std.specs.Io.KnownBytes.{IsAtEnd};
 ghost use Rattle.hd_io.specs.Source.{GaveCount, ReadBrokeOff, ReadFailed};
 ghost use Rattle.hd_model.specs.declared.limits.TheConstants.{MOST_BYTES};
 ghost use Rattle.hd_model.specs.Grammar.{is_line_end};
-ghost use Rattle.hd_step.specs.Hand.{Filled, HasLine, IsFirst};
+ghost use Rattle.hd_step.specs.Inside.{Filled, HasLine, IsFirst};
 
 use hd_io::{ReadFault, Source};
 use hd_model::limits::MOST_BYTES;

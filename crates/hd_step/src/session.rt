@@ -5,9 +5,9 @@ ghost use Rattle.hd_model.specs.Valid.{IsValid};
 ghost use Rattle.hd_script.specs.Words.{words_at};
 ghost use Rattle.hd_step.specs.Dialogue.{is_own};
 ghost use Rattle.hd_step.specs.Ending.{Conversed, StoppedIn};
-ghost use Rattle.hd_step.specs.Lines.{AfterReading, Answered, Called, IsReady, LeftOut, LineDone, LineStopped};
+ghost use Rattle.hd_step.specs.Inside.{AfterReading, Answered, Called, IsReady, LeftOut, LineDone, LineStopped};
 ghost use Rattle.hd_step.specs.Machine.{IsNew};
-ghost use Rattle.hd_step.specs.Talk.{IsOver, IsTalking};
+ghost use Rattle.hd_step.specs.Inside.{IsOver};
 
 use crate::machine::Machine;
 use crate::own::{Answer, Own, Words, asked_by};

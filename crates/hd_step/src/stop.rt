@@ -1,6 +1,6 @@
 // Why a dialogue ended early.
 ghost use Rattle.std.specs.Prelude.{◌≡◌};
-ghost use Rattle.hd_step.specs.Lines.{stop_of};
+ghost use Rattle.hd_step.specs.Inside.{stop_of};
 
 use hd_io::ReadFault;
 use thiserror::Error;

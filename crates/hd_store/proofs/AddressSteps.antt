@@ -1,9 +1,9 @@
 -- What each command does with the pinned addresses.
-use Rattle.hd_store.proofs.StoreWords.{Addr, RepliesPlace, Bool, Cmd, CollectedSteps, Done, Entry, Err, FinMap, GrowsFor, Handle, HasCollected, HasNames, HasPlace, HasRun, Id, IsOffer, IsOutcome, IsPlainStep, IsValid, KeepsNames, KeepsPlaces, LeavesHeap, Machine, MayReturn, MayOffer, MayRun, Moves, None, Ok, Option, Outcome, Refusal, Reply, Report, Result, Slot, Some, State, Step, StepOf, TakesSteps, Zero, aged_by, reply_place, reply_with, ap, asks_of, class_of, cond, done_of, empty, entry_by, false, get, get_inserted, handle_at, handle_register_of, if◌then◌else◌, insert, is_collect, kept_places, key_register, name_in, nat_cmp, no_room, nothing_at, option_and_then, option_map_or, pinned_by, pinned_in, pinned_target, pins, refl, refuses, register_of, same_Some, subst, sym, touched_by, true, true≢false, with_place, with_places, ℕ, ◌<◌, ◌∙◌, ◌≡◌, ◌≤◌}
+use Rattle.hd_store.proofs.StoreWords.{Addr, RepliesAddress, Bool, Cmd, CollectedSteps, Done, Entry, Err, FinMap, GrowsFor, Handle, HasCollected, HasNames, HasAddress, HasRun, Id, IsOffer, IsOutcome, IsPlainStep, IsValid, KeepsNames, KeepsPinned, LeavesHeap, Machine, MayReturn, MayOffer, MayRun, Moves, None, Ok, Option, Outcome, Refusal, Reply, Report, Result, Slot, Some, State, Step, StepOf, TakesSteps, Zero, aged_by, reply_address, reply_with, ap, asks_of, class_of, cond, done_of, empty, entry_by, false, get, get_inserted, handle_at, handle_register_of, if◌then◌else◌, insert, is_collect, kept_pinned, key_register, name_in, nat_cmp, no_room, nothing_at, option_and_then, option_map_or, pinned_by, pinned_in, pinned_target, pins, refl, refuses, register_of, same_Some, subst, sym, touched_by, true, true≢false, with_address, with_pinned, ℕ, ◌<◌, ◌∙◌, ◌≡◌, ◌≤◌}
 use Rattle.hd_model.specs.Aging.{is_refused}
 use Rattle.hd_model.specs.Command.{reply_root}
 use Rattle.hd_model.specs.Anchors.{ReturnsRoot}
-use Rattle.hd_model.proofs.{OutcomePlaces.step_placed, Journals.ages_placed}
+use Rattle.hd_model.proofs.{OutcomeAddresses.step_placed, Journals.ages_placed}
 use Rattle.hd_store.proofs.IdentityReadings.{no_some}
 use Rattle.hd_model.specs.declared.data.Refusal.TheVariants as refusal
 use Rattle.hd_model.specs.declared.data.Reply.TheVariants as reply
@@ -35,20 +35,20 @@ module _ (e : Entry) (f : Cmd → Bool) (is : f e.cmd ≡ false) (each : (n : �
     collects = λ n report same answer. absurd (none n same);
   }
 
-abbrev uses_places : Cmd → Bool
-uses_places c = (touched_by c).places
+abbrev uses_pinned : Cmd → Bool
+uses_pinned c = (touched_by c).pinned
 
 -- a command that uses no pinned address
-plain-moves : (m k : Machine) (e : Entry) → uses_places e.cmd ≡ false
+plain-moves : (m k : Machine) (e : Entry) → uses_pinned e.cmd ≡ false
     → Step m.numbers m.state e k.state → KeepsNames m.names k.names → k.ages ≡ aged_by m.state e m.ages
-    → k.numbers ≡ m.numbers → KeepsPlaces m e k
+    → k.numbers ≡ m.numbers → KeepsPinned m e k
 plain-moves m k e plain step keeps aged numbers p are = record {
-  places = p;
+  pinned = p;
   step = step_placed p m.numbers m.state e k.state plain step;
   addresses = λ x a is. keeps a (record { 0 = x }) (are x a is);
   ages = aged ∙ sym (ages_placed m.state p e m.ages);
   numbers = numbers;
-  heap = others-heap e uses_places plain (λ n. refl) k;
+  heap = others-heap e uses_pinned plain (λ n. refl) k;
 }
 
 -- the generation that a command collects
@@ -59,9 +59,9 @@ number_in d c = d
 -- a collection
 pub collect-moves : (m k : Machine) (n : ℕ) (report : Report) (caller : ℕ) → caller < m.numbers.callers
     → n ≤ 2 → HasCollected m k n report
-    → KeepsPlaces m (entry_with caller (cmd.Collect n) (reply.Report report)) k
+    → KeepsPinned m (entry_with caller (cmd.Collect n) (reply.Report report)) k
 collect-moves m k n report caller known low has p are = record {
-  places = kept_places m.state p;
+  pinned = kept_pinned m.state p;
   step = record {
     caller = known;
     valid = low;
@@ -83,8 +83,8 @@ names-kept false old new same a x is = ap (λ names. get names a) same ∙ is
 
 -- `addr`: what the handle pins decides the reply and the state
 abbrev returned : State → Result Id Refusal → ℕ → Outcome
-returned s (Ok id) place = reply_with (reply.Place place) (with_place s id place)
-returned s (Err refused) place = refuses refused s
+returned s (Ok id) address = reply_with (reply.Place address) (with_address s id address)
+returned s (Err refused) address = refuses refused s
 
 abbrev target_of : Result Id Refusal → Option Id
 target_of (Ok id) = Some id
@@ -93,26 +93,26 @@ target_of (Err refused) = None
 module _ (s : State) where
   -- what is pinned, as a result, an option and an outcome
   abbrev Agree : Result Id Refusal → Option Id → (ℕ → Outcome) → Type 0
-  Agree r target answer = (target ≡ target_of r) × ((place : ℕ) → answer place ≡ returned s r place)
+  Agree r target answer = (target ≡ target_of r) × ((address : ℕ) → answer address ≡ returned s r address)
 
   agree_at : (b : Bool) (t : Option Id)
       → Agree (if b then option_map_or Ok t (Err refusal.Null) else Err refusal.WrongKind) (cond b t None)
-      (λ place. if b then option_map_or (λ id. reply_with (reply.Place place) (with_place s id place)) t
-      (refuses refusal.Null s) else refuses refusal.WrongKind s)
-  agree_at true None = (refl, λ place. refl)
-  agree_at true (Some id) = (refl, λ place. refl)
-  agree_at false t = (refl, λ place. refl)
+      (λ address. if b then option_map_or (λ id. reply_with (reply.Place address) (with_address s id address))
+      t (refuses refusal.Null s) else refuses refusal.WrongKind s)
+  agree_at true None = (refl, λ address. refl)
+  agree_at true (Some id) = (refl, λ address. refl)
+  agree_at false t = (refl, λ address. refl)
 
   agree_by : (o : Option (Handle Id))
       → Agree (option_map_or (λ handle. if pins handle then option_map_or Ok handle.target (Err refusal.Null)
       else Err refusal.WrongKind) o (Err refusal.NotLive)) (pinned_by o)
-      (λ place. option_map_or (λ handle. if pins handle then option_map_or
-      (λ id. reply_with (reply.Place place) (with_place s id place)) handle.target (refuses refusal.Null s)
-      else refuses refusal.WrongKind s) o (refuses refusal.NotLive s))
-  agree_by None = (refl, λ place. refl)
+      (λ address. option_map_or (λ handle. if pins handle then option_map_or
+      (λ id. reply_with (reply.Place address) (with_address s id address)) handle.target
+      (refuses refusal.Null s) else refuses refusal.WrongKind s) o (refuses refusal.NotLive s))
+  agree_by None = (refl, λ address. refl)
   agree_by (Some handle) = agree_at (pins handle) handle.target
 
-  agree : (caller h : ℕ) → Agree (pinned_in s caller h) (pinned_target s caller h) (reply_place s caller h)
+  agree : (caller h : ℕ) → Agree (pinned_in s caller h) (pinned_target s caller h) (reply_address s caller h)
   agree caller h = by (handle_register_of s caller h)
     where
       by : (o : Option Slot)
@@ -120,22 +120,22 @@ module _ (s : State) where
           handle.target (Err refusal.Null) else Err refusal.WrongKind) (handle_at s slot)
           (Err refusal.NotLive))
           o (Err refusal.EmptyRegister)) (option_and_then (λ slot. pinned_by (handle_at s slot)) o)
-          (λ place. option_map_or (λ slot. option_map_or (λ handle. if pins handle then option_map_or
-          (λ id. reply_with (reply.Place place) (with_place s id place)) handle.target
+          (λ address. option_map_or (λ slot. option_map_or (λ handle. if pins handle then option_map_or
+          (λ id. reply_with (reply.Place address) (with_address s id address)) handle.target
           (refuses refusal.Null s)
           else refuses refusal.WrongKind s) (handle_at s slot) (refuses refusal.NotLive s)) o
           (refuses refusal.EmptyRegister s))
-      by None = (refl, λ place. refl)
+      by None = (refl, λ address. refl)
       by (Some slot) = agree_by (handle_at s slot)
 
   -- the address of what is pinned is returned
-  pinned_reply : (caller h : ℕ) (x : Id) → pinned_target s caller h ≡ Some x → (place : ℕ)
-      → reply_place s caller h place ≡ reply_with (reply.Place place) (with_place s x place)
-  pinned_reply caller h x is place = by (pinned_in s caller h) (agree caller h)
+  pinned_reply : (caller h : ℕ) (x : Id) → pinned_target s caller h ≡ Some x → (address : ℕ)
+      → reply_address s caller h address ≡ reply_with (reply.Place address) (with_address s x address)
+  pinned_reply caller h x is address = by (pinned_in s caller h) (agree caller h)
     where
-      by : (r : Result Id Refusal) → Agree r (pinned_target s caller h) (reply_place s caller h)
-          → reply_place s caller h place ≡ reply_with (reply.Place place) (with_place s x place)
-      by (Ok id) a = a.1 place ∙ ap (λ i. reply_with (reply.Place place) (with_place s i place))
+      by : (r : Result Id Refusal) → Agree r (pinned_target s caller h) (reply_address s caller h)
+          → reply_address s caller h address ≡ reply_with (reply.Place address) (with_address s x address)
+      by (Ok id) a = a.1 address ∙ ap (λ i. reply_with (reply.Place address) (with_address s i address))
           (same_Some id x (sym a.0 ∙ is))
       by (Err refused) a = absurd (no_some x (sym is ∙ a.0))
 
@@ -145,20 +145,20 @@ module _ (m : Machine) (caller h : ℕ) (known : caller < m.numbers.callers) (lo
   came_to {w} {after} answer is = subst (λ o. IsOutcome (entry_with caller (cmd.AddrOf h) answer) o after) is
       (record { reply = refl; slot = refl; grown = refl; after = refl })
 
-  pub addr-replies : (at : Addr) → HasPlace m at → Ok (name_in m.names at) ≡ pinned_in m.state caller h
-      → KeepsPlaces m (entry_with caller (cmd.AddrOf h) (reply.Place at.0)) m
+  pub addr-replies : (at : Addr) → HasAddress m at → Ok (name_in m.names at) ≡ pinned_in m.state caller h
+      → KeepsPinned m (entry_with caller (cmd.AddrOf h) (reply.Place at.0)) m
   addr-replies at has is p are =
       let id = name_in m.names at in
-      let pinned = subst (λ r. Agree (with_places m.state p) r (pinned_target m.state caller h)
-      (reply_place (with_places m.state p) caller h)) (sym is) (agree (with_places m.state p) caller h) in
+      let pinned = subst (λ r. Agree (with_pinned m.state p) r (pinned_target m.state caller h)
+      (reply_address (with_pinned m.state p) caller h)) (sym is) (agree (with_pinned m.state p) caller h) in
       record {
-        places = insert p id.0 at.0;
+        pinned = insert p id.0 at.0;
         step = record {
           caller = known;
           valid = low;
           does = record {
-            place = at.0;
-            may = λ x same. subst (λ y. MayReturn (with_places m.state p) y at.0)
+            address = at.0;
+            may = λ x same. subst (λ y. MayReturn (with_pinned m.state p) y at.0)
                 (same_Some id x (sym pinned.0 ∙ same)) (has.may p are);
             outcome = came_to (reply.Place at.0) (sym (pinned.1 at.0));
           };
@@ -171,17 +171,17 @@ module _ (m : Machine) (caller h : ℕ) (known : caller < m.numbers.callers) (lo
       }
 
   pub addr-refused : (refused : Refusal) → Err refused ≡ pinned_in m.state caller h
-      → KeepsPlaces m (entry_with caller (cmd.AddrOf h) (reply.Refused refused)) m
+      → KeepsPinned m (entry_with caller (cmd.AddrOf h) (reply.Refused refused)) m
   addr-refused refused is p are =
-      let none = subst (λ r. Agree (with_places m.state p) r (pinned_target m.state caller h)
-      (reply_place (with_places m.state p) caller h)) (sym is) (agree (with_places m.state p) caller h) in
+      let none = subst (λ r. Agree (with_pinned m.state p) r (pinned_target m.state caller h)
+      (reply_address (with_pinned m.state p) caller h)) (sym is) (agree (with_pinned m.state p) caller h) in
       record {
-        places = p;
+        pinned = p;
         step = record {
           caller = known;
           valid = low;
           does = record {
-            place = 0;
+            address = 0;
             may = λ x same. absurd (no_some x (sym same ∙ none.0));
             outcome = came_to (reply.Refused refused) (sym (none.1 0));
           };
@@ -207,15 +207,15 @@ collect-steps m n report caller before after steps = record {
 -- a command was done with any pinned addresses, and took so many steps
 abbrev pub Ran : Machine → Machine → ℕ → Cmd → Option Slot → Entry → (before after : ℕ) → Type 0
 Ran m k caller c offer e before after =
-    HasRun m caller c offer e (KeepsPlaces m e k) × TakesSteps m.state m.ages e before after
+    HasRun m caller c offer e (KeepsPinned m e k) × TakesSteps m.state m.ages e before after
 
 -- what was done without a use of pinned addresses was done with any
 pub plain-kept : (m k : Machine) (caller : ℕ) (c : Cmd) (offer : Option Slot) → MayRun m caller c offer
     → (e : Entry) → HasRun m caller c offer e (IsPlainStep m c k e)
-    → HasRun m caller c offer e (KeepsPlaces m e k)
+    → HasRun m caller c offer e (KeepsPinned m e k)
 plain-kept m k caller c offer may e did =
     let step = did.effect in
-    let still : uses_places e.cmd ≡ false = ap uses_places did.command ∙ step.plain in
+    let still : uses_pinned e.cmd ≡ false = ap uses_pinned did.command ∙ step.plain in
     record {
       caller = did.caller;
       command = did.command;
@@ -234,38 +234,38 @@ pub plain-runs : (m k : Machine) (caller : ℕ) (c : Cmd) (offer : Option Slot) 
 plain-runs m k caller c offer may no_key steps did e entry ran =
     subst (λ x. Ran m k caller c offer x steps steps) (sym entry) (
       plain-kept m k caller c offer may did ran,
-      others-steps did uses_places (ap uses_places ran.command ∙ ran.effect.plain) (λ n. refl) m steps
+      others-steps did uses_pinned (ap uses_pinned ran.command ∙ ran.effect.plain) (λ n. refl) m steps
           (ap (λ c. key_register (class_of c)) ran.command ∙ no_key),
     )
 
 -- `addr` returns the address of what the handle pins
-module _ (m k : Machine) (e : Entry) (keeps : KeepsPlaces m e k) (h place : ℕ) (x : Id)
-    (same : e.cmd ≡ cmd.AddrOf h) (in_reply : e.reply ≡ reply.Place place)
+module _ (m k : Machine) (e : Entry) (keeps : KeepsPinned m e k) (h address : ℕ) (x : Id)
+    (same : e.cmd ≡ cmd.AddrOf h) (in_reply : e.reply ≡ reply.Place address)
     (pinned : pinned_target m.state e.caller h ≡ Some x) where
   moved : Moves m e k empty
   moved = keeps empty (λ y b is. absurd (nothing_at y b is))
 
-  does : RepliesPlace (with_places m.state empty) e (with_places k.state moved.places) h
-  does = subst (StepOf m.numbers (with_places m.state empty) e (with_places k.state moved.places)) same
+  does : RepliesAddress (with_pinned m.state empty) e (with_pinned k.state moved.pinned) h
+  does = subst (StepOf m.numbers (with_pinned m.state empty) e (with_pinned k.state moved.pinned)) same
       moved.step.does
 
-  outcome_is : reply_place (with_places m.state empty) e.caller h does.place
-      ≡ reply_with (reply.Place does.place) (with_place (with_places m.state empty) x does.place)
-  outcome_is = pinned_reply (with_places m.state empty) e.caller h x pinned does.place
+  outcome_is : reply_address (with_pinned m.state empty) e.caller h does.address
+      ≡ reply_with (reply.Place does.address) (with_address (with_pinned m.state empty) x does.address)
+  outcome_is = pinned_reply (with_pinned m.state empty) e.caller h x pinned does.address
 
-  abbrev place_in : Reply → ℕ
-  place_in (reply.Place p) = p
-  place_in r = place
+  abbrev address_in : Reply → ℕ
+  address_in (reply.Place p) = p
+  address_in r = address
 
-  place_is : does.place ≡ place
-  place_is = ap place_in (sym (does.outcome.reply ∙ ap (λ (o : Outcome). o.reply) outcome_is) ∙ in_reply)
+  address_is : does.address ≡ address
+  address_is = ap address_in (sym (does.outcome.reply ∙ ap (λ (o : Outcome). o.reply) outcome_is) ∙ in_reply)
 
-  pub returns-address : get k.names place ≡ Some x
+  pub returns-address : get k.names address ≡ Some x
   returns-address =
-      moved.addresses x.0 place
-      (ap (λ (s : State). get s.places x.0)
+      moved.addresses x.0 address
+      (ap (λ (s : State). get s.pinned x.0)
       (does.outcome.after ∙ ap (λ (o : Outcome). o.after) outcome_is)
-      ∙ get_inserted empty x.0 does.place ∙ ap Some place_is)
+      ∙ get_inserted empty x.0 does.address ∙ ap Some address_is)
 
 -- what was done by a command was done by the one that was asked, with the entry that was made
 pub as-asked : (m k : Machine) (caller : ℕ) (given c : Cmd) (offer : Option Slot) (r : Result Done Refusal)
@@ -281,7 +281,7 @@ as-asked m k caller given c offer r before after e is entry may ran =
 -- so was what takes no slot and gives none back
 pub others-run : (m k : Machine) (caller : ℕ) (c : Cmd) (offer : Option Slot) (r : Result Done Refusal)
     (before after : ℕ) → asks_of m.state caller c ≡ no_room
-    → KeepsPlaces m (entry_by caller c (done_of r)) k
+    → KeepsPinned m (entry_by caller c (done_of r)) k
     → TakesSteps m.state m.ages (entry_by caller c (done_of r)) before after
     → MayRun m caller c offer → Ran m k caller c offer (entry_by caller c (done_of r)) before after
 others-run m k caller c offer r before after none keeps steps may = (

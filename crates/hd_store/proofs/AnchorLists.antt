@@ -3,7 +3,7 @@
 use Rattle.hd_store.proofs.StoreWords.{◌≡◌, ℕ, ◌++◌, List, [], ◌∷◌, inl, inr, ⊎_elim, true, map, Contains, Option, Some, None, option_map, option_to_list, sym, ap, ◌∙◌, subst, refl, Addr, Id, Reply, Parts, IsStored, state_of, scene_of_parts, callers_of, scene_of, id_at, has_object, row_at, Table, role, holds, short, long, attaches, Role, drop, take, take-append-drop, entries, object_at, Machine, machine_of, name_in, ◌*◌, ◌-◌, arith, length, same_Some, placed_at, id_in, MatchOption}
 use Rattle.std.specs.Prelude.{flat_map, slice_get}
 use Rattle.hd_root.specs.Chain.{IsPath, IsLeastChain}
-use Rattle.hd_store.proofs.NamedAddresses.{placed_is}
+use Rattle.hd_store.proofs.HeapCallReadings.{placed_is}
 use Rattle.std.proofs.lemmas.List.Elements.{Contains-append_left, Contains-append_right, Contains-append_cases}
 use Rattle.hd_model.specs.declared.data.Reply.TheVariants as reply
 use Rattle.hd_model.specs.Reach.{IsHeld, IsEdge}
@@ -16,9 +16,9 @@ use Rattle.hd_model.proofs.AnchorChains.{shortest_like}
 use Rattle.hd_model.proofs.AnchorReadings.{shortest_read, unrooted_read}
 use Rattle.hd_scan.specs.declared.gathering.Root.{Root}
 use Rattle.hd_scan.specs.Gathering.{root_by, roots_of}
-use Rattle.hd_store.specs.Anchors.{place_of, anchor_list}
+use Rattle.hd_store.specs.Inside.{address_of, anchor_list}
 use Rattle.hd_store.proofs.SceneReading.{parts-read, scene-read, scene_by_id}
-use Rattle.hd_store.proofs.RootRows.{rest-drop}
+use Rattle.hd_store.proofs.RegisterRoots.{rest-drop}
 use Rattle.hd_store.proofs.IdentityReadings.{no_some, name-is}
 use Rattle.hd_model.proofs.SceneCollection.{mapped_value}
 use Rattle.std.proofs.lemmas.List.{drop-map}
@@ -61,18 +61,18 @@ held-target long o x is = absurd (no_some x (sym is))
 held-target attaches o x is = absurd (no_some x (sym is))
 
 module _ (t : Table) where
-  held_listed : (x : Addr) → IsHeld (row_at t) x → Contains (map place_of (roots_of t)) x
+  held_listed : (x : Addr) → IsHeld (row_at t) x → Contains (map address_of (roots_of t)) x
   held_listed x h =
       let make = root_by (record { 0 = h.slot }) h.handle.kind in
       let is : held_of h.handle ≡ Some x = ap (λ r. held_by r h.handle.target) h.holds ∙ h.target in
-      mapped_in place_of (roots_of t) (make x)
+      mapped_in address_of (roots_of t) (make x)
       (flat_in (root_in root_by) (entries t.rows) (h.slot, h.handle) (make x)
       (entry_of t.rows h.slot h.handle h.is_stored)
       (listed_in (option_map make (held_of h.handle)) (make x) (ap (option_map make) is)))
 
-  listed_held : (x : Addr) → Contains (map place_of (roots_of t)) x → IsHeld (row_at t) x
+  listed_held : (x : Addr) → Contains (map address_of (roots_of t)) x → IsHeld (row_at t) x
   listed_held x h =
-      let (root, found) = mapped_from place_of (roots_of t) x h in
+      let (root, found) = mapped_from address_of (roots_of t) x h in
       let (e, inside) = flat_from (root_in root_by) (entries t.rows) root found.0 in
       let make = root_by (record { 0 = e.0 }) e.1.kind in
       let (y, is) = mapped_value make (held_of e.1) root
@@ -83,7 +83,7 @@ module _ (t : Table) where
         handle = e.1;
         is_stored = get_entry t.rows e.0 e.1 inside.0;
         holds = target.0;
-        target = target.1 ∙ ap Some (ap place_of is.1 ∙ found.1);
+        target = target.1 ∙ ap Some (ap address_of is.1 ∙ found.1);
       }
 
 path_first : {E : Addr → Addr → Type 0} {x z : Addr} {path : List Addr} → IsPath E x path z
@@ -117,14 +117,14 @@ module _ (f : Parts) (stored : IsStored f) where
 
   anchor_listed : (x : Addr) → AnchorAt x → Contains listed x
   anchor_listed x (in_static h) =
-      Contains-append_left (statics_listed ++ f.queue.queued) (map place_of (roots_of f.table)) x
+      Contains-append_left (statics_listed ++ f.queue.queued) (map address_of (roots_of f.table)) x
       (Contains-append_left statics_listed f.queue.queued x
       (flat_in option_to_list statics_in (Some x) x h (listed_in (Some x) x refl)))
   anchor_listed x (in_queue h) =
-      Contains-append_left (statics_listed ++ f.queue.queued) (map place_of (roots_of f.table)) x
+      Contains-append_left (statics_listed ++ f.queue.queued) (map address_of (roots_of f.table)) x
       (Contains-append_right statics_listed f.queue.queued x h)
   anchor_listed x (by_handle h) =
-      Contains-append_right (statics_listed ++ f.queue.queued) (map place_of (roots_of f.table)) x
+      Contains-append_right (statics_listed ++ f.queue.queued) (map address_of (roots_of f.table)) x
       (held_listed f.table x h)
 
   static_anchor : (x : Addr) → Contains statics_listed x → AnchorAt x
@@ -138,7 +138,7 @@ module _ (f : Parts) (stored : IsStored f) where
       (λ named. ⊎_elim (static_anchor x) in_queue
       (Contains-append_cases statics_listed f.queue.queued x named))
       (λ held. by_handle (listed_held f.table x held))
-      (Contains-append_cases (statics_listed ++ f.queue.queued) (map place_of (roots_of f.table)) x h)
+      (Contains-append_cases (statics_listed ++ f.queue.queued) (map address_of (roots_of f.table)) x h)
 
   static_object : (x : Addr) → Contains statics_in (Some x) → has_object f.heap x ≡ true
   static_object x h =
@@ -165,8 +165,8 @@ module _ (f : Parts) (stored : IsStored f) where
   EdgeAt = IsEdge (object_at f.heap) (row_at f.table)
 
   -- what a search from a list of anchors says
-  abbrev pub Found : Addr → List Addr → Option (List Addr) → Type 0
-  Found goal anchors found = MatchOption found (IsUnrooted EdgeAt (Contains anchors) goal)
+  abbrev pub FoundChain : Addr → List Addr → Option (List Addr) → Type 0
+  FoundChain goal anchors found = MatchOption found (IsUnrooted EdgeAt (Contains anchors) goal)
       (IsLeastChain EdgeAt (Contains anchors) (λ x. (id_at f.heap x).0) goal)
 
   abbrev Shortest : Scene Id → List (Option Id) → Id → Id → ℕ → Type 0
@@ -199,7 +199,7 @@ module _ (f : Parts) (stored : IsStored f) where
       (λ from a. none from (anchor_listed from a))))
 
   module _ (goal : Addr) (anchors : List Addr) (same : anchors ≡ listed) (chain : List Addr)
-      (least : Found goal anchors (Some chain)) (x : Addr) (first : slice_get chain 0 ≡ Some x) where
+      (least : FoundChain goal anchors (Some chain)) (x : Addr) (first : slice_get chain 0 ≡ Some x) where
     begins_at : least.from ≡ x
     begins_at = same_Some least.from x (sym (path_first least.path) ∙ first)
 
@@ -233,7 +233,7 @@ module _ (f : Parts) (stored : IsStored f) where
     returns-unrooted none = returned reply.Unrooted (inr (unrooted_by_id goal there none, refl))
 
     pub returns-found : (anchors : List Addr) → anchors ≡ listed → (chain : List Addr)
-        → Found goal anchors (Some chain) → (x : Addr) → slice_get chain 0 ≡ Some x → (id : Id)
+        → FoundChain goal anchors (Some chain) → (x : Addr) → slice_get chain 0 ≡ Some x → (id : Id)
         → id ≡ (placed_at f.heap x).id → (n : ℕ) → n ≡ length chain
         → ReturnsRoot m.state (name_in m.names goal) (reply.Chain id (n - 1))
     returns-found anchors same chain least x first id named n sized =

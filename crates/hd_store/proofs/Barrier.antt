@@ -1,7 +1,7 @@
 -- A field of an object of a store is written through the barrier.
 use Rattle.hd_store.proofs.StoreWords.{Addr, Bool, Contains, Heap, Id, IfSome, IsField, IsStored, List, Machine, Object, Option, Parts, Placed, Some, T, ap, arith, card_of, cases_eq, eq-eqb, eq_by_cmp, false, fields_in, generation_at, get_or, get_or-set_other, get_or-set_same, has_object, id_at, if◌then◌else◌, inl, inr, is_younger, length, length-set, lt-ltb, machine_of, map, map-set, named_in, nat_cmp, nat_cmp_total, object_at, option_map, placed_at, read_object, refl, set, subst, sym, true, unsigned_tied, with_field, ℕ, ◌<◌, ◌||◌, ◌∙◌, ◌≡◌, ◌⊎◌}
 use Rattle.hd_heap.specs.Calls.{stored as with_stored}
-use Rattle.hd_store.proofs.{IdentityReadings.named-is, NamedAddresses.placed_is, NamedAddresses.object_is, StoreWrite.Writes}
+use Rattle.hd_store.proofs.{IdentityReadings.named-is, HeapCallReadings.placed_is, HeapCallReadings.object_is, StoreWrite.Writes}
 use Rattle.std.specs.FinSet as set
 
 -- what is in a list with one item written

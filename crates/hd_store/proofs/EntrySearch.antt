@@ -4,7 +4,7 @@ use Rattle.hd_commands.specs.declared.handle.Extra.TheVariants.{Secondary}
 use Rattle.hd_seg.specs.Row.{row_of}
 use Rattle.hd_model.proofs.StepWrites.{same_slot}
 use Rattle.hd_store.proofs.IdentityReadings.{no_some, is_some-map, named-is}
-use Rattle.hd_store.proofs.{NamedAddresses.objects_named, EntryReadings.weak-get, RootIdentities.entries-mapped}
+use Rattle.hd_store.proofs.{HeapCallReadings.objects_named, EntryReadings.weak-get, RootIdentities.entries-mapped}
 
 module _ (f : Parts) (m : Machine) (view : machine_of f ≡ m) where
   pub weak-read : (slot : ℕ) → get m.state.weak slot ≡ option_map

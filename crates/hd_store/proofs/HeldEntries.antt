@@ -1,7 +1,7 @@
 -- What the weak table of a store has in a slot that it holds, as a call of the table returns the row.
 use Rattle.hd_store.proofs.StoreWords.{Addr, Id, IsSome, IsStored, IsTied, Machine, None, Option, Parts, Row, Slot, Some, ap, entry_named, entry_value, get, id_at, machine_of, name_in, option_and_then, option_map, same_Some, secondary_of, some_value, subst, sym, value_at, ◌∙◌, ◌≡◌}
 use Rattle.hd_seg.specs.{Row.row_of}
-use Rattle.hd_store.proofs.{IdentityReadings.name-is, NamedAddresses.objects_named}
+use Rattle.hd_store.proofs.{IdentityReadings.name-is, HeapCallReadings.objects_named}
 use Rattle.hd_store.proofs.EntrySearch.{held-some, weak-read}
 
 module _ (f : Parts) (m : Machine) (view : machine_of f ≡ m) (stored : IsStored f) (slot : Slot)

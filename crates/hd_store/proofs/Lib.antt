@@ -5,8 +5,8 @@ mod NameAgreement
 mod EntryReadings
 mod EntrySweep
 mod StoreAdd
-mod RootRows
-mod NamedAddresses
+mod RegisterRoots
+mod HeapCallReadings
 mod StoreWrite
 mod Barrier
 mod RootAccess
@@ -31,7 +31,7 @@ pub mod RootIdentities
 mod EntrySearch
 mod HeldRoom
 pub mod SoundCalls
-pub mod OfferPlaces
+pub mod OfferAddresses
 mod HeldEntries
-mod QueuePlaces
+mod QueueIndexes
 mod TargetLoads

@@ -1,5 +1,5 @@
 -- A new handle's slot in a block that has just come into use.
-use Rattle.hd_store.proofs.StoreWords.{Back, Dependent, Grown, Handle, HasHandles, HasWeakTable, Id, IsFree, IsLeastUnused, IsPlace, Kind, Machine, None, One, Option, Slot, Some, Two, WeakEntry, Zero, ap, arith, block_of, blocks_needed, extra_data, false, first_slot, get, get_beside, get_inserted, given_of, handle_at, handles_of, insert, is_paired, is_some, refl, subst, sym, true, use_of, with_growth, ℕ, ◌*◌, ◌+◌, ◌/◌, ◌∙◌, ◌≡◌, ◌≤◌}
+use Rattle.hd_store.proofs.StoreWords.{Back, Dependent, Grown, Handle, HasHandles, HasWeakTable, Id, IsFree, IsLeastUnused, IsSlotGiven, Kind, Machine, None, One, Option, Slot, Some, Two, WeakEntry, Zero, ap, arith, block_of, blocks_needed, extra_data, false, first_slot, get, get_beside, get_inserted, given_of, handle_at, handles_of, insert, is_paired, is_some, refl, subst, sym, true, use_of, with_growth, ℕ, ◌*◌, ◌+◌, ◌/◌, ◌∙◌, ◌≡◌, ◌≤◌}
 use Rattle.hd_store.proofs.IdentityReadings.{no_some}
 use Rattle.hd_model.specs.declared.limits.TheConstants.{ROWS}
 
@@ -55,7 +55,7 @@ module _ (old new : Machine) (kind : Kind) (slot : Slot) (handles : HasHandles o
   pub placed_one : is_paired kind ≡ false
       → new ≡ record old { state = with_growth old.state kind (One block); table = new.table }
       → given_of old.state + blocks_needed kind ≤ old.numbers.blocks
-      → IsPlace old new kind None slot (One block)
+      → IsSlotGiven old new kind None slot (One block)
   placed_one single store room = record {
     may = (single, least, at);
     store = store;
@@ -70,7 +70,7 @@ module _ (old new : Machine) (kind : Kind) (slot : Slot) (handles : HasHandles o
   pub placed_two : (other : ℕ) → is_paired kind ≡ true → IsLeastUnused old.numbers old.state (block + 1) other
       → new ≡ record old { state = with_growth old.state kind (Two block other); table = new.table }
       → given_of old.state + blocks_needed kind ≤ old.numbers.blocks
-      → IsPlace old new kind None slot (Two block other)
+      → IsSlotGiven old new kind None slot (Two block other)
   placed_two other double next store room = record {
     may = (double, least, next, at);
     store = store;

@@ -1,8 +1,8 @@
 -- The address of an object may be returned as its pinned address.
-use Rattle.hd_store.proofs.StoreWords.{Addr, AreAddresses, FinMap, HasPlace, Id, IsFreePlace, IsSome, IsStored, Machine, MatchOption, MayReturn, Meet, None, Option, Parts, Placed, Some, ap, arith, cells_of, get, has_object, inl, inr, insert, is_some, machine_of, name_in, names_of, nat_cmp, object_by_id, object_named, placed_at, range_at, refl, region_of, same_Some, size_of, state_of, subst, sym, true, with_places, ℕ, ◌<◌, ◌^◌, ◌∙◌, ◌≡◌, insert_cases}
+use Rattle.hd_store.proofs.StoreWords.{Addr, AreAddresses, FinMap, HasAddress, Id, IsFreeAddress, IsSome, IsStored, Machine, MatchOption, MayReturn, Meet, None, Option, Parts, Placed, Some, ap, arith, cells_of, get, has_object, inl, inr, insert, is_some, machine_of, name_in, names_of, nat_cmp, object_by_id, object_named, placed_at, range_at, refl, region_of, same_Some, size_of, state_of, subst, sym, true, with_pinned, ℕ, ◌<◌, ◌^◌, ◌∙◌, ◌≡◌, insert_cases}
 use Rattle.hd_heap.specs.Sound.{IsSound}
 use Rattle.hd_model.proofs.SceneCollection.{mapped_value}
-use Rattle.hd_store.proofs.{IdentityReadings.no_some, IdentityReadings.names-get, NamedAddresses.object-named, NamedAddresses.known_object, StateCounts.read-size}
+use Rattle.hd_store.proofs.{IdentityReadings.no_some, IdentityReadings.names-get, HeapCallReadings.object-named, HeapCallReadings.known_object, StateCounts.read-size}
 
 module _ (f : Parts) (stored : IsStored f) (sound : IsSound f.heap) where
   abbrev m : Machine
@@ -65,9 +65,9 @@ module _ (f : Parts) (stored : IsStored f) (sound : IsSound f.heap) where
     name_from a y is = ap (λ o. Rattle.std.specs.Prelude.unwrap_or o (record { 0 = 0 })) is
 
     module _ (p : FinMap nat_cmp ℕ) (are : AreAddresses (names_of f.heap) p) where
-      free_place : get p (name_in (names_of f.heap) at).0 ≡ None
-          → IsFreePlace (with_places (state_of f) p) (name_in (names_of f.heap) at) at.0
-      free_place none = record {
+      free_address : get p (name_in (names_of f.heap) at).0 ≡ None
+          → IsFreeAddress (with_pinned (state_of f) p) (name_in (names_of f.heap) at) at.0
+      free_address none = record {
         small = low at here;
         apart = λ y other is meet.
             let there : Addr = record { 0 = other } in
@@ -82,13 +82,13 @@ module _ (f : Parts) (stored : IsStored f) (sound : IsSound f.heap) where
             (range_at other (object_by_id (state_of f) i))) (sym mine) meet);
       }
 
-      may_return : MayReturn (with_places (state_of f) p) (name_in (names_of f.heap) at) at.0
+      may_return : MayReturn (with_pinned (state_of f) p) (name_in (names_of f.heap) at) at.0
       may_return = by (get p (name_in (names_of f.heap) at).0) refl
         where
           by : (o : Option ℕ) → get p (name_in (names_of f.heap) at).0 ≡ o
-              → MatchOption o (IsFreePlace (with_places (state_of f) p) (name_in (names_of f.heap) at) at.0)
+              → MatchOption o (IsFreeAddress (with_pinned (state_of f) p) (name_in (names_of f.heap) at) at.0)
               (λ own. at.0 ≡ own)
-          by None e = free_place e
+          by None e = free_address e
           by (Some own) e = one_address at.0 own (name_in (names_of f.heap) at) name_at
               (are (name_in (names_of f.heap) at).0 own e)
 
@@ -98,10 +98,10 @@ module _ (f : Parts) (stored : IsStored f) (sound : IsSound f.heap) where
           (λ z o. o ≡ Some a → get (names_of f.heap) a ≡ Some (record { 0 = z })) at.0 x
           (λ is. ap (get (names_of f.heap)) (sym (same_Some at.0 a is)) ∙ name_at) (λ _. are x a)
 
-pub has-place : (f : Parts) (m : Machine) → machine_of f ≡ m → IsStored f → IsSound f.heap → (at : Addr)
-    → IsSome (get m.names at.0) → HasPlace m at
-has-place f m view stored sound at known =
-    subst (λ (n : Machine). HasPlace n at) view (record {
+pub has-address : (f : Parts) (m : Machine) → machine_of f ≡ m → IsStored f → IsSound f.heap → (at : Addr)
+    → IsSome (get m.names at.0) → HasAddress m at
+has-address f m view stored sound at known =
+    subst (λ (n : Machine). HasAddress n at) view (record {
       may = λ p are. may_return f stored sound at
           (subst (λ (n : Machine). IsSome (get n.names at.0)) (sym view) known) p are;
       addresses = λ p are. addresses_with f stored sound at

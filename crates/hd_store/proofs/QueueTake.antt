@@ -1,7 +1,7 @@
 -- The first object is taken out of a store's queue.
 use Rattle.hd_store.specs.Store.{seen_by}
 use Rattle.hd_store.proofs.StoreWords.{Addr, Contains, IsNamed, IsStored, Machine, MatchOption, None, Option, Parts, Queue, Some, [], ap, arith, first_in, id_at, later_in, len, machine_of, map, name_in, names_of, refl, same_Some, subst, sym, with_queue, ◌∙◌, ◌∷◌, ◌≡◌, ◌≤◌}
-use Rattle.hd_store.proofs.{IdentityReadings.name-is, RootAccess.stored-named, NamedAddresses.objects_named}
+use Rattle.hd_store.proofs.{IdentityReadings.name-is, RootAccess.stored-named, HeapCallReadings.objects_named}
 
 -- the parts with another queue
 abbrev pub with_new_queue : Parts → Queue → Parts

@@ -1,8 +1,8 @@
 -- What the roots of a store reference: registers and statics read and written.
 use Rattle.hd_store.proofs.StoreWords.{Addr, Contains, IfSome, IsNamed, IsStored, List, Machine, None, Option, Parts, Queue, Some, ap, arith, callers_of, get_or, get_or_default, has_object, id_at, inl, inr, len, length, length-set, machine_of, map, map-set, named_in, option_map, refl, register_of, rest_of, rows_of, set, state_of, static_of, subst, sym, true, with_register, with_static, ℕ, ◌*◌, ◌+◌, ◌<◌, ◌∙◌, ◌≡◌, ◌≤◌}
-use Rattle.hd_store.proofs.RootRows.{rows-get, rest-get, rows-set, rest-set_row, rest-set, rows-set_rest}
+use Rattle.hd_store.proofs.RegisterRoots.{rows-get, rest-get, rows-set, rest-set_row, rest-set, rows-set_rest}
 use Rattle.hd_store.proofs.{IdentityReadings.named-is, EntryReadings.tied-agrees, Barrier.contains_set}
-use Rattle.hd_store.proofs.NamedAddresses.{named_objects, objects_named, field-read}
+use Rattle.hd_store.proofs.HeapCallReadings.{named_objects, objects_named, field-read}
 use Rattle.hd_model.specs.declared.limits.TheConstants.{REGISTERS}
 
 -- the parts with another root at an index

@@ -1,7 +1,7 @@
 -- The state of a store is a reading of what its collection reads.
 use Rattle.hd_store.proofs.StoreWords.{Addr, HasIdentities, Id, IsReading, IsStored, List, Parts, Placed, Scene, Some, ap, append_assoc, callers_of, drop, get, has_object, id_at, id_in, is_object, is_some, joined, map, object_at, object_in, objects_by_id, option_map, placed_at, refl, region_generation, region_of, rename_handle, rename_object, rest_of, rows_of, scene_of, scene_of_parts, some_value, state_of, suc, sym, take, take-append-drop, true, zero, ℕ, ◌++◌, ◌∙◌, ◌≡◌}
 use Rattle.hd_store.proofs.IdentityReadings.{same_id, objects-get, objects-under}
-use Rattle.hd_store.proofs.{EntryReadings.row-reads, NamedAddresses.placed_is, NamedAddresses.object_is}
+use Rattle.hd_store.proofs.{EntryReadings.row-reads, HeapCallReadings.placed_is, HeapCallReadings.object_is}
 use Rattle.hd_model.specs.declared.limits.TheConstants.{REGISTERS}
 
 -- all registers and then the statics are the roots

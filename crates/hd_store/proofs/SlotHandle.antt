@@ -2,7 +2,7 @@
 use Rattle.hd_store.proofs.StoreWords.{Addr, Handle, Id, IfSome, IsNamed, IsStored, IsTable, Kind, Machine, MayBeStored, None, Option, Parts, Row, Slot, Some, age_of, ap, block_of, generation_at, get, handle_at, handle_of, id_at, is_object, kind_in_use, machine_of, named_in, object_at, object_named, option_map, refl, rename_handle, same_Some, secondary_of, subst, sym, true, use_of, ◌∙◌, ◌≡◌, ◌≤◌, name_in, seen_by}
 use Rattle.hd_seg.specs.Row.{row_of}
 use Rattle.hd_seg.proofs.RowRewrite.{extra_again}
-use Rattle.hd_store.proofs.{IdentityReadings.no_some, IdentityReadings.names-are, NamedAddresses.objects_named, NamedAddresses.generation-is, StoreRows.row-read}
+use Rattle.hd_store.proofs.{IdentityReadings.no_some, IdentityReadings.names-are, HeapCallReadings.objects_named, HeapCallReadings.generation-is, StoreRows.row-read}
 
 pub same_handle : (h : Handle Addr) → handle_of h.kind (row_of h) ≡ h
 same_handle h = λ i. record { kind = h.kind; target = h.target; extra = extra_again h.extra i }
@@ -12,16 +12,16 @@ no_row None is = refl
 no_row (Some h) is = absurd (no_some (row_of h) is)
 
 -- the handle of a row that was found
-pub record Found (f : Parts) (slot : Slot) (row : Row) : Type 0 where
+pub record FoundRow (f : Parts) (slot : Slot) (row : Row) : Type 0 where
   pub handle : Handle Addr
   pub is_stored : get f.table.rows slot.0 ≡ Some handle
   pub row_is : row ≡ row_of handle
 
 pub found : (f : Parts) (slot : Slot) (row : Row) → Some row ≡ option_map row_of (get f.table.rows slot.0)
-    → Found f slot row
+    → FoundRow f slot row
 found f slot row is = by (get f.table.rows slot.0) refl
   where
-    by : (o : Option (Handle Addr)) → get f.table.rows slot.0 ≡ o → Found f slot row
+    by : (o : Option (Handle Addr)) → get f.table.rows slot.0 ≡ o → FoundRow f slot row
     by None e = absurd (no_some row (is ∙ ap (option_map row_of) e))
     by (Some h) e =
         record {
@@ -33,7 +33,7 @@ found f slot row is = by (get f.table.rows slot.0) refl
 module _ (f : Parts) (m : Machine) (view : machine_of f ≡ m) (stored : IsStored f) (table : IsTable f.table)
     (slot : Slot) (free : get f.weak.held slot.0 ≡ None) (row : Row)
     (is : Some row ≡ option_map row_of (get f.table.rows slot.0)) where
-  at : Found f slot row
+  at : FoundRow f slot row
   at = found f slot row is
 
   kind_use : kind_in_use (use_of m.state (block_of slot)) ≡ Some at.handle.kind

@@ -1,13 +1,13 @@
 -- A command of a store keeps it well formed, and what a store asks of a command is what its contents ask.
-use Rattle.hd_store.proofs.StoreWords.{Cmd, Entry, FinMap, HasHandles, HasLimits, IsOffer, IsValid, IsWellFormed, KeepsPlaces, Machine, MayRun, None, Numbers, Option, Slot, Some, State, T, empty, get, nat_cmp, nothing_at, refl, start_of, subst, sym, with_places, ℕ, ◌<◌, ◌≡◌}
+use Rattle.hd_store.proofs.StoreWords.{Cmd, Entry, FinMap, HasHandles, HasLimits, IsOffer, IsValid, IsWellFormed, KeepsPinned, Machine, MayRun, None, Numbers, Option, Slot, Some, State, T, empty, get, nat_cmp, nothing_at, refl, start_of, subst, sym, with_pinned, ℕ, ◌<◌, ◌≡◌}
 use Rattle.std.specs.Prelude.{IsSome}
 use Rattle.hd_model.proofs.{RunCounts.fresh, WellFormedSteps.step_keeps, WellFormedSteps.start_is_well_formed, WellFormedWrites.handle_register_keeps}
 use Rattle.hd_model.specs.State.{with_handle_register}
 use Rattle.hd_store.specs.Calls.{IsSound, StaysWithin}
 
 -- pinned addresses are no part of what makes a state well formed, where there are none
-pub unplaced : (n : Numbers) (s : State) (p : FinMap nat_cmp ℕ) → IsWellFormed n (with_places s p)
-    → IsWellFormed n (with_places s empty)
+pub unplaced : (n : Numbers) (s : State) (p : FinMap nat_cmp ℕ) → IsWellFormed n (with_pinned s p)
+    → IsWellFormed n (with_pinned s empty)
 unplaced n s p w = record {
   shape = record {
     registers = w.shape.registers;
@@ -25,7 +25,7 @@ unplaced n s p w = record {
     targets = w.names.targets;
     secondaries = w.names.secondaries;
     queue = w.names.queue;
-    places = λ id there. absurd (no_place id there);
+    pinned = λ id there. absurd (no_address id there);
     keys = w.names.keys;
     values = w.names.values;
   };
@@ -48,26 +48,26 @@ unplaced n s p w = record {
   weak = record { kinds = w.weak.kinds; apart = w.weak.apart; once = w.weak.once };
 }
   where
-    no_place : (id : ℕ) → IsSome (get (empty {X = ℕ} {R = nat_cmp}) id) → ⊥
-    no_place id there = by (get (empty {X = ℕ} {R = nat_cmp}) id) refl there
+    no_address : (id : ℕ) → IsSome (get (empty {X = ℕ} {R = nat_cmp}) id) → ⊥
+    no_address id there = by (get (empty {X = ℕ} {R = nat_cmp}) id) refl there
       where
         by : (o : Option ℕ) → get (empty {X = ℕ} {R = nat_cmp}) id ≡ o → IsSome o → ⊥
         by None is there = subst T (sym there) tt
-        by (Some place) is there = nothing_at id place is
+        by (Some address) is there = nothing_at id address is
 
-pub sound-after : (m k : Machine) (e : Entry) → IsSound m → KeepsPlaces m e k → IsSound k
+pub sound-after : (m k : Machine) (e : Entry) → IsSound m → KeepsPinned m e k → IsSound k
 sound-after m k e sound keeps =
     let moved = keeps empty (λ x at found. absurd (nothing_at x at found)) in record {
       limits = subst HasLimits (sym moved.numbers) sound.limits;
-      well_formed = subst (λ n. IsWellFormed n (with_places k.state empty)) (sym moved.numbers)
-          (unplaced m.numbers k.state moved.places (step_keeps m.numbers (with_places m.state empty)
-          (with_places k.state moved.places) e sound.well_formed moved.step));
+      well_formed = subst (λ n. IsWellFormed n (with_pinned k.state empty)) (sym moved.numbers)
+          (unplaced m.numbers k.state moved.pinned (step_keeps m.numbers (with_pinned m.state empty)
+          (with_pinned k.state moved.pinned) e sound.well_formed moved.step));
     }
 
 pub sound-at-first : (m : Machine) → HasLimits m.numbers → m.state ≡ start_of m.numbers → IsSound m
 sound-at-first m limits first = record {
   limits = limits;
-  well_formed = subst (λ s. IsWellFormed m.numbers (with_places s empty)) (sym first)
+  well_formed = subst (λ s. IsWellFormed m.numbers (with_pinned s empty)) (sym first)
       (start_is_well_formed m.numbers);
 }
 
@@ -77,7 +77,7 @@ pub sound-pointed : (m : Machine) (caller h : ℕ) (slot : Option Slot) → IsSo
 sound-pointed m caller h slot sound known = record {
   limits = sound.limits;
   well_formed = unplaced m.numbers (with_handle_register m.state caller h slot) empty
-      (handle_register_keeps m.numbers (with_places m.state empty) sound.well_formed caller h slot known);
+      (handle_register_keeps m.numbers (with_pinned m.state empty) sound.well_formed caller h slot known);
 }
 
 pub has-handles : (m : Machine) → IsSound m → HasHandles m.numbers m.state
@@ -102,6 +102,6 @@ may-run m number c offer sound caller valid may within =
       offer = may;
       serial = within.serial;
       fresh = λ d fields fin is.
-          fresh m.numbers (with_places m.state empty) number w (within.serial d fields fin is);
+          fresh m.numbers (with_pinned m.state empty) number w (within.serial d fields fin is);
       count = within.count;
     }

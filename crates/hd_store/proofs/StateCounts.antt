@@ -1,4 +1,4 @@
--- Objects, rows and words are as many by identity as by address.
+-- Objects, rows and cells are as many by identity as by address.
 use Rattle.hd_store.proofs.StoreWords.{Addr, Bool, FinMap, Handle, HasIdentities, Heap, Id, IsSome, List, None, Option, Placed, Some, T, [], ap, arith, cells_of, cond, entries, false, filter, from_entries, get, get-retain_keys, id_at, is_none, len, len-entries, length, length-map, map, nat_cmp, nat_cmp-IsAntisymmetric, not, objects_by_id, option_map, read_object, refl, rename_handle, retain_keys, rows_by_id, size_of, subst, suc, sum_by, sum_by-cons, sym, true, unheld, used_of, values, ℕ, ◌*◌, ◌+◌, ◌∙◌, ◌∷◌, ◌≡◌, ◌≤◌}
 use Rattle.hd_store.proofs.EntryMaps.{rekeyed, same_numbers, get-mapped, entries-retained}
 use Rattle.hd_store.proofs.EntrySums.{sum-fresh, fresh-rekeyed, len-rekeyed, len-mapped}
@@ -35,7 +35,7 @@ used-is h identities =
     (fresh-rekeyed (λ (p : Placed). p.id.0) (read_object h) h.objects (apart_by_number h identities))
     ∙ sum_read h (entries h.objects)
 
--- each object takes at least three words
+-- each object takes at least three cells
 cells_least : (es : List (ℕ × Placed)) → 3 * length es ≤ sum_by cells_of (map (λ e. e.1) es)
 cells_least [] = omega arith
 cells_least (e ∷ es) = let sum = sum_by-cons cells_of e.1 (map (λ w. w.1) es) in omega

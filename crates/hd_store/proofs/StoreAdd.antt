@@ -1,6 +1,6 @@
 -- One more object in a heap: the readings of all else stay.
 use Rattle.hd_store.proofs.StoreWords.{Addr, Contains, FinMap, Handle, HasIdentities, Heap, Id, IsField, IsSome, List, None, Option, Placed, Some, T, ap, entry_named, fields_in, get, get_beside, get_inserted, id_at, id_in, insert, is_object, is_some, map, names_of, nat_cmp, object_at, object_in, objects_by_id, option_map, read_object, refl, region_generation, region_of, rename_handle, rename_object, rows_by_id, secondary_of, subst, sym, true, weak_by_id, ℕ, ◌∙◌, ◌≡◌, insert_cases}
-use Rattle.hd_store.proofs.{EntryMaps.same_numbers, NamedAddresses.has-placed, EntryReadings.weak-get}
+use Rattle.hd_store.proofs.{EntryMaps.same_numbers, HeapCallReadings.has-placed, EntryReadings.weak-get}
 use Rattle.hd_store.proofs.NameAgreement.{object_agrees, handle_agrees}
 use Rattle.hd_model.proofs.SceneReadings.{list_agrees, names_agree, option_agrees}
 use Rattle.hd_store.proofs.IdentityReadings.{no_some, names-get, rows-get, put-beside, Puts, identities-put, objects-put}

@@ -1,10 +1,10 @@
 -- A collection of a store's parts is one of its state, and leaves a store.
-use Rattle.hd_store.proofs.StoreWords.{Addr, AreAddresses, BlockUse, Bool, Collected, Collects, CollectsState, FinMap, Handle, HasCollected, Heap, Id, IsCompactStore, IsPinned, IsSome, IsStored, IsTied, List, Machine, None, Option, Parts, Placed, Report, Scene, Some, Table, WeakTable, [], ap, arith, callers_of, cleared, cond, counts_named, drop, entry_named, false, get, get-retain_keys, has_object, id_at, id_in, is_none, is_pinned, is_some, kept_key, kept_places, length, live_at, not, length-map, machine_of, map, names_of, nat_cmp, nat_cmp-IsAntisymmetric, objects_by_id, one_dependent, one_extra, option_map, pinned_decides, pins, pins_renamed, refl, rename_handle, rest_of, row_at, rows_by_id, rows_of, same_Some, scene_of, state_of, subst, sum_by, swept, sym, take, true, true≢false, values, weak_by_id, with_places, ℕ, ◌++◌, ◌∙◌, ◌∷◌, ◌≡◌, ◌≤◌}
+use Rattle.hd_store.proofs.StoreWords.{Addr, AreAddresses, BlockUse, Bool, Collected, Collects, CollectsState, FinMap, Handle, HasCollected, Heap, Id, IsCompactStore, IsPinned, IsSome, IsStored, IsTied, List, Machine, None, Option, Parts, Placed, Report, Scene, Some, Table, WeakTable, [], ap, arith, callers_of, cleared, cond, counts_named, drop, entry_named, false, get, get-retain_keys, has_object, id_at, id_in, is_none, is_pinned, is_some, kept_key, kept_pinned, length, live_at, not, length-map, machine_of, map, names_of, nat_cmp, nat_cmp-IsAntisymmetric, objects_by_id, one_dependent, one_extra, option_map, pinned_decides, pins, pins_renamed, refl, rename_handle, rest_of, row_at, rows_by_id, rows_of, same_Some, scene_of, state_of, subst, sum_by, swept, sym, take, true, true≢false, values, weak_by_id, with_pinned, ℕ, ◌++◌, ◌∙◌, ◌∷◌, ◌≡◌, ◌≤◌}
 use Rattle.hd_model.specs.Compact.{IsCompact}
 use Rattle.hd_gc.specs.Ready.{parts, Parts as Lent}
 use Rattle.hd_store.proofs.EntryReadings.{handles-get, handle-get, handle-row, weak-get, tied-agrees}
 use Rattle.hd_store.proofs.EntrySweep.{attaching, IsLeft, left-row, swept-key, swept-entry, row-known}
-use Rattle.hd_store.proofs.{IdentityReadings.no_some, IdentityReadings.names-get, NamedAddresses.placed_is}
+use Rattle.hd_store.proofs.{IdentityReadings.no_some, IdentityReadings.names-get, HeapCallReadings.placed_is}
 use Rattle.hd_store.proofs.SceneReading.{rows-all, apart_here, scene_by_id, parts-read, scene-read}
 
 -- the parts after a collection
@@ -306,21 +306,21 @@ module _ {f : Parts} {l : Lent} {w : WeakTable} {n : ℕ} {report : Report} {bef
       (scene-read (left_parts f l w) stored-left) (by_rows, (refl, refl)))
 
   -- a pinned address that is kept
-  pub place-kept : (p : FinMap nat_cmp ℕ) (x : ℕ)
-      → get (kept_places (state_of f) p) x ≡ cond (is_pinned (state_of f).handles x) (get p x) None
-  place-kept p x =
+  pub address-kept : (p : FinMap nat_cmp ℕ) (x : ℕ)
+      → get (kept_pinned (state_of f) p) x ≡ cond (is_pinned (state_of f).handles x) (get p x) None
+  address-kept p x =
       get-retain_keys p (is_pinned (state_of f).handles) x
       (λ y same. ap (is_pinned (state_of f).handles) (sym (nat_cmp-IsAntisymmetric x y same)))
 
-  collects_state : (p : FinMap nat_cmp ℕ) → CollectsState n (with_places (state_of f) p)
-      (with_places (state_of (left_parts f l w)) (kept_places (state_of f) p)) report
+  collects_state : (p : FinMap nat_cmp ℕ) → CollectsState n (with_pinned (state_of f) p)
+      (with_pinned (state_of (left_parts f l w)) (kept_pinned (state_of f) p)) report
   collects_state p = record {
     scene = by_state.0;
     handles = λ slot. handles_left slot ∙ (λ i. option_map (cleared (sym by_state.1.0 i) (sym by_state.1.1 i))
         (get (state_of f).handles slot));
     weak = λ slot. weak_left slot
         ∙ (λ i. option_map (swept (sym by_state.1.1 i)) (get (state_of f).weak slot));
-    places = place-kept p;
+    pinned = address-kept p;
     registers = ap (rows_of (callers_of f)) named_same;
     statics = ap (rest_of (callers_of f)) named_same;
     handle_registers = refl;
@@ -359,10 +359,10 @@ module _ {f : Parts} {l : Lent} {w : WeakTable} {n : ℕ} {report : Report} {bef
       ∙ ap Some (sym (ap id_in (placed_is l.heap at left.0)) ∙ left.1 ∙ ap id_in mine.0 ∙ mine.1)
 
   addresses_left : (p : FinMap nat_cmp ℕ) → AreAddresses (names_of f.heap) p
-      → AreAddresses (names_of l.heap) (kept_places (state_of f) p)
+      → AreAddresses (names_of l.heap) (kept_pinned (state_of f) p)
   addresses_left p are x a is =
       let (pinned, was) = kept_if (is_pinned (state_of f).handles x) (get p x) a
-      (sym (place-kept p x) ∙ is) in
+      (sym (address-kept p x) ∙ is) in
       pinned_there a x pinned (are x a was)
 
   left_for : HasCollected (machine_of f) (machine_of (left_parts f l w)) n report
@@ -392,9 +392,9 @@ module _ {f : Parts} {l : Lent} {w : WeakTable} {n : ℕ} {report : Report} {bef
       report) view left_for
 
 -- a collection that ran out of memory may have taken free regions
-module _ (f : Parts) (spare : List ℕ) where
-  stored-spare : IsStored f → IsStored (record f { heap = record f.heap { spare = spare } })
-  stored-spare stored = record {
+module _ (f : Parts) (free : List ℕ) where
+  stored-free : IsStored f → IsStored (record f { heap = record f.heap { free = free } })
+  stored-free stored = record {
     whole = stored.whole;
     identities = stored.identities;
     ages = stored.ages;
@@ -408,14 +408,14 @@ module _ (f : Parts) (spare : List ℕ) where
     clumps = stored.clumps;
     blocks = stored.blocks;
     uses = stored.uses;
-    tied = λ slot key is. tied-agrees f (record f { heap = record f.heap { spare = spare } }) slot key
+    tied = λ slot key is. tied-agrees f (record f { heap = record f.heap { free = free } }) slot key
         (stored.tied slot key is) refl (λ x e. refl);
     same_blocks = stored.same_blocks;
   }
 
-  machine-spare : machine_of (record f { heap = record f.heap { spare = spare } }) ≡ machine_of f
+  machine-free : machine_of (record f { heap = record f.heap { free = free } }) ≡ machine_of f
   unfolding names_of objects_by_id rows_by_id weak_by_id
-  machine-spare = refl
+  machine-free = refl
 
 -- a slice of all items that was lent comes back whole
 pub lent : {A : Type 0} (xs ys : List A) (n : ℕ) → n ≡ length ys → length xs ≡ length ys
@@ -430,11 +430,11 @@ lent (x ∷ xs) (y ∷ ys) n e same =
 -- a collection that ran out of memory leaves all as it was, but that it may have taken free regions
 abbrev pub IsUncollected : Parts → Lent → ℕ → ℕ → Type 0
 IsUncollected f l before after =
-    (l.heap ≡ record f.heap { spare = l.heap.spare }) × (l.table ≡ f.table) × (l.ages ≡ f.ages)
+    (l.heap ≡ record f.heap { free = l.heap.free }) × (l.table ≡ f.table) × (l.ages ≡ f.ages)
     × (l.queue ≡ f.queue) × (l.roots ≡ f.roots) × (after ≡ before)
 
 module _ (f : Parts) (l : Lent) (before after : ℕ) (out : IsUncollected f l before after) where
-  parts_same : left_parts f l f.weak ≡ record f { heap = record f.heap { spare = l.heap.spare } }
+  parts_same : left_parts f l f.weak ≡ record f { heap = record f.heap { free = l.heap.free } }
   parts_same = λ i. record f {
     heap = out.0 i;
     table = out.1 i;
@@ -444,7 +444,7 @@ module _ (f : Parts) (l : Lent) (before after : ℕ) (out : IsUncollected f l be
   }
 
   pub stored-out : IsStored f → IsStored (left_parts f l f.weak)
-  stored-out stored = subst IsStored (sym parts_same) (stored-spare f l.heap.spare stored)
+  stored-out stored = subst IsStored (sym parts_same) (stored-free f l.heap.free stored)
 
   pub machine-out : machine_of (left_parts f l f.weak) ≡ machine_of f
-  machine-out = ap machine_of parts_same ∙ machine-spare f l.heap.spare
+  machine-out = ap machine_of parts_same ∙ machine-free f l.heap.free

@@ -1,8 +1,8 @@
 -- A new object of a store: what the machine sees, and that the store keeps what it keeps.
-use Rattle.hd_store.proofs.StoreWords.{Addr, Bool, Contains, HasNoEmptyRegion, Heap, Id, IsField, IsMade, IsObjectRefused, IsStored, KeepsNames, List, Machine, None, not_there, Object, Option, Parts, Placed, Queue, Region, Some, T, age_of, ap, arith, callers_of, cases_eq, cells_of, cond, fields_in, fresh_object, generation_at, generation_in, get, get_beside, get_inserted, get_or, id_at, identity_of, inl, inr, insert, insert_cases, is_carded, is_in_use, is_object, is_some, last_serial, len, len-insert, length, length-replicate, length-set, machine_of, map, max, names_of, nat_cmp_total, new_object, object_at, object_in, objects_by_id, option_map, read_object, refl, region_at, region_generation, region_of, replicate, rest_of, rows_of, same_address, set, share, state_of, subst, suc, sum-insert, sum_by, sym, total_size, true, unheld, unwrap_or, used_of, values, with_object, with_serial, without_spare, zero, ℕ, ◌+◌, ◌<◌, ◌∙◌, ◌∷◌, ◌≡◌, ◌≤◌, ◌⊎◌, write_cases}
+use Rattle.hd_store.proofs.StoreWords.{Addr, Bool, Contains, HasNoEmptyRegion, Heap, Id, IsField, IsMade, IsObjectRefused, IsStored, KeepsNames, List, Machine, None, not_there, Object, Option, Parts, Placed, Queue, Region, Some, T, age_of, ap, arith, callers_of, cases_eq, cells_of, cond, fields_in, fresh_object, generation_at, generation_in, get, get_beside, get_inserted, get_or, id_at, identity_of, inl, inr, insert, insert_cases, is_carded, is_in_use, is_object, is_some, last_serial, len, len-insert, length, length-replicate, length-set, machine_of, map, max, names_of, nat_cmp_total, new_object, object_at, object_in, objects_by_id, option_map, read_object, refl, region_at, region_generation, region_of, replicate, rest_of, rows_of, same_address, set, share, state_of, subst, suc, sum-insert, sum_by, sym, total_size, true, unheld, unwrap_or, used_of, values, with_object, with_serial, without_free, zero, ℕ, ◌+◌, ◌<◌, ◌∙◌, ◌∷◌, ◌≡◌, ◌≤◌, ◌⊎◌, write_cases}
 use Rattle.hd_heap.specs.{Calls.IsRefused as IsRefusedBy, declared.fault.NewFault.NewFault, declared.fault.NewFault.TheVariants.Full, declared.fault.NewFault.TheVariants.Memory}
 use Rattle.std.proofs.Math.Nat.{le-max_left, le-max_right}
-use Rattle.hd_store.proofs.{StateCounts.used-is, NamedAddresses.has-placed, QueueTake.stored-queued, EntryReadings.unheld-some, EntryReadings.tied-agrees}
+use Rattle.hd_store.proofs.{StateCounts.used-is, HeapCallReadings.has-placed, QueueTake.stored-queued, EntryReadings.unheld-some, EntryReadings.tied-agrees}
 use Rattle.hd_store.proofs.IdentityReadings.{no_some, names-get, objects-get}
 use Rattle.hd_store.proofs.StoreAdd.{Adds, placed, id-add, names-add, identities-add, roots-add, queue-add, rows-add, weak-add, objects-add}
 
@@ -33,7 +33,7 @@ module _ (f : Parts) (k : Heap) (at : Addr) (id : Id) (count : ℕ) (fin : Bool)
 
   put_at : k.objects ≡ insert f.heap.objects at.0 (new_object id count fin)
   put_at = ap (λ (g : Heap). g.objects) made.made
-      ∙ ap (λ a. insert f.heap.objects a (new_object id count fin)) (sym made.place)
+      ∙ ap (λ a. insert f.heap.objects a (new_object id count fin)) (sym made.address)
 
   -- an object that was there keeps its generation
   kept_generation : (b : Addr) → region_generation k (region_of b) ≡ region_generation f.heap (region_of b)
@@ -208,7 +208,7 @@ module _ (f : Parts) (k : Heap) (at : Addr) (id : Id) (count : ℕ) (fin : Bool)
       ≡ record (machine_of f) {
         state = record (with_object (state_of f) id (fresh_object count fin)) { serials = serials };
         names = insert (names_of f.heap) at.0 id;
-        heap = without_spare k;
+        heap = without_free k;
       }
   machine-made serials q is_queued = λ i. record {
     numbers = record { heap = limit_same i; blocks = f.table.blocks; callers = callers_of f };
@@ -231,13 +231,13 @@ module _ (f : Parts) (k : Heap) (at : Addr) (id : Id) (count : ℕ) (fin : Bool)
       board = f.board;
       queue = (ap (map (id_at k)) is_queued ∙ queue-add f.heap k at.0
           (new_object id count fin) adds f.queue.queued stored.whole.queue) i;
-      places = (state_of f).places;
+      pinned = (state_of f).pinned;
       blocks = f.table.uses;
       serials = serials;
     };
     names = names-add f.heap k at.0 (new_object id count fin) adds i;
     ages = f.ages;
-    heap = without_spare k;
+    heap = without_free k;
     table = f.table;
   }
 
@@ -274,7 +274,7 @@ module _ (f : Parts) (m : Machine) (view : machine_of f ≡ m) (stored : IsStore
         state = with_serial (with_object m.state (identity_of caller (last_serial m.state caller + 1))
             (fresh_object count fin)) caller (last_serial m.state caller + 1);
         names = insert m.names at.0 (identity_of caller (last_serial m.state caller + 1));
-        heap = without_spare k;
+        heap = without_free k;
       }
   machine-next =
       machine-made f k at id count fin stored made free (set f.serials caller serial) q is_queued
@@ -282,7 +282,7 @@ module _ (f : Parts) (m : Machine) (view : machine_of f ≡ m) (stored : IsStore
         state = with_serial (with_object (view i).state ((id_is ∙ ap (identity_of caller) last) i)
             (fresh_object count fin)) caller (last i);
         names = insert (view i).names at.0 ((id_is ∙ ap (identity_of caller) last) i);
-        heap = without_spare k;
+        heap = without_free k;
       })
 
 -- the queue with more room, or as it was

@@ -5,7 +5,7 @@ use Rattle.hd_model.proofs.{KindExtras.fits_dependent, MapEntries.none_from as n
 use Rattle.hd_seg.proofs.FunctionMaps.{at_most_one}
 use Rattle.hd_store.proofs.EntryMaps.{same_numbers}
 use Rattle.hd_store.proofs.IdentityReadings.{no_some, is_some-map, rows-get, names-are}
-use Rattle.hd_store.proofs.NamedAddresses.{known_object, some_or, generation-is}
+use Rattle.hd_store.proofs.HeapCallReadings.{known_object, some_or, generation-is}
 use Rattle.hd_store.proofs.EntryReadings.{handles-get, weak-get, unheld-put, unheld-end, weak-put, weak-end, tied-agrees}
 use Rattle.hd_model.specs.declared.data.Kind.TheVariants as kind
 use Rattle.hd_model.specs.declared.limits.TheConstants.{ROWS}

@@ -34,17 +34,17 @@ pub use Rattle.hd_model.specs.Ages.{HasSoundCards, age_of, clump_of, clumps_of, 
 pub use Rattle.hd_model.specs.Aging.{AgedRun, aged_by, lowered_at, lowered_by_new, lowered_to}
 pub use Rattle.hd_model.specs.Class.{class_of}
 pub use Rattle.hd_model.specs.Collect.{Collects, CollectsState, cleared, is_lost, swept}
-pub use Rattle.hd_model.specs.Command.{Outcome, reply_place, reply_with, entry_value, fresh_object, idle_slot, is_idle, refuses, slot_of_key, value_at}
+pub use Rattle.hd_model.specs.Command.{Outcome, reply_address, reply_with, entry_value, fresh_object, idle_slot, is_idle, refuses, slot_of_key, value_at}
 pub use Rattle.hd_model.specs.Heap.{HasIdentities, Heap, Placed, Region, card_of, cells_of, has_object, id_at, id_in, is_carded, is_in_use, object_at, object_in, placed_at, region_at, region_generation, used_of}
 pub use Rattle.hd_model.specs.Kinds.{is_kind, is_paired, kind_number, kind_of, secondary_register}
-pub use Rattle.hd_model.specs.Places.{IsFreePlace, MayReturn, Meet, is_pinned, range_at, with_places}
+pub use Rattle.hd_model.specs.PinnedAddresses.{IsFreeAddress, MayReturn, Meet, is_pinned, range_at, with_pinned}
 pub use Rattle.hd_model.specs.Reach.{IsPinned}
 pub use Rattle.hd_model.specs.Role.{Role, attaches, holds, long, pins, role, role_of, short}
 pub use Rattle.hd_model.specs.RootText.{held_by, held_of, root_id, root_in, roots_in, roots_of}
 pub use Rattle.hd_model.specs.Run.{Run, stay}
 pub use Rattle.hd_model.specs.Scene.{IsField, IsReading, Scene, fields_at, fields_in, generation_at, generation_in, is_object, joined, scene_of}
-pub use Rattle.hd_model.specs.State.{BlockUse, Extra, Handle, IsFree, Numbers, Object, State, WeakEntry, block_of, count, count_of, extra_data, field_of, first_slot, given_of, handle_at, handle_register_of, handles_of, identity_of, last_serial, nothing, object_by_id, register_of, rename_extra, rename_handle, rename_object, row_of, secondary, secondary_of, size_of, start_of, static_of, strength, total_size, use_of, weak_handle, with_handle, with_object, with_place, with_queue, with_register, with_serial, with_static, with_weak, without_handle, without_use}
-pub use Rattle.hd_model.specs.Step.{RepliesPlace, IsLeastUnused, IsOutcome, Step, StepOf, blocks_needed, pinned_by, pinned_target, with_growth}
+pub use Rattle.hd_model.specs.State.{BlockUse, Extra, Handle, IsFree, Numbers, Object, State, WeakEntry, block_of, count, count_of, extra_data, field_of, first_slot, given_of, handle_at, handle_register_of, handles_of, identity_of, last_serial, nothing, object_by_id, register_of, rename_extra, rename_handle, rename_object, row_of, secondary, secondary_of, size_of, start_of, static_of, strength, total_size, use_of, weak_handle, with_handle, with_object, with_address, with_queue, with_register, with_serial, with_static, with_weak, without_handle, without_use}
+pub use Rattle.hd_model.specs.Step.{RepliesAddress, IsLeastUnused, IsOutcome, Step, StepOf, blocks_needed, pinned_by, pinned_target, with_growth}
 pub use Rattle.hd_model.specs.Table.{IsGrowth, IsTable, Queue, Table, chain_of, empty_table, fits, fits_in, grown_by, is_secondary, is_single, kind_at, kind_in, live_at, row_at, with_row, without_block, without_row}
 pub use Rattle.hd_model.specs.Text.{collections_of, is_collect}
 pub use Rattle.hd_model.specs.Touched.{touched_by}
@@ -70,19 +70,19 @@ pub use Rattle.hd_seg.specs.Row.{extra_from, handle_of}
 pub use Rattle.hd_seg.specs.declared.row.Row.{Row}
 pub use Rattle.hd_commands.specs.Done.{done_of, entry_by}
 pub use Rattle.hd_commands.specs.Handles.{MayBeStored, extra_of, pinned_in}
-pub use Rattle.hd_store.specs.Commands.{HasRun, IsPlainStep, MayRun}
-pub use Rattle.hd_store.specs.Entries.{MayHaveEntry, entry_at}
-pub use Rattle.hd_store.specs.Growth.{GrowsBy, kind_in_use}
-pub use Rattle.hd_store.specs.Listing.{root_named}
-pub use Rattle.hd_store.specs.Making.{IsMadeHandle, IsPlace}
-pub use Rattle.hd_store.specs.Objects.{IsObjectRefused, object_named}
+pub use Rattle.hd_store.specs.Inside.{HasRun, IsPlainStep, MayRun}
+pub use Rattle.hd_store.specs.Inside.{MayHaveEntry, entry_at}
+pub use Rattle.hd_store.specs.{Inside.GrowsBy, Growth.kind_in_use}
+pub use Rattle.hd_store.specs.Inside.{root_named}
+pub use Rattle.hd_store.specs.Inside.{IsMadeHandle, IsSlotGiven}
+pub use Rattle.hd_store.specs.{Inside.IsObjectRefused, Objects.object_named}
 pub use Rattle.hd_store.specs.Offers.{Asks, GrowsFor, GrowsUnoffered, HasLimits, IsOffer, MayOffer, asks_of, block_back, handle_slot, no_room, object_room}
-pub use Rattle.hd_store.specs.Places.{AreAddresses, HasCollected, HasNames, HasPlace, KeepsNames, KeepsPlaces, Moves, kept_places}
+pub use Rattle.hd_store.specs.{PinnedAddresses.AreAddresses, PinnedAddresses.KeepsPinned, PinnedAddresses.Moves, Inside.HasCollected, Inside.HasNames, Inside.HasAddress, Inside.KeepsNames, Inside.kept_pinned}
 pub use Rattle.hd_store.specs.Reading.{IsNamed, entry_named, name_in, named_in, read_object, unheld}
 pub use Rattle.hd_store.specs.StateHeap.{IsCompactStore, IsOfHeap, IsOfTable, IsStoredAt, LeavesHeap}
-pub use Rattle.hd_store.specs.Store.{IsOverHeap, Machine, machine_of, seen_by, without_spare}
+pub use Rattle.hd_store.specs.Store.{IsOverHeap, Machine, machine_of, seen_by, without_free}
 pub use Rattle.hd_store.specs.StoreParts.{parts}
-pub use Rattle.hd_store.specs.Stored.{HasUses, IsStored, IsTied, Parts, callers_of, numbers_of, one_dependent, one_extra, scene_of_parts, state_of}
+pub use Rattle.hd_store.specs.{Inside.HasUses, Inside.IsStored, Inside.IsTied, Inside.one_dependent, Inside.one_extra, Inside.scene_of_parts, Stored.Parts, Stored.callers_of, Stored.numbers_of, Stored.state_of}
 pub use Rattle.hd_store.specs.Visited.{CollectedSteps, SearchSteps, TakesSteps, blocks_of, due_in, entries_beside, has_kind, key_register, looked_up, steps_by}
 pub use Rattle.hd_commands.specs.declared.done.Done.{Done}
 pub use Rattle.hd_store.specs.declared.contents.Contents.TheInside.{Inside}

@@ -1,8 +1,8 @@
 -- Another object with the same identity at an address of a store: what the machine sees, and that the store
 -- keeps what it keeps.
-use Rattle.hd_store.proofs.StoreWords.{Addr, Contains, HasNoEmptyRegion, HasSoundCards, Heap, Id, IsField, IsSome, IsStored, Machine, Object, Parts, Placed, Some, age_of, ap, arith, callers_of, cases_eq, cells_of, cond, fields_in, generation_at, generation_in, get, get_beside, get_inserted, has_object, inl, inr, insert, is_carded, is_in_use, is_object, is_some, len, len-insert, length, machine_of, map, name_in, nat_cmp_total, object_at, object_in, object_named, option_map, placed_at, read_object, refl, region_generation, region_of, rest_of, rows_of, same_address, share, state_of, subst, sum-insert, sum_by, sym, true, unheld, used_of, values, with_object, without_spare, ℕ, ◌+◌, ◌<◌, ◌∙◌, ◌≡◌, ◌≤◌, ◌⊎◌}
+use Rattle.hd_store.proofs.StoreWords.{Addr, Contains, HasNoEmptyRegion, HasSoundCards, Heap, Id, IsField, IsSome, IsStored, Machine, Object, Parts, Placed, Some, age_of, ap, arith, callers_of, cases_eq, cells_of, cond, fields_in, generation_at, generation_in, get, get_beside, get_inserted, has_object, inl, inr, insert, is_carded, is_in_use, is_object, is_some, len, len-insert, length, machine_of, map, name_in, nat_cmp_total, object_at, object_in, object_named, option_map, placed_at, read_object, refl, region_generation, region_of, rest_of, rows_of, same_address, share, state_of, subst, sum-insert, sum_by, sym, true, unheld, used_of, values, with_object, without_free, ℕ, ◌+◌, ◌<◌, ◌∙◌, ◌≡◌, ◌≤◌, ◌⊎◌}
 use Rattle.hd_heap.specs.Calls.{with_object as with_placed}
-use Rattle.hd_store.proofs.NamedAddresses.{in_heap, placed_is, object_is, identity-is, named_object}
+use Rattle.hd_store.proofs.HeapCallReadings.{in_heap, placed_is, object_is, identity-is, named_object}
 use Rattle.hd_store.proofs.IdentityReadings.{Replaces, ids-replace, names-replace, rows-replace, weak-replace, identities-replace, objects-replace}
 use Rattle.hd_store.proofs.EntryReadings.{tied-agrees}
 
@@ -162,7 +162,7 @@ module _ (f : Parts) (k : Heap) (at : Addr) (old new : Placed) (w : Writes f.hea
   pub machine-write : machine_of (with_heap f k)
       ≡ record (machine_of f) {
         state = with_object (state_of f) old.id (read_object f.heap at.0 new);
-        heap = without_spare k;
+        heap = without_free k;
       }
   machine-write =
       let h = f.heap in
@@ -179,13 +179,13 @@ module _ (f : Parts) (k : Heap) (at : Addr) (old new : Placed) (w : Writes f.hea
               rest_of (callers_of f) (map (option_map (ids-replace h k at.0 old new w.replaces i)) f.roots);
           board = f.board;
           queue = map (ids-replace h k at.0 old new w.replaces i) f.queue.queued;
-          places = (state_of f).places;
+          pinned = (state_of f).pinned;
           blocks = f.table.uses;
           serials = f.serials;
         };
         names = names-replace h k at.0 old new w.replaces i;
         ages = f.ages;
-        heap = without_spare k;
+        heap = without_free k;
         table = f.table;
       }
 
@@ -197,14 +197,14 @@ pub written : (f : Parts) (m : Machine) (view : machine_of f ≡ m) (stored : Is
     → machine_of (with_heap f k)
     ≡ record m {
       state = with_object m.state (name_in m.names at) (change (object_named m at));
-      heap = without_spare k;
+      heap = without_free k;
     }
 written f m view stored at known k new w change is =
     machine-write f k at (placed_at f.heap at) new w stored
     ∙ (λ i. record (view i) {
       state = with_object (view i).state (identity-is f m view stored at known i)
           ((is ∙ ap change (sym (named_object f m view stored at known))) i);
-      heap = without_spare k;
+      heap = without_free k;
     })
 
 -- a write that leaves the fields and the cards
@@ -232,7 +232,7 @@ pub written-beside : (f : Parts) (m : Machine) → machine_of f ≡ m → IsStor
     → (k : Heap) → k ≡ with_placed f.heap at new → IsStored (with_heap f k) × (machine_of (with_heap f k)
     ≡ record m {
       state = with_object m.state (name_in m.names at) (change (object_named m at));
-      heap = without_spare k;
+      heap = without_free k;
     })
 written-beside f m view stored at known new same fields change is k made =
     let w : Writes f.heap k at (placed_at f.heap at) new =

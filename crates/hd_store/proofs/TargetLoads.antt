@@ -1,9 +1,9 @@
 -- A load of the target of a live handle is what an `hget` does by a handle register that has its slot.
-use Rattle.hd_store.proofs.StoreWords.{HasRun, Id, cond, empty, with_places, IsOverHeap, IsPlainStep, List, Machine, MayRun, None, Option, Some, Slot, ap, arith, handle_at, inl, option_map, refl, subst, sym, ℕ, ◌<◌, ◌∙◌, ◌≡◌}
+use Rattle.hd_store.proofs.StoreWords.{HasRun, Id, cond, empty, with_pinned, IsOverHeap, IsPlainStep, List, Machine, MayRun, None, Option, Some, Slot, ap, arith, handle_at, inl, option_map, refl, subst, sym, ℕ, ◌<◌, ◌∙◌, ◌≡◌}
 use Rattle.hd_model.specs.declared.command.Cmd.TheVariants as cmd
 use Rattle.hd_model.specs.declared.limits.TheConstants.{REGISTERS}
 use Rattle.hd_model.specs.declared.data.Refusal.TheVariants as refusal
-use Rattle.hd_model.specs.Command.{Outcome, get_target, loaded, refuses, reply_with}
+use Rattle.hd_model.specs.Command.{Outcome, get_target, load_reply, refuses, reply_with}
 use Rattle.hd_model.specs.{Aging.is_refused, Step.IsOutcome, WellFormed.Names}
 use Rattle.std.specs.Option.{option_map_or}
 use Rattle.hd_model.proofs.{ReadAfterWrite.cell_here, WellFormedWrites.register_keeps}
@@ -19,7 +19,7 @@ over-pointed m caller slot over = record {
   heap = record {
     objects = over.heap.objects;
     identities = over.heap.identities;
-    places = over.heap.places;
+    pinned = over.heap.pinned;
     cards = over.heap.cards;
   };
   table = record { rows = over.table.rows; uses = over.table.uses };
@@ -33,7 +33,7 @@ over-loaded m caller d target over = record {
   heap = record {
     objects = over.heap.objects;
     identities = over.heap.identities;
-    places = over.heap.places;
+    pinned = over.heap.pinned;
     cards = over.heap.cards;
   };
   table = record { rows = over.table.rows; uses = over.table.uses };
@@ -65,18 +65,18 @@ module _ (m : Machine) (caller d : ℕ) (slot : Slot) (target : Option Id) (soun
       by (Some h) some at = (h, some, cc at)
 
   outcome : get_target asking.state caller d 0
-      ≡ reply_with (loaded target) (with_register asking.state caller d target)
+      ≡ reply_with (load_reply target) (with_register asking.state caller d target)
   outcome =
       ap (λ o. option_map_or (λ at. option_map_or (act at) (handle_at m.state at) not_live) o
       (refuses refusal.EmptyRegister asking.state)) named
       ∙ ap (λ o. option_map_or (act slot) o not_live) found.1
-      ∙ ap (λ t. reply_with (loaded t) (with_register asking.state caller d t)) found.2
+      ∙ ap (λ t. reply_with (load_reply t) (with_register asking.state caller d t)) found.2
     where
       not_live : Outcome
       not_live = refuses refusal.NotLive asking.state
 
       act : Slot → Handle Id → Outcome
-      act at h = reply_with (loaded h.target) (with_register asking.state caller d h.target)
+      act at h = reply_with (load_reply h.target) (with_register asking.state caller d h.target)
 
   may : MayRun asking caller (cmd.HGet d 0) None
   may =
@@ -84,7 +84,7 @@ module _ (m : Machine) (caller d : ℕ) (slot : Slot) (target : Option Id) (soun
       (low, omega arith) tt (record { serial = λ x fields fin same. absurd (cc same); count = λ h same. absurd (cc same) })
 
   -- a load leaves the ages
-  unaged : (t : Option Id) (ages : List ℕ) → ages ≡ cond (is_refused (loaded t)) ages ages
+  unaged : (t : Option Id) (ages : List ℕ) → ages ≡ cond (is_refused (load_reply t)) ages ages
   unaged None ages = refl
   unaged (Some x) ages = refl
 
@@ -118,7 +118,7 @@ module _ (m : Machine) (caller d : ℕ) (slot : Slot) (target : Option Id) (soun
         offer = kept.offer;
         growth = kept.growth;
         addresses = record {
-          returned = λ h place x. returns-stored asking after e kept.effect before now x place h;
+          returned = λ h address x. returns-stored asking after e kept.effect before now x address h;
           pinned = keeps-pinned asking after e kept.effect before now;
           others = λ plain x a. keeps-address asking after e kept.effect before now x a (inl plain);
         };
@@ -128,7 +128,7 @@ module _ (m : Machine) (caller d : ℕ) (slot : Slot) (target : Option Id) (soun
   sound_on = record {
     limits = sound.limits;
     well_formed = unplaced m.numbers (with_register m.state caller d target) empty
-        (register_keeps m.numbers (with_places m.state empty) sound.well_formed caller d target known
-        (subst (Names (with_places m.state empty)) found.2
+        (register_keeps m.numbers (with_pinned m.state empty) sound.well_formed caller d target known
+        (subst (Names (with_pinned m.state empty)) found.2
         (sound.well_formed.names.targets slot.0 found.0 found.1)));
   }

@@ -1,17 +1,17 @@
 -- What a call of a store takes, and what it comes to.
 use Rattle.std.specs.Prelude.{◌≡◌, ℕ, ◌+◌, ◌<◌, ◌^◌, Bool, Option, None}
 use Rattle.std.specs.{Option.ForSome, FinMap.empty}
-use Rattle.hd_model.specs.{declared.data.Entry.Entry, declared.data.Id.Id, declared.data.Slot.Slot, declared.data.Grown.TheVariants.Zero, declared.command.Cmd.Cmd, Command.loaded, Places.with_places, Valid.IsValid, WellFormed.IsWellFormed}
+use Rattle.hd_model.specs.{declared.data.Entry.Entry, declared.data.Id.Id, declared.data.Slot.Slot, declared.data.Grown.TheVariants.Zero, declared.command.Cmd.Cmd, Command.load_reply, PinnedAddresses.with_pinned, Valid.IsValid, WellFormed.IsWellFormed}
 use Rattle.hd_model.specs.declared.command.Cmd.TheVariants as cmd
 use Rattle.hd_model.specs.State.{State, last_serial, with_handle_register}
 use Rattle.hd_commands.specs.Counts.{MayCountUp}
-use Rattle.hd_store.specs.{Places.KeepsPlaces, StateHeap.KeepsStored, Store.Machine}
+use Rattle.hd_store.specs.{PinnedAddresses.KeepsPinned, StateHeap.KeepsStored, Store.Machine}
 use Rattle.hd_store.specs.Offers.{HasLimits, IsOffer, GrowsUnoffered, Takes}
 
 -- what is so of every store: its numbers are within the limits, and its state is well formed
 pub record IsSound (m : Machine) : Type 0 where
   pub limits : HasLimits m.numbers
-  pub well_formed : IsWellFormed m.numbers (with_places m.state empty)
+  pub well_formed : IsWellFormed m.numbers (with_pinned m.state empty)
 
 -- the serial of a new object, and a count that rises, are below the ends of their types
 pub record StaysWithin (s : State) (caller : ℕ) (c : Cmd) : Type 0 where
@@ -29,7 +29,7 @@ load_entry caller d target = record {
   cmd = cmd.HGet d 0;
   slot = None;
   grown = Zero;
-  reply = loaded target;
+  reply = load_reply target;
 }
 
 -- what a command of a caller asks of a store
@@ -48,7 +48,7 @@ pub record MayCall (m : Machine) (number : ℕ) (c : Cmd) (offered : Option Slot
 pub record HasCalled (old : Machine) (caller : ℕ) (command_is : Cmd) (offered : Option Slot) (new : Machine)
     (e : Entry) : Type 0 where
   pub command : (e.caller ≡ caller) × (e.cmd ≡ command_is)
-  pub effect : KeepsPlaces old e new
+  pub effect : KeepsPinned old e new
   pub offer : ForSome offered (Takes old.state caller e command_is)
   pub growth : GrowsUnoffered old.numbers old.state caller command_is offered e
   pub addresses : KeepsStored e old.state old.heap new.heap

@@ -11,7 +11,7 @@ use Rattle.hd_model.specs.State.{Numbers, State, given_of, total_size, block_of,
 use Rattle.hd_model.specs.declared.data.Kind.TheVariants as kinds
 use Rattle.hd_model.specs.Command.{Adding, is_refused, in_idle, in_new, adding_of}
 
--- the numbers of each store, and so of each world: a heap of 3 to HEAP words, 1 to BLOCKS blocks, and 1 to
+-- the numbers of each store, and so of each world: a heap of 3 to HEAP cells, 1 to BLOCKS blocks, and 1 to
 -- CALLERS callers
 pub record HasLimits (n : Numbers) : Type 0 where
   pub heap : (3 ≤ n.heap) × (n.heap ≤ HEAP)
@@ -45,7 +45,7 @@ class_asks adding (class.StoresSecondary h) = no_room
 class_asks adding class.Frees = no_room
 class_asks adding (class.GivesBack kind) = block_back kind
 class_asks adding (class.Collects n) = no_room
-class_asks adding (class.RepliesPlace h) = no_room
+class_asks adding (class.RepliesAddress h) = no_room
 class_asks adding (class.AddsEntry k v) =
     cond (needs_new (adding k)) (handle_slot kinds.Dependent) no_room
 class_asks adding (class.LooksUp k) = no_room

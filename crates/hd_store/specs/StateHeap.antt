@@ -20,7 +20,7 @@ IsStoredAt h x address = option_map (λ (p : Placed). p.id) (get h.objects addre
 pub record IsOfHeap (s : State) (h : Heap) : Type 0 where
   pub objects : s.objects ≡ objects_by_id h
   pub identities : HasIdentities h
-  pub places : (x place : ℕ) → get s.places x ≡ Some place → IsStoredAt h (record { 0 = x }) place
+  pub pinned : (x address : ℕ) → get s.pinned x ≡ Some address → IsStoredAt h (record { 0 = x }) address
   pub cards : HasSoundCards (object_at h) (is_carded h)
 
 -- a state is that of a table: with each address read as the identity there, the row of a slot is its handle,
@@ -34,8 +34,8 @@ pub record IsOfTable (s : State) (h : Heap) (t : Table) : Type 0 where
 -- keeps its address where a handle pins it, and each object does where the entry is of no collection
 pub record KeepsStored (e : Entry) (s : State) (old new : Heap) : Type 0 where
   pub returned :
-      (h place : ℕ) (x : Id) → e.cmd ≡ cmd.AddrOf h → e.reply ≡ reply.Place place
-      → pinned_target s e.caller h ≡ Some x → IsStoredAt new x place
+      (h address : ℕ) (x : Id) → e.cmd ≡ cmd.AddrOf h → e.reply ≡ reply.Place address
+      → pinned_target s e.caller h ≡ Some x → IsStoredAt new x address
   pub pinned :
       (x : Id) (address : ℕ) → IsPinned (λ slot. get s.handles slot) x
       → IsStoredAt old x address → IsStoredAt new x address

@@ -10,8 +10,8 @@ use Rattle.hd_store.specs.Stored.{Parts, numbers_of, state_of}
 use Rattle.hd_store.specs.{Reading.names_of, StateHeap.IsOfHeap, StateHeap.IsOfTable}
 
 -- a heap without its free regions, on which no result depends
-abbrev pub without_spare : Heap → Heap
-without_spare h = record h { spare = [] }
+abbrev pub without_free : Heap → Heap
+without_free h = record h { free = [] }
 
 -- the numbers of a run, the state of its machine without pinned addresses, the identity at each address that
 -- has an object, the ages of the clumps, the heap by address, and the table by slot
@@ -29,7 +29,7 @@ machine_of f = record {
   state = state_of f;
   names = names_of f.heap;
   ages = f.ages;
-  heap = without_spare f.heap;
+  heap = without_free f.heap;
   table = f.table;
 }
 

@@ -2,7 +2,7 @@
 // finalization, and what handles hold.
 ghost use Rattle.std.specs.Prelude.{◌≡◌, ◌*◌, ◌≤◌, ◌++◌, drop, flat_map, length, map, IfOk, OnOk};
 ghost use Rattle.std.specs.Option.{option_to_list};
-ghost use Rattle.hd_store.specs.Anchors.{anchor_list, place_of};
+ghost use Rattle.hd_store.specs.Inside.{anchor_list, address_of};
 
 use hd_final::Final;
 use hd_model::limits::REGISTERS;
@@ -59,7 +59,7 @@ fn add_queued(anchors: &mut Vec<Addr>, queue: &Final) -> Result<(), Memory>
 
 // Adds what handles hold.
 fn add_held(anchors: &mut Vec<Addr>, held: &[Root]) -> Result<(), Memory>
-    ensures { OnOk result (anchors.new.items ≡ anchors.old.items ++ map place_of held.now) }
+    ensures { OnOk result (anchors.new.items ≡ anchors.old.items ++ map address_of held.now) }
 {
     for root in held {
         add(anchors, Some(root.at))?;

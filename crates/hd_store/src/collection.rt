@@ -4,7 +4,7 @@ ghost use Rattle.std.specs.FinMap.{get};
 ghost use Rattle.hd_cwt.specs.WeakTable.{kept_key};
 ghost use Rattle.hd_model.specs.declared.command.Cmd.TheVariants as cmds;
 ghost use Rattle.hd_commands.specs.Done.{entry_by};
-ghost use Rattle.hd_store.specs.{Places.HasCollected, Places.KeepsPlaces, Visited.CollectedSteps, Visited.TakesSteps};
+ghost use Rattle.hd_store.specs.{Inside.HasCollected, PinnedAddresses.KeepsPinned, Visited.CollectedSteps, Visited.TakesSteps};
 
 use crate::contents::Contents;
 use hd_commands::Done;
@@ -70,7 +70,7 @@ pub(crate) fn collect_up_to<L: Ledger>(
     requires caller { caller < store.old.numbers.callers }
     requires generation { n ≤ OLDEST }
     ensures { let c = cmds.Collect n in MatchResult result
-        (λ done. KeepsPlaces store.old (entry_by caller c done) store.new
+        (λ done. KeepsPinned store.old (entry_by caller c done) store.new
         × TakesSteps store.old.state store.old.ages (entry_by caller c done) steps.old steps.new)
         (λ _. (store.new ≡ store.old) × (steps.new ≡ steps.old)) }
 {

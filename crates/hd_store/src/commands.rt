@@ -2,11 +2,11 @@
 ghost use Rattle.std.specs.Prelude.{◌≡◌, false, None, MatchResult};
 ghost use Rattle.hd_model.specs.{Class.class_of, Touched.touched_by};
 ghost use Rattle.hd_commands.specs.Done.{done_of, entry_by};
-ghost use Rattle.hd_store.specs.Commands.{MayRun, HasRun, IsPlainStep};
-ghost use Rattle.hd_store.specs.{Places.KeepsPlaces, Visited.key_register, Visited.TakesSteps, Offers.RanOut};
+ghost use Rattle.hd_store.specs.Inside.{MayRun, HasRun, IsPlainStep};
+ghost use Rattle.hd_store.specs.{PinnedAddresses.KeepsPinned, Visited.key_register, Visited.TakesSteps, Offers.RanOut};
 
 use crate::contents::Contents;
-use crate::{collection, making, on_entries, places, rooting};
+use crate::{collection, making, on_entries, pinned_addresses, rooting};
 use hd_commands::{Done, entry_of, on_handles, on_objects};
 use hd_model::{Cmd, Entry, Memory, Refusal, Slot, Steps};
 use std::sync::ledger::Ledger;
@@ -21,7 +21,7 @@ fn carry_out(
     offer: Option<Slot>,
 ) -> Result<Result<Done, Refusal>, Memory>
     requires may { MayRun store.old caller cmd offer }
-    requires plain { (touched_by cmd).places ≡ false }
+    requires plain { (touched_by cmd).pinned ≡ false }
     requires no_key { key_register (class_of cmd) ≡ None }
     ensures done { let m = store.old in let k = store.new in
         MatchResult result (λ done. let e = entry_by caller cmd (done_of done) in
@@ -77,7 +77,7 @@ pub(crate) fn run<L: Ledger>(
 ) -> Result<Entry, Memory>
     requires { MayRun store.old caller cmd offer }
     ensures { let m = store.old in let k = store.new in
-        MatchResult result (λ e. HasRun m caller cmd offer e (KeepsPlaces m e k)
+        MatchResult result (λ e. HasRun m caller cmd offer e (KeepsPinned m e k)
         × TakesSteps m.state m.ages e steps.old steps.new)
         (λ _. RanOut m.numbers m.state cmd m k × (steps.new ≡ steps.old)) }
 {
@@ -86,7 +86,11 @@ pub(crate) fn run<L: Ledger>(
         return Ok(entry_of(caller, cmd, Ok(done)));
     }
     if let Cmd::AddrOf { s } = cmd {
-        return Ok(entry_of(caller, cmd, places::reply_place(store, caller, s)));
+        return Ok(entry_of(
+            caller,
+            cmd,
+            pinned_addresses::reply_address(store, caller, s),
+        ));
     }
     if let Cmd::CAdd { k, v } = cmd {
         let done = on_entries::add_entry(store, caller, k, v, offer, steps);

@@ -4,7 +4,7 @@ ghost use Rattle.hd_model.specs.State.{Numbers, start_of, given_of, last_serial,
 ghost use Rattle.hd_model.specs.Heap.{has_object, object_at};
 ghost use Rattle.hd_model.specs.{Scene.IsField, declared.data.Addr.Addr};
 ghost use Rattle.hd_plan.specs.Plan.{HasNoEmptyRegion};
-ghost use Rattle.hd_store.specs.{Store.IsOverHeap, Store.without_spare};
+ghost use Rattle.hd_store.specs.{Store.IsOverHeap, Store.without_free};
 
 use hd_ages::AgeMap;
 use hd_cwt::Cwt;
@@ -17,12 +17,12 @@ use std::alloc::Global;
 use std::marker::Model;
 
 // A caller's registers of either sort, and as many statics and entries of the board.
-pub(crate) const PLACES: usize = REGISTERS as usize;
+pub(crate) const INDEXES: usize = REGISTERS as usize;
 
 /// The contents of a store: the state of the machine, with the ages of the clumps. Objects are
 /// referenced by address.
 #[derive(Drop)]
-pub(crate) struct Contents {
+pub struct Contents {
     pub(crate) alloc: Global,
     pub(crate) heap: Heap,
     pub(crate) table: Seg,
@@ -31,14 +31,14 @@ pub(crate) struct Contents {
     pub(crate) queue: Final,
     // What the object registers of each caller in turn reference, and then the statics.
     pub(crate) roots: Vec<Option<Addr>>,
-    pub(crate) handle_registers: Vec<[Option<Slot>; PLACES]>,
-    pub(crate) board: [Option<Slot>; PLACES],
+    pub(crate) handle_registers: Vec<[Option<Slot>; INDEXES]>,
+    pub(crate) board: [Option<Slot>; INDEXES],
     pub(crate) serials: Vec<u32>,
 }
 
 impl Model for Contents {
     ghost use Rattle.hd_store.specs.Store.{Machine, machine_of, machine_code};
-    ghost use Rattle.hd_store.specs.{Stored.IsStored, StoreParts.parts};
+    ghost use Rattle.hd_store.specs.{Inside.IsStored, StoreParts.parts};
 
     ghost Value = { Machine };
 
@@ -75,14 +75,14 @@ impl Contents {
             weak: Cwt::open(alloc, blocks)?,
             queue: Final::open(alloc)?,
             roots: filled(alloc, None, REGISTERS * callers + REGISTERS)?,
-            handle_registers: filled(alloc, [None; PLACES], callers)?,
-            board: [None; PLACES],
+            handle_registers: filled(alloc, [None; INDEXES], callers)?,
+            board: [None; INDEXES],
             serials: filled(alloc, 0, callers)?,
         })
     }
 
     /// The number of objects, reachable or not.
-    pub(crate) fn objects(&self) -> u32
+    pub fn objects(&self) -> u32
         ensures value { result ≡ len self.now.state.objects }
         ensures heap { IsOverHeap self.now }
     {
@@ -90,21 +90,21 @@ impl Contents {
     }
 
     /// The cells that all objects take together.
-    pub(crate) fn cells(&self) -> u32
+    pub fn cells(&self) -> u32
         ensures { result ≡ total_size self.now.state }
     {
         self.heap.used()
     }
 
     /// The number of objects that are queued for finalization.
-    pub(crate) fn queued(&self) -> u32
+    pub fn queued(&self) -> u32
         ensures { result ≡ length self.now.state.queue }
     {
         self.queue.len()
     }
 
     /// The serial of the last object that a caller made, 0 where it made none.
-    pub(crate) fn last_serial(&self, caller: u32) -> u32
+    pub fn last_serial(&self, caller: u32) -> u32
         requires { caller < self.now.numbers.callers }
         ensures { result ≡ last_serial self.now.state caller }
     {
@@ -112,7 +112,7 @@ impl Contents {
     }
 
     /// The cells that all objects may take together.
-    pub(crate) fn limit(&self) -> u32
+    pub fn limit(&self) -> u32
         ensures { result ≡ self.now.numbers.heap }
     {
         self.heap.limit()
@@ -127,14 +127,14 @@ impl Contents {
     }
 
     /// The number of blocks that have a use.
-    pub(crate) fn given(&self) -> u32
+    pub fn given(&self) -> u32
         ensures { result ≡ given_of self.now.state }
     {
         self.table.given()
     }
 
     /// The number of blocks that the table has at most.
-    pub(crate) fn blocks(&self) -> u32
+    pub fn blocks(&self) -> u32
         ensures value { result ≡ self.now.numbers.blocks }
         ensures table { result ≡ self.now.table.blocks }
     {
@@ -142,15 +142,16 @@ impl Contents {
     }
 
     /// The table.
-    pub(crate) fn table(&self) -> &Seg
+    pub fn table(&self) -> &Seg
         ensures { result.now ≡ self.now.table }
     {
         &self.table
     }
 
-    /// The heap. Each of its references is to an object, and each region in use has one.
-    pub(crate) fn heap(&self) -> &Heap
-        ensures value { without_spare result.now ≡ self.now.heap }
+    /// The heap, of which the contents' value leaves out the free regions. Each of its references
+    /// is to an object, and each region in use has one.
+    pub fn heap(&self) -> &Heap
+        ensures value { without_free result.now ≡ self.now.heap }
         ensures whole { (x y : Addr) → IsField (object_at result.now) x y
             → has_object result.now y ≡ true }
         ensures full { HasNoEmptyRegion result.now }
@@ -159,7 +160,7 @@ impl Contents {
     }
 
     /// The ages of the clumps.
-    pub(crate) fn ages(&self) -> &AgeMap
+    pub fn ages(&self) -> &AgeMap
         ensures value { result.now ≡ self.now.ages }
         ensures clumps { CLUMPS * self.now.numbers.blocks ≡ length self.now.ages }
     {
@@ -167,7 +168,7 @@ impl Contents {
     }
 
     /// The number of live handles, without the slots that the weak table holds.
-    pub(crate) fn live(&self) -> u32
+    pub fn live(&self) -> u32
         ensures { result ≡ len self.now.state.handles }
     {
         self.table.live() - self.weak.held_count()

@@ -5,7 +5,7 @@ ghost use Rattle.hd_model.specs.declared.data.Kind.TheVariants as kind;
 ghost use Rattle.hd_model.specs.State.{with_weak, block_of, IsFree};
 ghost use Rattle.hd_model.specs.Command.{slot_of_key, idle_slot, value_at};
 ghost use Rattle.hd_store.specs.Reading.{name_in, named_in, IsNamed};
-ghost use Rattle.hd_store.specs.Entries.{entry_at, MayHaveEntry, HasNoEntry};
+ghost use Rattle.hd_store.specs.Inside.{entry_at, MayHaveEntry, HasNoEntry};
 ghost use Rattle.hd_store.specs.{Info.entry_seen, Visited.SearchSteps};
 
 use crate::contents::Contents;
@@ -53,7 +53,7 @@ impl Contents {
 
     /// What the weak table has in a slot, if it holds the slot: an entry, or none where the slot is
     /// idle. The slot may be any number.
-    pub(crate) fn entry(&self, slot: Slot) -> Option<Option<EntryInfo>>
+    pub fn entry(&self, slot: Slot) -> Option<Option<EntryInfo>>
         ensures { get self.now.state.weak slot.0 ≡ option_map (option_map entry_seen) result }
     {
         if !self.weak.held(slot) {

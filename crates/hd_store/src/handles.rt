@@ -5,7 +5,7 @@ ghost use Rattle.hd_store.specs.{Reading.name_in, Reading.named_in, Reading.IsNa
 ghost use Rattle.hd_model.specs.declared.data.Id.{Id};
 ghost use Rattle.hd_model.specs.State.{Handle as Held, rename_extra, secondary_of, handle_at, use_of, given_of, without_use, with_handle, block_of, IsFree, IsAllFree};
 ghost use Rattle.hd_model.specs.{Kinds.is_paired, Step.blocks_needed, Step.with_growth};
-ghost use Rattle.hd_store.specs.{Growth.GrowsBy, Growth.kind_in_use};
+ghost use Rattle.hd_store.specs.{Inside.GrowsBy, Growth.kind_in_use};
 
 use crate::contents::Contents;
 use hd_commands::{Extra, Handle, Parts};
@@ -15,7 +15,7 @@ use hd_seg::{BlockKind, Full, Row};
 
 impl Contents {
     /// The kind of the block of a slot, if it has handles. The slot may be any number.
-    pub(crate) fn kind_of(&self, slot: Slot) -> Option<Kind>
+    pub fn kind_of(&self, slot: Slot) -> Option<Kind>
         ensures { result ≡ kind_in_use (use_of self.now.state (block_of slot)) }
     {
         let block = slot.0 / ROWS;
@@ -28,7 +28,8 @@ impl Contents {
         }
     }
 
-    /// The target of the handle in a slot, if the slot is live and not one that the weak table holds.
+    /// The target of the handle in a slot, if the slot is live and not one that the weak table
+    /// holds.
     #[inline(always)]
     pub(crate) fn target_in(&self, slot: Slot) -> Option<Option<Addr>>
         ensures value { option_map (λ (h : Held Id). h.target) (handle_at self.now.state slot)

@@ -14,10 +14,11 @@ mod making;
 mod objects;
 mod on_entries;
 mod parts;
-mod places;
+mod pinned_addresses;
 mod rooting;
 mod store;
 
+pub use contents::Contents;
 pub use hd_commands::{Extra as ExtraInfo, Handle as HandleInfo};
 pub use info::EntryInfo;
 pub use store::Store;

@@ -2,7 +2,7 @@
 ghost use Rattle.std.specs.Prelude.{◌≡◌, All, map, true, IfOk};
 ghost use Rattle.hd_model.specs.{Heap.has_object, RootText.roots_of};
 ghost use Rattle.hd_scan.specs.Gathering.{roots_of as table_roots_of};
-ghost use Rattle.hd_store.specs.Listing.{root_named};
+ghost use Rattle.hd_store.specs.Inside.{root_named};
 
 use crate::contents::Contents;
 use hd_heap::Heap;
@@ -11,8 +11,9 @@ use hd_scan::Root;
 use std::alloc::{AllocError, Global};
 
 impl Contents {
-    /// The roots of the table, which are given by address, with their objects by identity.
-    pub(crate) fn named_roots(&self, alloc: Global, roots: &[Root]) -> Result<Vec<RootId>, Memory>
+    /// The roots of the table, which are given by address, with their objects by identity. It takes
+    /// memory for them.
+    pub fn named_roots(&self, alloc: Global, roots: &[Root]) -> Result<Vec<RootId>, Memory>
         requires { roots.now ≡ table_roots_of self.now.table }
         ensures { IfOk result (λ named. named.items ≡ roots_of self.now.state) }
     {

@@ -1,13 +1,14 @@
-// `new`, `hnew` and `trim`: objects and handles are made, and blocks come into use and go out of it.
+// `new`, `hnew` and `trim`: objects and handles are made, and blocks come into use and go out of
+// it.
 ghost use Rattle.std.specs.Prelude.{◌≡◌, ℕ, ◌+◌, ◌*◌, ◌<◌, ◌≤◌, ◌^◌, Some, None, false, IfOk, IfErr, IfSome, OnErr, OnSome};
 ghost use Rattle.hd_model.specs.declared.command.Cmd.TheVariants as cmds;
 ghost use Rattle.hd_model.specs.{Kinds.kind_of, Kinds.is_paired, Step.blocks_needed, Valid.IsValidMake, WellFormed.HasHandles, WellFormed.HasWeakTable, Aging.lowered_by_new, Aging.lowered_to};
 ghost use Rattle.std.specs.FinMap.{get};
 ghost use Rattle.hd_model.specs.Command.{new_object};
 ghost use Rattle.hd_model.specs.State.{given_of, block_of, first_slot, identity_of, last_serial, total_size, IsFree, IsAllFree};
-ghost use Rattle.hd_store.specs.{Reading.named_in, Reading.IsNamed, Places.KeepsNames, Store.seen_by, Making.IsPlace, Making.IsMadeHandle, Offers.IsOffer};
+ghost use Rattle.hd_store.specs.{Reading.named_in, Reading.IsNamed, Store.seen_by, Offers.IsOffer, Inside.KeepsNames, Inside.IsSlotGiven, Inside.IsMadeHandle};
 ghost use Rattle.hd_commands.specs.Done.{done_of, entry_by, ComesTo};
-ghost use Rattle.hd_store.specs.Commands.{HasRun, IsPlainStep};
+ghost use Rattle.hd_store.specs.Inside.{HasRun, IsPlainStep};
 
 use crate::contents::Contents;
 use hd_commands::{Done, Extra, Handle, Parts};
@@ -58,10 +59,11 @@ fn first_slot(block: u32) -> Slot
 }
 
 // The first slot of a new block. Where there is no block left, nothing is changed.
-fn new_place(store: &mut Contents, kind: Kind) -> Result<(Slot, Grown), Full>
+fn slot_of_new_block(store: &mut Contents, kind: Kind) -> Result<(Slot, Grown), Full>
     requires handles { HasHandles store.old.numbers store.old.state }
     requires weak { HasWeakTable store.old.state }
-    ensures place { IfOk result (λ place. IsPlace store.old store.new kind None place.0 place.1) }
+    ensures slot_given { IfOk result
+        (λ slot_given. IsSlotGiven store.old store.new kind None slot_given.0 slot_given.1) }
     ensures given { IfErr result (λ full. full.given ≡ given_of store.old.state) }
     ensures full { OnErr result
         (store.old.numbers.blocks < given_of store.old.state + blocks_needed kind) }
@@ -76,7 +78,7 @@ fn new_place(store: &mut Contents, kind: Kind) -> Result<(Slot, Grown), Full>
 }
 
 /// The slot of a new handle: the offered one or, without one, the first of a new block.
-pub(crate) fn place(
+pub(crate) fn slot_given(
     store: &mut Contents,
     kind: Kind,
     offer: Option<Slot>,
@@ -84,8 +86,8 @@ pub(crate) fn place(
     requires handles { HasHandles store.old.numbers store.old.state }
     requires weak { HasWeakTable store.old.state }
     requires offer { IfSome offer (IsFree store.old.state kind) }
-    ensures place { IfOk result (λ place.
-        IsPlace store.old store.new kind offer place.0 place.1) }
+    ensures slot_given { IfOk result (λ slot_given.
+        IsSlotGiven store.old store.new kind offer slot_given.0 slot_given.1) }
     ensures given { IfErr result (λ full. full.given ≡ given_of store.old.state) }
     ensures full { OnErr result
         (store.old.numbers.blocks < given_of store.old.state + blocks_needed kind) }
@@ -94,7 +96,7 @@ pub(crate) fn place(
 {
     match offer {
         Some(slot) => Ok((slot, Grown::Zero)),
-        None => new_place(store, kind),
+        None => slot_of_new_block(store, kind),
     }
 }
 
@@ -173,8 +175,8 @@ pub(crate) fn new_handle(
         HasRun store.old caller c offer e (IsPlainStep store.old c store.new e) }
 {
     let handle = made(store, caller, make, t);
-    let (slot, grown) = match place(store, handle.kind, offer) {
-        Ok(place) => place,
+    let (slot, grown) = match slot_given(store, handle.kind, offer) {
+        Ok(slot_given) => slot_given,
         Err(full) => return Err(Refusal::TableFull { given: full.given }),
     };
     lower_for(store, slot, make, handle.target);

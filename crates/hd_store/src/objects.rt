@@ -5,7 +5,7 @@ ghost use Rattle.hd_heap.specs.Calls.{IsMade, new_object, IsRefused as IsRefused
 ghost use Rattle.hd_model.specs.State.{last_serial, identity_of, total_size, with_object, with_serial};
 ghost use Rattle.hd_store.specs.Reading.{name_in};
 ghost use Rattle.hd_model.specs.{Command.fresh_object, declared.data.Id.Id};
-ghost use Rattle.hd_store.specs.{Objects.IsObjectRefused, Places.KeepsNames};
+ghost use Rattle.hd_store.specs.Inside.{IsObjectRefused, KeepsNames};
 
 use crate::contents::Contents;
 use hd_final::Final;

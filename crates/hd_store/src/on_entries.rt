@@ -3,11 +3,11 @@ ghost use Rattle.std.specs.Prelude.{◌≡◌, ◌<◌};
 ghost use Rattle.hd_model.specs.declared.command.Cmd.TheVariants as cmds;
 ghost use Rattle.hd_model.specs.{WellFormed.HasHandles, WellFormed.HasWeakTable, Valid.IsValid};
 ghost use Rattle.hd_commands.specs.Done.{done_of, entry_by};
-ghost use Rattle.hd_store.specs.Commands.{HasRun, IsPlainStep};
+ghost use Rattle.hd_store.specs.Inside.{HasRun, IsPlainStep};
 ghost use Rattle.hd_store.specs.{Visited.TakesSteps, Offers.IsOffer, Offers.needs_slot};
 
 use crate::contents::Contents;
-use crate::making::place;
+use crate::making::slot_given;
 use hd_commands::on_objects::{load, object_in};
 use hd_commands::{Done, Parts};
 use hd_model::limits::REGISTERS;
@@ -44,8 +44,8 @@ pub(crate) fn add_entry<L: Ledger>(
         store.fill_entry(slot, key, value);
         return Ok(Done::in_slot(slot, Grown::Zero));
     }
-    let (slot, grown) = match place(store, Kind::Dependent, offer) {
-        Ok(place) => place,
+    let (slot, grown) = match slot_given(store, Kind::Dependent, offer) {
+        Ok(slot_given) => slot_given,
         Err(full) => return Err(Refusal::TableFull { given: full.given }),
     };
     store.lower_age(slot, 0);

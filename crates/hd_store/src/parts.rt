@@ -5,7 +5,7 @@ ghost use Rattle.hd_model.specs.{Ages.lowered, State.block_of, State.handle_at, 
 ghost use Rattle.hd_commands.specs.Handles.{handle_of, handle_named, MayBeStored};
 ghost use Rattle.hd_store.specs.{Objects.object_named, Reading.IsNamed, Reading.name_in, Reading.named_in, Store.seen_by};
 
-use crate::contents::{Contents, PLACES};
+use crate::contents::{Contents, INDEXES};
 use hd_commands::{Handle, Parts};
 use hd_model::limits::{CLUMP, CLUMPS, REGISTERS, ROWS};
 use hd_model::{Addr, Id, Slot};
@@ -23,7 +23,7 @@ impl Parts for Contents {
     ghost seen = { seen_by };
 
     fn register(&self, caller: u32, d: u8) -> Option<Addr> {
-        self.roots[PLACES * caller as usize + d as usize]
+        self.roots[INDEXES * caller as usize + d as usize]
     }
 
     fn set_register(&mut self, caller: u32, d: u8, v: Option<Addr>)
@@ -33,7 +33,7 @@ impl Parts for Contents {
         ensures { let after = with_register self.old.state caller d (named_in self.old.names v) in
             self.new ≡ record self.old { state = after } }
     {
-        self.roots[PLACES * caller as usize + d as usize] = v;
+        self.roots[INDEXES * caller as usize + d as usize] = v;
     }
 
     fn handle_register(&self, caller: u32, d: u8) -> Option<Slot> {
@@ -52,7 +52,7 @@ impl Parts for Contents {
     }
 
     fn static_at(&self, k: u8) -> Option<Addr> {
-        self.roots[PLACES * self.handle_registers.len() + k as usize]
+        self.roots[INDEXES * self.handle_registers.len() + k as usize]
     }
 
     fn set_static(&mut self, k: u8, v: Option<Addr>)
@@ -61,8 +61,8 @@ impl Parts for Contents {
         ensures { let after = with_static self.old.state k (named_in self.old.names v) in
             self.new ≡ record self.old { state = after } }
     {
-        let place = PLACES * self.handle_registers.len() + k as usize;
-        self.roots[place] = v;
+        let index = INDEXES * self.handle_registers.len() + k as usize;
+        self.roots[index] = v;
     }
 
     fn board_at(&self, k: u8) -> Option<Slot> {
@@ -73,12 +73,12 @@ impl Parts for Contents {
         self.board[k as usize] = v;
     }
 
-    #[tactic(auto, using(crate::proofs::NamedAddresses::object_reads))]
+    #[tactic(auto, using(crate::proofs::HeapCallReadings::object_reads))]
     fn id(&self, at: Addr) -> Id {
         self.heap.id(at)
     }
 
-    #[tactic(auto, using(crate::proofs::NamedAddresses::object_reads))]
+    #[tactic(auto, using(crate::proofs::HeapCallReadings::object_reads))]
     fn fields(&self, at: Addr) -> usize {
         self.heap.fields(at) as usize
     }
@@ -100,7 +100,7 @@ impl Parts for Contents {
         self.heap.store(at, u32::from(i), v);
     }
 
-    #[tactic(auto, using(crate::proofs::NamedAddresses::object_reads))]
+    #[tactic(auto, using(crate::proofs::HeapCallReadings::object_reads))]
     fn value(&self, at: Addr) -> u64 {
         self.heap.value(at)
     }
@@ -109,7 +109,7 @@ impl Parts for Contents {
         self.heap.set_value(at, v);
     }
 
-    #[tactic(auto, using(crate::proofs::NamedAddresses::object_reads))]
+    #[tactic(auto, using(crate::proofs::HeapCallReadings::object_reads))]
     fn generation(&self, at: Addr) -> u8 {
         self.heap.generation(at)
     }

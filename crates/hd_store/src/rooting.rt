@@ -5,7 +5,7 @@ ghost use Rattle.hd_model.specs.declared.command.Cmd.TheVariants as cmds;
 ghost use Rattle.hd_model.specs.Anchors.{ReturnsRoot};
 ghost use Rattle.hd_store.specs.Reading.{name_in};
 ghost use Rattle.hd_commands.specs.Done.{done_of, entry_by};
-ghost use Rattle.hd_store.specs.Commands.{IsPlainStep};
+ghost use Rattle.hd_store.specs.Inside.{IsPlainStep};
 
 use crate::anchors::{anchors, statics};
 use crate::contents::Contents;

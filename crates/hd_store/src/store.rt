@@ -1,27 +1,19 @@
 ghost use Rattle.std.specs.Prelude.{◌≡◌, ◌*◌, ◌<◌, ◌≤◌, length, replicate, slice_index_or, true, IsTrue, IfOk, IfNone, IfSome, None, OnErr, MatchResult, Some, option_map};
-ghost use Rattle.std.specs.FinMap.{get, len};
+ghost use Rattle.std.specs.FinMap.{get};
 ghost use Rattle.hd_model.specs.declared.command.Cmd.TheVariants as cmd;
 ghost use Rattle.hd_commands.specs.Handles.{handle_of};
-ghost use Rattle.hd_model.specs.State.{Handle as Held, Numbers, start_of, use_of, block_of, given_of, handle_at, last_serial, register_of, handle_register_of, static_of, board_of, total_size, with_register, with_handle_register};
-ghost use Rattle.hd_model.specs.{Valid.IsValid, Valid.takes_memory, Heap.has_object, Heap.object_at, Scene.IsField};
-ghost use Rattle.hd_model.specs.declared.data.{Addr.Addr, Id.Id};
-ghost use Rattle.hd_plan.specs.Plan.{HasNoEmptyRegion};
-ghost use Rattle.hd_scan.specs.Gathering.{roots_of as table_roots_of};
-ghost use Rattle.hd_model.specs.RootText.{roots_of};
-ghost use Rattle.hd_store.specs.{Growth.kind_in_use, Info.entry_seen, Visited.TakesSteps, Store.IsOverHeap, Store.without_spare};
+ghost use Rattle.hd_model.specs.State.{Handle as Held, Numbers, start_of, handle_at, register_of, handle_register_of, static_of, board_of, with_register, with_handle_register};
+ghost use Rattle.hd_model.specs.{Valid.IsValid, Valid.takes_memory};
+ghost use Rattle.hd_model.specs.declared.data.{Id.Id};
+ghost use Rattle.hd_store.specs.{Visited.TakesSteps, Store.IsOverHeap};
 ghost use Rattle.hd_store.specs.Calls.{HasCalled, IsSound, MayCall, StaysWithin, load_entry, pointed};
 ghost use Rattle.hd_store.specs.Offers.{IsOffer, needs_slot, FitsHeap, RanOut};
 
 use crate::contents::Contents;
-use crate::info::EntryInfo;
 use crate::{commands, on_entries};
-use hd_ages::AgeMap;
 use hd_commands::{Handle, Parts};
-use hd_heap::Heap;
 use hd_model::limits::{BLOCKS, CALLERS, CLUMPS, HEAP, OLDEST, REGISTERS};
-use hd_model::{Cmd, Entry, Id, Kind, Memory, RootId, Slot, Steps};
-use hd_scan::Root;
-use hd_seg::Seg;
+use hd_model::{Cmd, Entry, Id, Memory, Slot, Steps};
 use std::alloc::Global;
 use std::marker::{Brand, Model};
 use std::sync::ledger::{Blank, Ledger};
@@ -191,11 +183,16 @@ impl Store {
         on_entries::needs_slot(&self.contents, caller, cmd, &mut steps)
     }
 
-    /// The kind of the block of a slot, if it has handles. The slot may be any number.
-    pub fn kind_of(&self, slot: Slot) -> Option<Kind>
-        ensures { result ≡ kind_in_use (use_of self.now.state (block_of slot)) }
+    /// What it has. The state is that of the heap and the table, it is well formed, and the numbers
+    /// are within the limits.
+    pub fn contents(&self) -> &Contents
+        ensures value { result.now ≡ self.now }
+        ensures heap { IsOverHeap self.now }
+        ensures sound { IsSound self.now }
     {
-        self.contents.kind_of(slot)
+        // Read for the proof alone: the state is one over the heap.
+        let _objects = self.contents.objects();
+        &self.contents
     }
 
     /// The handle in a slot, if the slot is live. The slot may be any number.
@@ -204,14 +201,6 @@ impl Store {
     {
         let handle = self.contents.handle(slot)?;
         Some(self.contents.info(handle))
-    }
-
-    /// What the weak table has in a slot, if it holds the slot: an entry, or none where the slot is
-    /// idle. The slot may be any number.
-    pub fn entry(&self, slot: Slot) -> Option<Option<EntryInfo>>
-        ensures { get self.now.state.weak slot.0 ≡ option_map (option_map entry_seen) result }
-    {
-        self.contents.entry(slot)
     }
 
     /// What an object register references.
@@ -250,64 +239,11 @@ impl Store {
         self.contents.board_at(k)
     }
 
-    /// The serial of the last object that a caller made, 0 where it made none.
-    pub fn last_serial(&self, caller: u32) -> u32
-        requires { caller < self.now.numbers.callers }
-        ensures { result ≡ last_serial self.now.state caller }
-    {
-        self.contents.last_serial(caller)
-    }
-
-    /// The number of objects, reachable or not. The store's state is that of its heap and its
-    /// table, it is well formed, and the numbers are within the limits.
-    pub fn objects(&self) -> u32
-        ensures value { result ≡ len self.now.state.objects }
-        ensures heap { IsOverHeap self.now }
-        ensures sound { IsSound self.now }
-    {
-        self.contents.objects()
-    }
-
-    /// The cells that all objects take together.
-    pub fn cells(&self) -> u32
-        ensures { result ≡ total_size self.now.state }
-    {
-        self.contents.cells()
-    }
-
-    /// The cells that all objects may take together.
-    pub fn cells_limit(&self) -> u32
-        ensures { result ≡ self.now.numbers.heap }
-    {
-        self.contents.limit()
-    }
-
     /// The number of callers.
     pub fn callers(&self) -> u32
         ensures { result ≡ self.now.numbers.callers }
     {
         self.contents.callers()
-    }
-
-    /// The number of live handles, without the slots that the weak table holds.
-    pub fn live(&self) -> u32
-        ensures { result ≡ len self.now.state.handles }
-    {
-        self.contents.live()
-    }
-
-    /// The number of blocks that have a use.
-    pub fn blocks_given(&self) -> u32
-        ensures { result ≡ given_of self.now.state }
-    {
-        self.contents.given()
-    }
-
-    /// The number of objects that are queued for finalization.
-    pub fn queued(&self) -> u32
-        ensures { result ≡ length self.now.state.queue }
-    {
-        self.contents.queued()
     }
 
     /// The object at position `i` of the finalization queue, from 0.
@@ -316,48 +252,5 @@ impl Store {
         ensures { (d : Id) → result ≡ slice_index_or self.now.state.queue i d }
     {
         self.contents.id(self.contents.queued_at(i))
-    }
-
-    /// The number of blocks that the table has at most.
-    pub fn blocks(&self) -> u32
-        ensures value { result ≡ self.now.numbers.blocks }
-        ensures table { result ≡ self.now.table.blocks }
-    {
-        self.contents.blocks()
-    }
-
-    /// The table.
-    pub fn table(&self) -> &Seg
-        ensures { result.now ≡ self.now.table }
-    {
-        self.contents.table()
-    }
-
-    /// The heap, of which the store's value leaves out the free regions. Each of its references is
-    /// to an object, and each region in use has one.
-    pub fn heap(&self) -> &Heap
-        ensures value { without_spare result.now ≡ self.now.heap }
-        ensures whole { (x y : Addr) → IsField (object_at result.now) x y
-            → has_object result.now y ≡ true }
-        ensures full { HasNoEmptyRegion result.now }
-    {
-        self.contents.heap()
-    }
-
-    /// The ages of the clumps of the table.
-    pub fn ages(&self) -> &AgeMap
-        ensures value { result.now ≡ self.now.ages }
-        ensures clumps { CLUMPS * self.now.numbers.blocks ≡ length self.now.ages }
-    {
-        self.contents.ages()
-    }
-
-    /// The roots of the table, which are given by address, with their objects by identity. It takes
-    /// memory for them.
-    pub fn named_roots(&self, alloc: Global, roots: &[Root]) -> Result<Vec<RootId>, Memory>
-        requires { roots.now ≡ table_roots_of self.now.table }
-        ensures { IfOk result (λ named. named.items ≡ roots_of self.now.state) }
-    {
-        self.contents.named_roots(alloc, roots)
     }
 }

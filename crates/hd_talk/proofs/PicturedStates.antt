@@ -1,9 +1,9 @@
 -- What is seen of a world is a picture of its state.
 use Rattle.std.proofs.Common.{subst, ◌≡◌}
 use Rattle.hd_model.proofs.WellFormedSteps.{run_is_well_formed}
-use Rattle.hd_model.specs.Places.{with_places}
+use Rattle.hd_model.specs.PinnedAddresses.{with_pinned}
 use Rattle.hd_model.specs.Run.{Run}
-use Rattle.hd_path.specs.Paths.{IsPictureOf}
+use Rattle.hd_links.specs.Shown.{IsPictureOf}
 use Rattle.hd_seen.specs.Seen.{Picture, picture}
 use Rattle.hd_snapshot.specs.Laws.{IsParted}
 use Rattle.hd_snapshot.specs.Taken.{picture_of}
@@ -25,13 +25,13 @@ pictured w p sees run = record {
 
 -- what is seen of a world's store is what is seen of the world: pinned addresses are not seen
 pub seen_of : (m : Machine) (w : WorldView) → m.numbers ≡ w.numbers
-    → with_places m.state w.state.places ≡ w.state → m.ages ≡ w.ages → m.heap ≡ w.heap → m.table ≡ w.table
+    → with_pinned m.state w.state.pinned ≡ w.state → m.ages ≡ w.ages → m.heap ≡ w.heap → m.table ≡ w.table
     → picture_of m ≡ picture_in w
 seen_of m w numbers state ages heap table =
     λ i. picture (numbers i) (state i) (ages i) (heap i) (table i)
 
 pub parted_in : (m : Machine) (w : WorldView) → m.numbers ≡ w.numbers
-    → with_places m.state w.state.places ≡ w.state → m.ages ≡ w.ages → m.heap ≡ w.heap → m.table ≡ w.table
+    → with_pinned m.state w.state.pinned ≡ w.state → m.ages ≡ w.ages → m.heap ≡ w.heap → m.table ≡ w.table
     → IsParted (picture_of m) → IsParted (picture_in w)
 parted_in m w numbers state ages heap table =
     subst IsParted (seen_of m w numbers state ages heap table)

@@ -56,12 +56,12 @@ content_text handles entries slot =
     ++ line_of (find (λ (h : SeenHandle). h.slot.0 == slot) handles)
     (find (λ (e : SeenEntry). e.slot.0 == slot) entries)
 
--- whether a place has a slot
+-- whether a register or board index has a slot
 abbrev pub has_slot : ℕ → Option Slot → Bool
 has_slot slot None = false
 has_slot slot (Some s) = s.0 == slot
 
--- the line of a caller's handle register, and of a place of the board, where it has the slot
+-- the line of a caller's handle register, and of a board index, where it has the slot
 abbrev pub register_line : ℕ → ℕ → ℕ × Option Slot → List ℕ
 register_line slot caller e =
     if has_slot slot e.1
@@ -74,7 +74,7 @@ abbrev pub board_line : ℕ → ℕ × Option Slot → List ℕ
 board_line slot e =
     if has_slot slot e.1 then codes "  board " ++ decimal e.0 ++ codes "\n" else []
 
--- who has a slot: the handle registers, by caller, and the places of the board
+-- who has a slot: the handle registers, by caller, and the board indexes
 abbrev pub holders_text : List (List (Option Slot)) → List (Option Slot) → ℕ → List ℕ
 holders_text registers board slot =
     flat_map (caller_lines slot) (enumerate_from 0 registers)

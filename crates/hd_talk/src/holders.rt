@@ -6,10 +6,10 @@ ghost use Rattle.hd_talk.specs.Slots.{board_line, caller_lines, has_slot, holder
 use crate::text::push_line;
 use hd_model::Slot;
 use hd_print::Line;
-use hd_seen::{PLACES, Snapshot};
+use hd_seen::{INDEXES, Snapshot};
 use std::alloc::AllocError;
 
-/// Appends a line for each handle register and each place of the board that has a slot.
+/// Appends a line for each handle register and each board index that has a slot.
 pub(crate) fn push_holders(
     text: &mut Vec<u8>,
     seen: &Snapshot,
@@ -25,7 +25,7 @@ pub(crate) fn push_holders(
 // Appends the lines of all callers.
 fn push_callers(
     text: &mut Vec<u8>,
-    registers: &[[Option<Slot>; PLACES]],
+    registers: &[[Option<Slot>; INDEXES]],
     slot: Slot,
 ) -> Result<(), AllocError>
     ensures { IfOk result (λ _. text.new.items ≡ text.old.items
@@ -58,13 +58,13 @@ fn push_register(
     text: &mut Vec<u8>,
     caller: usize,
     d: usize,
-    place: Option<Slot>,
+    held: Option<Slot>,
     slot: Slot,
 ) -> Result<(), AllocError>
     ensures { IfOk result (λ _. text.new.items
-        ≡ text.old.items ++ register_line slot.0 caller (d, place)) }
+        ≡ text.old.items ++ register_line slot.0 caller (d, held)) }
 {
-    if !has(place, slot) {
+    if !has(held, slot) {
         return Ok(());
     }
     let mut line = Line::new();
@@ -82,21 +82,21 @@ fn push_board(text: &mut Vec<u8>, board: &[Option<Slot>], slot: Slot) -> Result<
         ++ flat_map (board_line slot.0) (enumerate_from 0 board.now)) }
 {
     for k in 0..board.len() {
-        push_place(text, k, board[k], slot)?;
+        push_index(text, k, board[k], slot)?;
     }
     Ok(())
 }
 
-// Appends the line of a place of the board, if it has the slot.
-fn push_place(
+// Appends the line of a board index, if it has the slot.
+fn push_index(
     text: &mut Vec<u8>,
     k: usize,
-    place: Option<Slot>,
+    held: Option<Slot>,
     slot: Slot,
 ) -> Result<(), AllocError>
-    ensures { IfOk result (λ _. text.new.items ≡ text.old.items ++ board_line slot.0 (k, place)) }
+    ensures { IfOk result (λ _. text.new.items ≡ text.old.items ++ board_line slot.0 (k, held)) }
 {
-    if !has(place, slot) {
+    if !has(held, slot) {
         return Ok(());
     }
     let mut line = Line::new();
@@ -106,11 +106,11 @@ fn push_place(
     push_line(text, &line)
 }
 
-// Whether a place has a slot.
-fn has(place: Option<Slot>, slot: Slot) -> bool
-    ensures { result ≡ has_slot slot.0 place }
+// Whether a register or board index has a slot.
+fn has(held: Option<Slot>, slot: Slot) -> bool
+    ensures { result ≡ has_slot slot.0 held }
 {
-    match place {
+    match held {
         Some(other) => other.0 == slot.0,
         None => false,
     }

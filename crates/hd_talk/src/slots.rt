@@ -12,7 +12,7 @@ use hd_seen::{SeenEntry, SeenExtra, SeenHandle, Snapshot};
 use std::alloc::{AllocError, Global};
 
 /// What is in a slot, a handle or an entry of the weak table or nothing live; and then who has the
-/// slot, a line for each handle register and each place of the board. A handle may be freed by a
+/// slot, a line for each handle register and each board index. A handle may be freed by a
 /// caller that has its slot in a register, and by each caller once it took the slot off the board.
 pub fn slot_text(alloc: Global, seen: &Snapshot, slot: Slot) -> Result<Vec<u8>, Memory>
     ensures { IfOk result (λ text. text.items ≡ slot_text (view_seen seen.now) slot.0) }

@@ -14,14 +14,15 @@ use Rattle.hd_model.specs.declared.data.Refusal.TheVariants as refusal
 use Rattle.hd_model.specs.declared.data.Reply.TheVariants as reply
 use Rattle.hd_model.specs.declared.data.Slot.{Slot}
 use Rattle.hd_model.specs.Kinds.{is_paired}
-use Rattle.hd_model.specs.Places.{IsFreePlace}
+use Rattle.hd_model.specs.PinnedAddresses.{IsFreeAddress}
 use Rattle.hd_model.specs.State.{Numbers, State, IsAllFree, IsFree, first_slot, given_of, use_of}
 use Rattle.hd_model.specs.Step.{IsLeastUnused, MayGive, blocks_needed}
-use Rattle.hd_audit.specs.Before.{GivesBlock, HasExactly, HasOne, IsBefore, IsGrowthFor, ReturnsFree, TakesSlot}
+use Rattle.hd_audit.specs.Before.{GivesBlock, IsBefore, IsGrowthFor, ReturnsFree, TakesSlot}
+use Rattle.hd_plain.specs.OneEntry.{HasExactly, HasOne}
 use Rattle.hd_audit.specs.Known.{Known}
 use Rattle.hd_audit.proofs.LinesBefore.{one_state_before}
-use Rattle.hd_view.specs.Accepted.{IsFullOf, IsGrownOf, IsNamed, grown_by}
-use Rattle.hd_view.specs.Sets.{Has}
+use Rattle.hd_view.specs.{Accepted.IsFullOf, Accepted.IsNamed, Inside.IsGrownOf, Inside.grown_by}
+use Rattle.hd_view.specs.Inside.{Has}
 use Rattle.hd_view.specs.declared.accepted.Accepted.TheVariants as accepted
 use Rattle.hd_view.specs.declared.sets.NumberSet.{NumberSet}
 
@@ -240,7 +241,7 @@ module _ (k : Known) (kind : Kind) (caller : ℕ) (c : Cmd) where
       back e (inr none) = inr none
 
 pub addresses_named : (k : Known) (caller : ℕ) (c : Cmd) (id : Id) (free : NumberSet)
-    → Has free (λ x. IsFreePlace k.state id x)
+    → Has free (λ x. IsFreeAddress k.state id x)
     → HasExactly k.numbers k.state caller c (ReturnsFree k.state id)
     → HasExactly k.numbers k.state caller c (IsNamed (accepted.Addresses id free))
 addresses_named k caller c id free has exactly = λ e by of. (

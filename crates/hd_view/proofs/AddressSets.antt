@@ -6,12 +6,12 @@ use Rattle.std.proofs.lemmas.List.Elements.{Contains-append_cases, Contains-appe
 use mathlib.Core.Logic.{inl, inr}
 use Rattle.hd_model.proofs.Members.{first_in, member_at, member_cases, not_in_none}
 use Rattle.hd_model.specs.declared.data.Id.{Id}
-use Rattle.hd_model.specs.Places.{IsFreePlace}
+use Rattle.hd_model.specs.PinnedAddresses.{IsFreeAddress}
 use Rattle.hd_model.specs.State.{State, object_by_id, size_of}
 use Rattle.hd_audit.specs.Before.{AreTaken}
 use Rattle.hd_audit.specs.declared.entry_choice.PinnedCells.{PinnedCells}
-use Rattle.hd_view.specs.Accepted.{meets}
-use Rattle.hd_view.specs.Sets.{Has, IsIn}
+use Rattle.hd_view.specs.Inside.{meets}
+use Rattle.hd_view.specs.{Inside.Has, Sets.IsIn}
 use Rattle.hd_view.specs.declared.sets.NumberSet.{NumberSet}
 use Rattle.hd_view.specs.declared.sets.Range.{Range}
 
@@ -44,7 +44,7 @@ module _ (s : State) (id : Id) (size : ℕ) (set : NumberSet) (cells : List Pinn
   small : (x : ℕ) → IsIn set.within.items x → x < 2 ^ 32
   small x i = let low = (within x).0 i in omega (arith, low)
 
-  pub addresses_has : Has set (λ x. IsFreePlace s id x)
+  pub addresses_has : Has set (λ x. IsFreeAddress s id x)
   addresses_has = λ x. (
     λ m. record {
       small = small x m.within;

@@ -5,7 +5,7 @@ use Rattle.std.proofs.lemmas.Bool.{cases_lt, true≢false}
 use mathlib.Core.Logic.{inl, inr}
 use Rattle.hd_model.specs.declared.data.Kind.{Kind}
 use Rattle.hd_model.specs.State.{IsAllFree, State, block_of, first_slot, use_of}
-use Rattle.hd_view.specs.Sets.{Has, IsIn}
+use Rattle.hd_view.specs.{Inside.Has, Sets.IsIn}
 use Rattle.hd_view.specs.declared.sets.NumberSet.{NumberSet}
 use Rattle.hd_view.specs.declared.sets.Range.{Range}
 use Rattle.hd_view.proofs.SlotSets.{none_in}

@@ -7,11 +7,11 @@ use mathlib.Core.Logic.{inl}
 use Rattle.hd_model.specs.declared.data.Entry.{Entry}
 use Rattle.hd_model.specs.declared.command.Cmd.{Cmd}
 use Rattle.hd_model.specs.FullText.{full_line}
-use Rattle.hd_model.specs.Judged.{cut_lines}
+use Rattle.hd_model.specs.RunTexts.{cut_lines}
 use Rattle.hd_audit.specs.Before.{MayCome, due_of, number_of}
 use Rattle.hd_audit.specs.Known.{Known}
 use Rattle.hd_view.specs.Accepted.{AreDue, IsEntryOf, IsNamed, IsSetOf}
-use Rattle.hd_view.specs.Cause.{Explains, Holds, HoldsOn, IsDueOf, IsNext, IsOnly, IsOnlyLike, IsSpelled, IsWrong, missing, of_line}
+use Rattle.hd_view.specs.{Inside.Explains, Inside.IsDueOf, Inside.IsOnly, Inside.IsOnlyLike, Inside.IsWrong, Cause.Holds, Cause.HoldsOn, Cause.IsNext, Cause.IsSpelled, Cause.missing, Cause.of_line}
 use Rattle.hd_view.specs.Stated.{HasReply, Parts}
 use Rattle.hd_view.specs.declared.accepted.Accepted.TheVariants as accepted
 use Rattle.hd_view.specs.declared.accepted.Due.{Due}

@@ -11,10 +11,11 @@ use Rattle.hd_model.specs.declared.data.Reply.TheVariants as reply
 use Rattle.hd_model.specs.declared.data.Slot.{Slot}
 use Rattle.hd_model.specs.State.{given_of}
 use Rattle.hd_model.specs.Step.{MayGive}
-use Rattle.hd_audit.specs.Before.{GivesBlock, HasExactly, TakesSlot, due_of}
+use Rattle.hd_audit.specs.Before.{GivesBlock, TakesSlot, due_of}
+use Rattle.hd_plain.specs.OneEntry.{HasExactly}
 use Rattle.hd_audit.specs.Known.{Known}
 use Rattle.hd_view.specs.Accepted.{IsEntryOf, IsNamed, IsSetOf}
-use Rattle.hd_view.specs.Cause.{IsAddressNext, IsBlockNext, IsDueOf, IsNext, IsOnlyLike, IsSlotNext}
+use Rattle.hd_view.specs.{Inside.IsAddressNext, Inside.IsBlockNext, Inside.IsDueOf, Inside.IsOnlyLike, Inside.IsSlotNext, Cause.IsNext}
 use Rattle.hd_view.specs.Stated.{HasReply, Parts}
 use Rattle.hd_view.specs.declared.accepted.Accepted.TheVariants as accepted
 use Rattle.hd_view.specs.declared.accepted.Due.{Due}
@@ -98,17 +99,17 @@ pub address_next : (k : Known) (p : Parts) (due : Due) → IsDueOf k p due → (
 address_next k p due of id free is = record {
   number = number_is k p due of;
   each = λ e next. subst (λ a. IsNamed a e) is (next_named k p due of e next);
-  next = λ place member.
+  next = λ address member.
       let e : Entry = record {
         caller = due.caller;
         cmd = due.cmd;
         slot = None;
         grown = Zero;
-        reply = reply.Place place;
+        reply = reply.Place address;
       } in
       let its : IsEntryOf due.caller due.cmd e = record { caller_is = refl; command = refl } in (
         e,
-        named_next k p due of e its (subst (λ a. IsNamed a e) (sym is) (place, member, refl, refl, refl)),
+        named_next k p due of e its (subst (λ a. IsNamed a e) (sym is) (address, member, refl, refl, refl)),
         refl,
         refl,
       );

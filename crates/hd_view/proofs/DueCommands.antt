@@ -10,7 +10,7 @@ use Rattle.hd_model.specs.declared.command.Cmd.{Cmd}
 use Rattle.hd_model.specs.Valid.{IsValid}
 use Rattle.hd_audit.specs.Before.{due_of}
 use Rattle.hd_audit.specs.Known.{Known}
-use Rattle.hd_view.specs.Accepted.{AreDue, AreDueTo, IsDue}
+use Rattle.hd_view.specs.{Accepted.AreDue, Accepted.IsDue, Inside.AreDueTo}
 use Rattle.hd_view.specs.declared.accepted.Due.{Due}
 
 module _ (k : Known) where

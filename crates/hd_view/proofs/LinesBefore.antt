@@ -5,7 +5,7 @@ use Rattle.std.proofs.lemmas.List.Folds.{concat-append}
 use Rattle.std.proofs.Math.Seq.{take-append_seam}
 use Rattle.std.specs.List.{concat}
 use Rattle.hd_audit.proofs.LineCuts.{lines_again}
-use Rattle.hd_model.specs.Judged.{cut_lines}
+use Rattle.hd_model.specs.RunTexts.{cut_lines}
 
 -- this many lines were passed, and the rest is left
 pub record Passed (bytes rest : List ℕ) (passed line : ℕ) : Type 0 where

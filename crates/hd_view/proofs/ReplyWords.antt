@@ -23,11 +23,11 @@ values_apart tail zero one =
     absurd (omega (arith, zero_is, one_is))
 
 -- a line that has an address begins as it does
-pub place_begins : (tail : List ℕ) (place : ℕ) → HasReply tail (reply.Place place)
+pub address_begins : (tail : List ℕ) (address : ℕ) → HasReply tail (reply.Place address)
     → begins tail (codes "addr ") ≡ true
-place_begins tail place has =
-    begun tail (codes "addr ") (decimal place ++ has.rest)
-    (has.text ∙ append_assoc (codes "addr ") (decimal place) has.rest)
+address_begins tail address has =
+    begun tail (codes "addr ") (decimal address ++ has.rest)
+    (has.text ∙ append_assoc (codes "addr ") (decimal address) has.rest)
 
 -- no line has the reply of a full table and that of a new row
 first : List ℕ → ℕ

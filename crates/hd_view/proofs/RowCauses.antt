@@ -17,7 +17,7 @@ use Rattle.hd_model.specs.State.{IsAllFree, IsFree, State, block_of, first_slot,
 use Rattle.hd_model.specs.Step.{IsLeastUnused, MayGive}
 use Rattle.hd_audit.specs.Before.{GivesBlock}
 use Rattle.hd_audit.specs.Known.{Known}
-use Rattle.hd_view.specs.Cause.{EachLike, Explains, IsAddressNext, IsBlockNext, IsGrowing, IsOnlyLike, IsSlotNext, IsStated}
+use Rattle.hd_view.specs.{Cause.EachLike, Cause.IsStated, Inside.Explains, Inside.IsAddressNext, Inside.IsBlockNext, Inside.IsGrowing, Inside.IsOnlyLike, Inside.IsSlotNext}
 use Rattle.hd_view.specs.Sets.{IsMember}
 use Rattle.hd_view.specs.Stated.{HasReply, Parts, begins}
 use Rattle.hd_view.specs.declared.cause.BlockCause.TheVariants as by_blocks
@@ -26,7 +26,7 @@ use Rattle.hd_view.specs.declared.cause.SlotCause.TheVariants as by_slot
 use Rattle.hd_view.specs.declared.sets.NumberSet.{NumberSet}
 use Rattle.hd_view.proofs.AcceptedSets.{one_least}
 use Rattle.hd_view.proofs.CauseFacts.{reads_as}
-use Rattle.hd_view.proofs.ReplyWords.{place_begins, values_apart}
+use Rattle.hd_view.proofs.ReplyWords.{address_begins, values_apart}
 use Rattle.std.specs.Prelude.{codes}
 
 no_value : {A : Type 0} (o : Option A) → (IsSome o → ⊥) → o ≡ None
@@ -217,15 +217,15 @@ module _ (k : Known) (p : Parts) (free : NumberSet) (next : IsAddressNext k p fr
   pub no_address : (begins p.tail (codes "addr ") ≡ true → ⊥) → Explains k p cause.Reply
   no_address none = λ line is wrong e may has.
       let each = next.each e may in
-      none (place_begins p.tail each.0 (subst (λ r. HasReply p.tail r) each.2 has))
+      none (address_begins p.tail each.0 (subst (λ r. HasReply p.tail r) each.2 has))
 
-  pub address_taken : (IsMember free p.place → ⊥) → Explains k p (cause.AddressTaken p.place)
+  pub address_taken : (IsMember free p.address → ⊥) → Explains k p (cause.AddressTaken p.address)
   address_taken none = λ line is wrong. (
     refl,
     λ e may same.
         let each = next.each e may in
-        let both : reply.Place each.0 ≡ reply.Place p.place = sym each.2 ∙ same in
-        let at : each.0 ≡ p.place = cc in
+        let both : reply.Place each.0 ≡ reply.Place p.address = sym each.2 ∙ same in
+        let at : each.0 ≡ p.address = cc in
         none (subst (IsMember free) at each.1),
   )
 
@@ -235,9 +235,9 @@ module _ (k : Known) (p : Parts) (free : NumberSet) (next : IsAddressNext k p fr
   pub address_grows : EachLike k p (λ e. e.grown ≡ Zero)
   address_grows = λ e may has. (next.each e may).4
 
-  pub address_reads : IsMember free p.place → p.slot ≡ None → p.grown ≡ Zero → Explains k p cause.Spelled
+  pub address_reads : IsMember free p.address → p.slot ≡ None → p.grown ≡ Zero → Explains k p cause.Spelled
   address_reads member none zero =
-      let found = next.next p.place member in
+      let found = next.next p.address member in
       reads_as k p found.0 found.1 next.number (none ∙ sym found.2) (zero ∙ sym found.3)
 
 -- ---- by a block that is given back

@@ -10,7 +10,8 @@ use Rattle.hd_model.proofs.{StepChains.run_from_solo, WellFormedSteps.run_is_wel
 use Rattle.hd_model.specs.declared.data.Id.{Id}
 use Rattle.hd_model.specs.State.{State}
 use Rattle.hd_model.specs.WellFormed.{IsWellFormed}
-use Rattle.hd_path.specs.Paths.{ArePathTexts, IsPictureOf, WritesPaths}
+use Rattle.hd_links.specs.Shown.{IsPictureOf}
+use Rattle.hd_path.specs.Paths.{ArePathTexts, WritesPaths}
 use Rattle.hd_run.proofs.ReadFaults.{unread_rose}
 use Rattle.hd_run.specs.Bounds.{Bounds, numbers_for}
 use Rattle.hd_run.specs.Report.{IsReported, fault_status}
@@ -19,7 +20,7 @@ use Rattle.hd_run.specs.declared.fault.Fault.TheVariants.{BadLine, NoMemory, Ove
 use Rattle.hd_seen.specs.Seen.{Picture}
 use Rattle.hd_talk.specs.Machine.{picture_in}
 use Rattle.hd_world.specs.World.{WorldView}
-use Rattle.hd_view.specs.Script.{IsBadLine, RanTo, StopsBy}
+use Rattle.hd_view.specs.{Script.IsBadLine, Script.RanTo, Inside.StopsBy}
 use Rattle.hd_view.specs.Shown.{ShowPromise}
 
 module _ (Shows : WorldView → List ℕ → Type 0) (b : Bounds) (line : Option ℕ) (old new : SourceView)

@@ -13,8 +13,8 @@ use Rattle.hd_model.specs.declared.limits.TheConstants.{ROWS}
 use Rattle.hd_model.specs.Kinds.{is_kind, kind_number}
 use Rattle.hd_model.specs.State.{BlockUse, Handle, IsFree, State, WeakEntry, block_of, extra_data, handle_at, handles_of, use_of}
 use Rattle.hd_model.proofs.KindTests.{same_kind}
-use Rattle.hd_view.specs.Accepted.{CoversTo, IsSlotOf, IsThatSlot}
-use Rattle.hd_view.specs.Sets.{Has, IsIn, IsMember}
+use Rattle.hd_view.specs.Inside.{CoversTo, IsSlotOf, IsThatSlot}
+use Rattle.hd_view.specs.{Inside.Has, Sets.IsIn, Sets.IsMember}
 use Rattle.hd_view.specs.declared.sets.NumberSet.{NumberSet}
 use Rattle.hd_view.specs.declared.sets.Range.{Range}
 

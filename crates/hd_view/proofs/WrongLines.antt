@@ -4,15 +4,15 @@ use Rattle.std.specs.Prelude.{◌↔◌}
 use Rattle.std.proofs.lemmas.Bool.{cases_lt}
 use Rattle.std.proofs.lemmas.List.{at_drop_all, drop_more, take_all, take_more}
 use Rattle.hd_model.specs.declared.command.Cmd.{Cmd}
-use Rattle.hd_model.specs.Judged.{AreRight, IsNoRun, cut_lines, missing, so_far, wrong}
+use Rattle.hd_model.specs.RunTexts.{AreRight, IsNoRun, cut_lines, missing, so_far, wrong}
 use Rattle.hd_model.specs.State.{Numbers}
 use Rattle.hd_audit.specs.Before.{IsBefore}
 use Rattle.hd_audit.specs.Known.{Known}
-use Rattle.hd_audit.specs.Judging.{numbers_of}
+use Rattle.hd_audit.specs.RightVerdicts.{numbers_of}
 use Rattle.hd_run.specs.Audit.{wrong_text}
-use Rattle.hd_view.specs.Accepted.{AreDue, IsKnownOf, IsNamedLine}
-use Rattle.hd_view.specs.Cause.{Holds, IsWrong}
-use Rattle.hd_view.specs.Found.{IsReasonOf, IsWrongOf}
+use Rattle.hd_view.specs.{Accepted.AreDue, Accepted.IsNamedLine, Inside.IsKnownOf}
+use Rattle.hd_view.specs.{Cause.Holds, Inside.IsWrong}
+use Rattle.hd_view.specs.Inside.{IsReasonOf, IsWrongOf}
 use Rattle.hd_view.specs.WhyText.{why_text}
 use Rattle.hd_view.specs.declared.accepted.Due.{Due}
 use Rattle.hd_view.specs.declared.accepted.Judgement.{Judgement}

@@ -9,17 +9,13 @@ use Rattle.hd_model.specs.declared.data.Reply.TheVariants as reply
 use Rattle.hd_model.specs.declared.data.Slot.{Slot}
 use Rattle.hd_model.specs.Command.{idle_slot}
 use Rattle.hd_model.specs.FullText.{full_line}
-use Rattle.hd_model.specs.Judged.{cut_lines}
+use Rattle.hd_model.specs.RunTexts.{cut_lines}
 use Rattle.hd_model.specs.State.{State, handle_at, handles_of, use_of, block_of, first_slot, IsAllFree}
-use Rattle.hd_model.specs.Step.{Step, IsLeastUnused, MayGive}
+use Rattle.hd_model.specs.Step.{Step, IsLeastUnused}
 use Rattle.hd_print.specs.VerdictLaws.{HasEnd}
-use Rattle.hd_audit.specs.Before.{GivesBlock, MayCome, due_of, end_after, number_of}
+use Rattle.hd_audit.specs.Before.{due_of, end_after, number_of}
 use Rattle.hd_audit.specs.Known.{Known}
-use Rattle.hd_view.specs.Accepted.{HasAddressOf, IsDue}
-use Rattle.hd_view.specs.Sets.{IsMember}
 use Rattle.hd_view.specs.Stated.{HasReply, Parts, begins, stated_in}
-use Rattle.hd_view.specs.declared.accepted.Due.{Due}
-use Rattle.hd_view.specs.declared.sets.NumberSet.{NumberSet}
 use Rattle.hd_view.specs.declared.cause.Cause.{Cause}
 use Rattle.hd_view.specs.declared.cause.Cause.TheVariants as cause
 use Rattle.hd_view.specs.declared.cause.SlotCause.{SlotCause}
@@ -99,10 +95,10 @@ HoldsOf k line p (cause.NoCaller caller) = (p.caller ≡ caller) × (k.numbers.c
 HoldsOf k line p (cause.ListEnd caller) = (p.caller ≡ caller) × (due_of k caller ≡ None)
 HoldsOf k line p (cause.Number number) = (number ≡ number_of k p.caller) × (p.number ≢ number)
 HoldsOf k line p cause.Reply = EachIs k p (λ e. HasReply p.tail e.reply → ⊥)
-HoldsOf k line p (cause.Pinned place) =
-    EachIs k p (λ e. (e.reply ≡ reply.Place place) × (HasReply p.tail e.reply → ⊥))
-HoldsOf k line p (cause.AddressTaken place) =
-    (p.place ≡ place) × EachIs k p (λ e. e.reply ≢ reply.Place place)
+HoldsOf k line p (cause.Pinned address) =
+    EachIs k p (λ e. (e.reply ≡ reply.Place address) × (HasReply p.tail e.reply → ⊥))
+HoldsOf k line p (cause.AddressTaken address) =
+    (p.address ≡ address) × EachIs k p (λ e. e.reply ≢ reply.Place address)
 HoldsOf k line p (cause.Slot c) = SlotHolds k p c
 HoldsOf k line p (cause.Blocks c) = BlocksHold k p c
 HoldsOf k line p cause.Spelled = IsSpelled k line p
@@ -125,64 +121,3 @@ pub data Holds (k : Known) : Cause → Type 0 where
   missing : k.rest ≡ [] → Holds k cause.Missing
   of_line : {line : List ℕ} {after : List (List ℕ)} {c : Cause} → cut_lines k.rest ≡ line ∷ after
       → HoldsOn k line c → Holds k c
-
--- ---- how a cause is found
-
--- it holds of each line that states these parts and may not come
-abbrev pub Explains : Known → Parts → Cause → Type 0
-Explains k p c = (line : List ℕ) → stated_in line ≡ Some p → (MayCome k line → ⊥) → HoldsOf k line p c
-
--- an entry may come, with the number that the line states, and it is the only one, or the only one that goes
--- on as the line does
-pub record IsOnly (k : Known) (p : Parts) (entry : Entry) : Type 0 where
-  pub next : IsNext k p entry
-  pub number : p.number ≡ number_of k p.caller
-  pub only : EachIs k p (λ e. e ≡ entry)
-
-pub record IsOnlyLike (k : Known) (p : Parts) (entry : Entry) : Type 0 where
-  pub next : IsNext k p entry
-  pub number : p.number ≡ number_of k p.caller
-  pub like : HasReply p.tail entry.reply
-  pub only : EachLike k p (λ e. e ≡ entry)
-
--- the first of the lines that are left may not come
-abbrev pub IsWrong : Known → Type 0
-IsWrong k =
-    (line : List ℕ) (after : List (List ℕ)) → cut_lines k.rest ≡ line ∷ after → MayCome k line → ⊥
-
--- what is due of the line's caller has the line's number
-pub record IsDueOf (k : Known) (p : Parts) (due : Due) : Type 0 where
-  pub is_due : IsDue k due
-  pub caller : due.caller ≡ p.caller
-  pub number : due.number ≡ p.number
-
--- entries that give a new row of a kind a slot may come, and of the others none that goes on as the line does
-pub record IsSlotNext (k : Known) (p : Parts) (kind : Kind) : Type 0 where
-  pub number : p.number ≡ number_of k p.caller
-  pub each : EachLike k p (λ e. (slot : Slot) × (e.slot ≡ Some slot)
-      × MayGive k.numbers k.state kind e.grown slot × (e.reply ≡ reply.Done))
-  pub next : (slot : Slot) (grown : Grown) → MayGive k.numbers k.state kind grown slot
-      → (e : Entry) × IsNext k p e × (e.slot ≡ Some slot) × (e.grown ≡ grown)
-
--- entries that return an address of a set
-pub record IsAddressNext (k : Known) (p : Parts) (free : NumberSet) : Type 0 where
-  pub number : p.number ≡ number_of k p.caller
-  pub each : EachIs k p (HasAddressOf free)
-  pub next : (place : ℕ) → IsMember free place
-      → (e : Entry) × IsNext k p e × (e.slot ≡ None) × (e.grown ≡ Zero)
-
--- entries that give back a block of a kind, and one that gives back none
-pub record IsBlockNext (k : Known) (p : Parts) (kind : Kind) : Type 0 where
-  pub number : p.number ≡ number_of k p.caller
-  pub each : EachIs k p (GivesBlock k.state kind)
-  pub none : (e : Entry) × IsNext k p e × (e.slot ≡ None) × (e.grown ≡ Zero)
-  pub next : (block : ℕ) → IsAllFree k.state kind block
-      → (e : Entry) × IsNext k p e × (e.slot ≡ None) × (e.grown ≡ Back block)
-
--- a slot of a line that states a block, and the new one, which is that block or the one before it
-pub record IsGrowing (k : Known) (p : Parts) (kind : Kind) (block from : ℕ) (slot : Slot) (new : ℕ) : Type 0 where
-  pub next : IsSlotNext k p kind
-  pub slot_is : p.slot ≡ Some slot
-  pub stated : IsStated p.grown block
-  pub is_new : IsStated p.grown new
-  pub gives : IsLeastUnused k.numbers k.state from block → MayGive k.numbers k.state kind p.grown (first_slot new)

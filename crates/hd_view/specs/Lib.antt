@@ -3,8 +3,9 @@ pub mod Accepted
 pub mod Stated
 pub mod Cause
 pub mod WhyText
-pub mod Found
+pub mod Findings
 pub mod Why
 pub mod Script
 pub mod Shown
 pub mod Promise
+pub mod Inside

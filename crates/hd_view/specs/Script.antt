@@ -4,12 +4,11 @@ use Rattle.std.specs.List.{concat}
 use Rattle.hd_io.specs.Source.{SourceView}
 use Rattle.hd_model.specs.declared.command.Cmd.{Cmd}
 use Rattle.hd_model.specs.Grammar.{IsScript, script_of}
-use Rattle.hd_model.specs.Judged.{cut_lines}
+use Rattle.hd_model.specs.RunTexts.{cut_lines}
 use Rattle.hd_run.specs.Bounds.{Bounds, numbers_for}
-use Rattle.hd_run.specs.Ending.{CauseOfFault, ReadWhole}
+use Rattle.hd_run.specs.Ending.{ReadWhole}
 use Rattle.hd_run.specs.Turns.{RanWhole}
 use Rattle.hd_world.specs.World.{WorldView}
-use Rattle.hd_run.specs.declared.fault.Fault.{Fault}
 
 -- the lines of bytes before one, counted from 1, or all of them
 abbrev pub lines_before : Option ℕ → List ℕ → List ℕ
@@ -28,7 +27,3 @@ pub record RanTo (b : Bounds) (line : Option ℕ) (old new : SourceView) (w : Wo
 -- this line of bytes, from 1, is the first of the wanted ones that has no reading or is one command too many
 abbrev pub IsBadLine : Option ℕ → List ℕ → ℕ → Type 0
 IsBadLine line bytes bad = script_of (lines_before line bytes) ≡ Err bad
-
--- why there is no world
-abbrev pub StopsBy : Option ℕ → SourceView → SourceView → Fault → Type 0
-StopsBy line old new fault = CauseOfFault (IsBadLine line) old new fault

@@ -1,5 +1,5 @@
 -- Sets of numbers, by ranges.
-use Rattle.std.specs.Prelude.{ℕ, ◌≤◌, ◌↔◌, ◌⊎◌, List, [], ◌∷◌}
+use Rattle.std.specs.Prelude.{ℕ, ◌≤◌, ◌⊎◌, List, [], ◌∷◌}
 use Rattle.hd_view.specs.declared.sets.NumberSet.{NumberSet}
 use Rattle.hd_view.specs.declared.sets.Range.{Range}
 
@@ -12,7 +12,3 @@ IsIn (r ∷ rs) x = ((r.first ≤ x) × (x ≤ r.last)) ⊎ IsIn rs x
 pub record IsMember (set : NumberSet) (x : ℕ) : Type 0 where
   pub within : IsIn set.within.items x
   pub but : IsIn set.but.items x → ⊥
-
--- a set has exactly these numbers
-abbrev pub Has : NumberSet → (ℕ → Type 0) → Type 0
-Has set P = (x : ℕ) → IsMember set x ↔ P x

@@ -28,10 +28,10 @@ pub record AreTables (w : WorldView) (text : List ℕ) : Type 0 where
 abbrev pub AreChains : List Id → WorldView → List ℕ → Type 0
 AreChains ids w text = ArePathTexts w.state ids text
 
--- the graph of a world, where a mark says of each object whether a collection of all generations keeps it:
+-- the graph of a world, where a test says of each object whether a collection of all generations keeps it:
 -- grey is exactly what such a collection removes
 pub record IsGraph (clusters : Clusters) (w : WorldView) (text : List ℕ) : Type 0 where
-  pub kept : List Bool
+  pub kept : ℕ → Bool
   pub marks : AllStayAsMarked w.state (picture_in w).objects kept
   pub is_text : text ≡ graph_text clusters (picture_in w) kept
 

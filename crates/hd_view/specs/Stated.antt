@@ -7,8 +7,7 @@ use Rattle.hd_model.specs.declared.data.Reply.{Reply}
 use Rattle.hd_model.specs.declared.data.Slot.{Slot}
 use Rattle.hd_model.specs.FullText.{full_line}
 use Rattle.hd_model.specs.Text.{reply_text}
-use Rattle.hd_audit.specs.Choice.{leading, slot_in, grown_in, place_in}
-use Rattle.hd_view.specs.declared.stated.Stated.{Stated}
+use Rattle.hd_plain.specs.Choice.{leading, slot_in, grown_in, address_in}
 
 -- a caller, a number, the bytes behind them, and the slot, the blocks and the address that are read there
 pub record Parts : Type 0 where
@@ -17,17 +16,7 @@ pub record Parts : Type 0 where
   pub tail : List ℕ
   pub slot : Option Slot
   pub grown : Grown
-  pub place : ℕ
-
-abbrev pub parts_in : Stated → Parts
-parts_in s = record {
-  caller = s.caller;
-  number = s.number;
-  tail = s.tail.now;
-  slot = s.slot;
-  grown = s.grown;
-  place = s.place;
-}
+  pub address : ℕ
 
 -- the bytes after digits, of which there is one at least, and a blank
 abbrev pub after_digits : Bool → List ℕ → Option (List ℕ)
@@ -46,7 +35,7 @@ parts_of line rest tail = record {
   tail = tail;
   slot = slot_in line;
   grown = grown_in line;
-  place = place_in line;
+  address = address_in line;
 }
 
 abbrev pub stated_in : List ℕ → Option Parts

@@ -6,14 +6,14 @@ use Rattle.hd_run.specs.AuditClaims.{RefusesInput}
 use Rattle.hd_run.specs.Bounds.{Bounds}
 use Rattle.hd_run.specs.Ending.{ReadBytes}
 use Rattle.hd_run.specs.Report.{memory_text}
-use Rattle.hd_view.specs.Found.{FoundCause, IsWhy, Reports}
-use Rattle.hd_view.specs.declared.found.Found.{Found}
+use Rattle.hd_view.specs.Findings.{FoundCause, IsWhy, Reports}
+use Rattle.hd_view.specs.declared.finding.Finding.{Finding}
 
 -- What a call promises, by what was seen of the source and of the sink, each before it and after it.
 pub record WhyPromise (b : Bounds) (old new : SourceView) (before after : SinkView) (status : ℕ) : Type 0
   where
     -- something was found with a cause, and is reported
-    pub work : (found : Found) × FoundCause b old new found × Reports before after found status
+    pub work : (found : Finding) × FoundCause b old new found × Reports before after found status
     -- on status 0 the text is that of a run of the whole script, and the verdict is written
     pub right : status ≡ 0 → ReadBytes old new (HasRun b) × Took before after right_text
     -- on status 7 it is not, and the verdict and why are written

@@ -166,9 +166,9 @@ cause_word (cause.NoCaller caller) = codes "there is no caller " ++ decimal call
 cause_word (cause.ListEnd caller) = codes "the list of caller " ++ decimal caller ++ codes " is at its end"
 cause_word (cause.Number number) = codes "the number of the command is " ++ decimal number
 cause_word cause.Reply = codes "the reply is another"
-cause_word (cause.Pinned place) = codes "the object is pinned at " ++ decimal place
-cause_word (cause.AddressTaken place) =
-    codes "an object with a pinned address is at " ++ decimal place
+cause_word (cause.Pinned address) = codes "the object is pinned at " ++ decimal address
+cause_word (cause.AddressTaken address) =
+    codes "an object with a pinned address is at " ++ decimal address
 cause_word (cause.Slot c) = slot_cause_word c
 cause_word (cause.Blocks c) = block_cause_word c
 cause_word cause.Spelled = codes "it reads as a line that may come, but has other bytes"

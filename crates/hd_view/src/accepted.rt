@@ -1,14 +1,14 @@
 // The lines that may come for a command that is due, as a set.
 ghost use Rattle.std.specs.Prelude.{◌≡◌, ℕ, ◌+◌, ◌<◌, ◌≤◌, ◌^◌, ◌↔◌, ◌⊎◌, true, drop, IfOk, IfSome};
 ghost use Rattle.hd_model.specs.declared.limits.TheConstants.{BLOCKS, ROWS};
-ghost use Rattle.hd_model.specs.{Judged.cut_lines, Places.IsFreePlace, Valid.IsValid};
+ghost use Rattle.hd_model.specs.{RunTexts.cut_lines, PinnedAddresses.IsFreeAddress, Valid.IsValid};
 ghost use Rattle.hd_model.specs.State.{IsAllFree, IsFree};
 ghost use Rattle.hd_model.specs.Step.{blocks_needed};
-ghost use Rattle.hd_audit.specs.Before.{HasExactly, HasOne, has_one_step};
-ghost use Rattle.hd_view.specs.Accepted.{grown_by, meets, AreDue, AreDueTo, AreValid, CoversTo, IsFullOf};
-ghost use Rattle.hd_view.specs.Accepted.{IsEntryOf, IsGrownOf, IsKnownOf, IsNamed, IsSetOf, IsSlotOf};
-ghost use Rattle.hd_view.specs.Accepted.{IsTextOf, IsThatSlot};
-ghost use Rattle.hd_view.specs.Sets.{Has, IsIn};
+ghost use Rattle.hd_plain.specs.OneEntry.{HasExactly, HasOne, has_one_step};
+ghost use Rattle.hd_view.specs.{Inside.grown_by, Inside.meets, Inside.AreDueTo, Inside.AreValid, Inside.CoversTo, Accepted.AreDue, Accepted.IsFullOf};
+ghost use Rattle.hd_view.specs.{Accepted.IsEntryOf, Accepted.IsNamed, Accepted.IsSetOf, Inside.IsGrownOf, Inside.IsKnownOf, Inside.IsSlotOf};
+ghost use Rattle.hd_view.specs.Inside.{IsTextOf, IsThatSlot};
+ghost use Rattle.hd_view.specs.{Inside.Has, Sets.IsIn};
 
 use crate::sets::{NumberSet, Range, add_range, push};
 use hd_audit::{Before, Entries, PinnedCells, state_after};
@@ -335,7 +335,7 @@ fn add_free_block(
 
 // The addresses at which an object shares no cell with one that has a pinned address.
 fn free_addresses(alloc: Global, before: &Before, id: Id) -> Result<NumberSet, Memory>
-    ensures { IfOk result (λ set. Has set (λ x. IsFreePlace before.now.state id x)) }
+    ensures { IfOk result (λ set. Has set (λ x. IsFreeAddress before.now.state id x)) }
 {
     let mut set = NumberSet::open(alloc);
     add_range(&mut set.within, 0, u32::MAX)?;

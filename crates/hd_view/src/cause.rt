@@ -8,10 +8,10 @@ ghost use Rattle.hd_model.specs.{State.first_slot, Step.IsLeastUnused};
 ghost use Rattle.hd_print.specs.VerdictLaws.{HasEnd};
 ghost use Rattle.hd_audit.specs.{Before.MayCome, Known.Known};
 ghost use Rattle.hd_view.specs.Accepted.{AreDue, IsDue};
-ghost use Rattle.hd_view.specs.Cause.{is_end, EachLike, Explains, Holds, HoldsOn, IsAddressNext};
-ghost use Rattle.hd_view.specs.Cause.{IsBlockNext, IsDueOf, IsGrowing, IsOnly, IsOnlyLike, IsSlotNext};
-ghost use Rattle.hd_view.specs.Cause.{IsWrong};
-ghost use Rattle.hd_view.specs.Stated.{parts_in, HasReply, Parts};
+ghost use Rattle.hd_view.specs.{Cause.is_end, Cause.EachLike, Cause.Holds, Cause.HoldsOn, Inside.Explains, Inside.IsAddressNext};
+ghost use Rattle.hd_view.specs.Inside.{IsBlockNext, IsDueOf, IsGrowing, IsOnly, IsOnlyLike, IsSlotNext};
+ghost use Rattle.hd_view.specs.Inside.{IsWrong};
+ghost use Rattle.hd_view.specs.{Inside.parts_in, Stated.HasReply, Stated.Parts};
 ghost use Rattle.hd_view.specs.declared.cause.Cause.TheVariants.{Spelled};
 
 use crate::accepted::{Accepted, Due};
@@ -410,8 +410,8 @@ fn address_cause(free: &NumberSet, stated: Stated) -> Cause
 {
     if !begins(stated.tail, "addr ".as_bytes()) {
         Cause::Reply
-    } else if !free.has(stated.place) {
-        Cause::AddressTaken(stated.place)
+    } else if !free.has(stated.address) {
+        Cause::AddressTaken(stated.address)
     } else if stated.slot.is_some() {
         Cause::Slot(SlotCause::Needless)
     } else {

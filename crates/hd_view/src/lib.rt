@@ -6,7 +6,7 @@ ghost use Rattle.hd_view.specs.Promise.{Promises};
 
 mod accepted;
 mod cause;
-mod found;
+mod finding;
 mod laws;
 mod request;
 mod script;

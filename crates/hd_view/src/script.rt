@@ -2,8 +2,8 @@
 ghost use Rattle.std.specs.Prelude.{◌≡◌, ◌-◌, ◌≤◌, length, take, IfErr, IfOk};
 ghost use Rattle.std.specs.List.{concat};
 ghost use Rattle.hd_model.specs.declared.limits.TheConstants.{MOST_BYTES};
-ghost use Rattle.hd_model.specs.Judged.{cut_lines};
-ghost use Rattle.hd_view.specs.Script.{RanTo, StopsBy, lines_before};
+ghost use Rattle.hd_model.specs.RunTexts.{cut_lines};
+ghost use Rattle.hd_view.specs.{Script.RanTo, Script.lines_before, Inside.StopsBy};
 
 use hd_audit::cut_line;
 use hd_faults::{Unread, find_fault, push_fault, push_unread};

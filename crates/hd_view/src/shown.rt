@@ -4,7 +4,7 @@ ghost use Rattle.hd_seen.specs.Seen.{view_seen};
 ghost use Rattle.hd_snapshot.specs.Laws.{IsParted};
 ghost use Rattle.hd_run.specs.Report.{IsReported, fault_status};
 ghost use Rattle.hd_run.specs.declared.fault.Fault.TheVariants.{NoMemory};
-ghost use Rattle.hd_view.specs.Script.{RanTo, StopsBy};
+ghost use Rattle.hd_view.specs.{Script.RanTo, Inside.StopsBy};
 ghost use Rattle.hd_talk.specs.Machine.{picture_in};
 ghost use Rattle.hd_view.specs.Shown.{AreChains, AreTables, IsGraph, ShowPromise};
 ghost use Rattle.hd_world.specs.World.{WorldView};

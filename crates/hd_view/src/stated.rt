@@ -1,6 +1,6 @@
 // What a line states of its entry, read loosely.
 ghost use Rattle.std.specs.Prelude.{◌≡◌, ◌↔◌, IsTrue, bytes_eq, option_map};
-ghost use Rattle.hd_view.specs.Stated.{after_number, begins, parts_in, stated_in, EndsWord, HasReply};
+ghost use Rattle.hd_view.specs.{Stated.after_number, Stated.begins, Stated.stated_in, Stated.EndsWord, Stated.HasReply, Inside.parts_in};
 
 use hd_audit::{Choice, leading};
 use hd_model::{Grown, Reply, Slot};
@@ -15,7 +15,7 @@ pub(crate) struct Stated<'a> {
     pub(crate) slot: Option<Slot>,
     pub(crate) grown: Grown,
     /// The last number of an `addr`.
-    pub(crate) place: u32,
+    pub(crate) address: u32,
 }
 
 /// What a line states, where it begins with two numbers that have a blank behind them.
@@ -31,7 +31,7 @@ pub(crate) fn parts_of(line: &[u8]) -> Option<Stated<'_>>
         tail,
         slot: choice.slot,
         grown: choice.grown,
-        place: choice.place,
+        address: choice.address,
     })
 }
 

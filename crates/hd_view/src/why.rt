@@ -3,14 +3,14 @@ ghost use Rattle.std.specs.Prelude.{◌≡◌, ◌+◌, ◌≤◌, length, IfOk,
 ghost use Rattle.hd_io.specs.Sink.{Took, WriteBrokeOff};
 ghost use Rattle.hd_model.specs.declared.limits.TheConstants.{MOST_BYTES};
 ghost use Rattle.hd_run.specs.{Audit.wrong_text, Bounds.numbers_for};
-ghost use Rattle.hd_view.specs.Accepted.{IsTextOf};
-ghost use Rattle.hd_view.specs.Found.{found_text, FindsIn, FoundCause, IsFoundOf, IsReasonOf};
-ghost use Rattle.hd_view.specs.Found.{IsWrongOf, Reports};
+ghost use Rattle.hd_view.specs.Inside.{IsTextOf};
+ghost use Rattle.hd_view.specs.{Findings.found_text, Findings.FindsIn, Findings.FoundCause, Inside.IsFoundOf, Inside.IsReasonOf};
+ghost use Rattle.hd_view.specs.{Inside.IsWrongOf, Findings.Reports};
 ghost use Rattle.hd_view.specs.Why.{WhyPromise};
 
 use crate::accepted::{Judgement, all_due};
 use crate::cause::cause_of;
-use crate::found::Found;
+use crate::finding::Finding;
 use crate::why_text::push_why;
 use hd_audit::{Verdict, audit};
 use hd_io::{Failed, Sink, Source, read_all, write_all};
@@ -41,7 +41,7 @@ pub(crate) fn explain<S: Source, K: Sink>(
 }
 
 // Writes what was found, and returns the status.
-fn report<K: Sink>(found: &Found, out: &mut K) -> u8
+fn report<K: Sink>(found: &Finding, out: &mut K) -> u8
     ensures { Reports (K.seen out.old) (K.seen out.new) found.now result }
 {
     match write_found(found, out) {
@@ -51,39 +51,39 @@ fn report<K: Sink>(found: &Found, out: &mut K) -> u8
 }
 
 // Writes the text of what was found.
-fn write_found<K: Sink>(found: &Found, out: &mut K) -> Result<(), Failed>
+fn write_found<K: Sink>(found: &Finding, out: &mut K) -> Result<(), Failed>
     ensures all { OnOk result (Took (K.seen out.old) (K.seen out.new) (found_text found.now)) }
     ensures broke_off { OnErr result
         (WriteBrokeOff (K.seen out.old) (K.seen out.new) (found_text found.now)) }
 {
     match found {
-        Found::Refused(fault) => write_all(out, fault.line().as_bytes()),
-        Found::Run => write_all(out, "run yes\n".as_bytes()),
-        Found::NoRun(text) => write_all(out, text.as_bytes()),
+        Finding::Refused(fault) => write_all(out, fault.line().as_bytes()),
+        Finding::Run => write_all(out, "run yes\n".as_bytes()),
+        Finding::NoRun(text) => write_all(out, text.as_bytes()),
     }
 }
 
 // Reads the source to its end, and judges the text in it against the script before it.
-fn judge<S: Source>(alloc: Global, limits: &Limits, source: &mut S) -> Found
+fn judge<S: Source>(alloc: Global, limits: &Limits, source: &mut S) -> Finding
     ensures { FoundCause limits.now (S.seen source.old) (S.seen source.new) result }
 {
     match read_all(alloc, source, MOST_BYTES) {
         Ok(bytes) => judge_bytes(alloc, limits, &bytes),
-        Err(fault) => Found::Refused(unread(fault)),
+        Err(fault) => Finding::Refused(unread(fault)),
     }
 }
 
 // Judges the text in an input that was read whole.
-fn judge_bytes(alloc: Global, limits: &Limits, bytes: &[u8]) -> Found
+fn judge_bytes(alloc: Global, limits: &Limits, bytes: &[u8]) -> Finding
     requires { length bytes.now ≤ MOST_BYTES }
     ensures { FindsIn limits.now bytes.now result }
 {
     match parse_audit(alloc, bytes) {
         Ok((scripts, text)) => match judge_text(alloc, limits, &scripts, text) {
             Ok(found) => found,
-            Err(Memory) => Found::Refused(Fault::NoMemory),
+            Err(Memory) => Finding::Refused(Fault::NoMemory),
         },
-        Err(fault) => Found::Refused(unparsed(fault)),
+        Err(fault) => Finding::Refused(unparsed(fault)),
     }
 }
 
@@ -93,11 +93,11 @@ fn judge_text(
     limits: &Limits,
     scripts: &Scripts,
     text: &[u8],
-) -> Result<Found, Memory>
+) -> Result<Finding, Memory>
     ensures { IfOk result (IsFoundOf (numbers_for limits.now scripts.now) scripts.now text.now) }
 {
     let line = match audit(alloc, scripts, text, limits.heap, limits.blocks) {
-        Verdict::Run => return Ok(Found::Run),
+        Verdict::Run => return Ok(Finding::Run),
         Verdict::Memory => return Err(Memory),
         Verdict::NotRun { line } => line,
     };
@@ -109,7 +109,7 @@ fn judge_text(
         blocks: limits.blocks,
         count: line - 1,
     };
-    Ok(Found::NoRun(reason(&judgement, line)?))
+    Ok(Finding::NoRun(reason(&judgement, line)?))
 }
 
 // The verdict that a line is the first that is not right, and why.

@@ -2,7 +2,7 @@
 ghost use Rattle.std.specs.Prelude.{◌≡◌, ◌++◌, ◌<◌, decimal, length, IfOk, IfSome, flat_map};
 ghost use Rattle.std.specs.List.{position};
 ghost use Rattle.hd_model.specs.{CommandText.kind_name, Grammar.is_line_end, Valid.IsValid};
-ghost use Rattle.hd_view.specs.Accepted.{AreValid};
+ghost use Rattle.hd_view.specs.Inside.{AreValid};
 ghost use Rattle.hd_view.specs.WhyText.{accepts_text, another_word, block_cause_word, blocks_text};
 ghost use Rattle.hd_view.specs.WhyText.{but_word, byte_word, cause_word, digit_of, due_text};
 ghost use Rattle.hd_view.specs.WhyText.{end_text, entry_line, escaped, letter_word, line_bytes};
@@ -366,9 +366,9 @@ fn push_cause(text: &mut Text, cause: Cause) -> Result<(), Memory>
         }
         Cause::Number(number) => push_numbered(text, "the number of the command is ", number),
         Cause::Reply => text.push("the reply is another"),
-        Cause::Pinned(place) => push_numbered(text, "the object is pinned at ", place),
-        Cause::AddressTaken(place) => {
-            push_numbered(text, "an object with a pinned address is at ", place)
+        Cause::Pinned(address) => push_numbered(text, "the object is pinned at ", address),
+        Cause::AddressTaken(address) => {
+            push_numbered(text, "an object with a pinned address is at ", address)
         }
         Cause::Slot(cause) => push_slot_cause(text, cause),
         Cause::Blocks(cause) => push_block_cause(text, cause),

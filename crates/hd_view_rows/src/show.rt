@@ -1,7 +1,7 @@
 // The tables as a user reads them, of a store that has one of each.
 use hd_model::{Addr, Id, Kind, Memory, Slot, Strength};
 use hd_seen::{
-    PLACES, SeenBlock, SeenEntry, SeenExtra, SeenHandle, SeenObject, SeenRegion, Snapshot,
+    INDEXES, SeenBlock, SeenEntry, SeenExtra, SeenHandle, SeenObject, SeenRegion, Snapshot,
 };
 use hd_show::show_text;
 use std::alloc::Global;
@@ -144,13 +144,13 @@ fn blocks(alloc: Global) -> Result<Vec<SeenBlock>, Fail> {
 }
 
 fn snapshot(alloc: Global) -> Result<Snapshot, Fail> {
-    let mut registers = [None; PLACES];
+    let mut registers = [None; INDEXES];
     registers[3] = Some(Id(1));
-    let mut handle_registers = [None; PLACES];
+    let mut handle_registers = [None; INDEXES];
     handle_registers[15] = Some(Slot(64));
-    let mut statics = [None; PLACES];
+    let mut statics = [None; INDEXES];
     statics[0] = Some(Id(2));
-    let mut board = [None; PLACES];
+    let mut board = [None; INDEXES];
     board[1] = Some(Slot(128));
     Ok(Snapshot {
         callers: 1,

@@ -1,7 +1,8 @@
 -- Chains in their order, as nodes are put at their ends.
 use Rattle.std.proofs.Common.{◌≡◌, ℕ, ◌≤◌, List, [], ◌∷◌, ◌++◌, length, refl, sym, ap, ◌∙◌, subst, arith, ⊎_elim, inl, inr}
 use Rattle.std.proofs.lemmas.List.{length_push}
-use Rattle.hd_walk.specs.Chains.{IsEarlier, IsLess, IsNoLater, IsWalk}
+use Rattle.hd_walk.specs.Chains.{IsWalk}
+use Rattle.hd_walk.proofs.LeastChains.{IsEarlier, IsLess, IsNoLater}
 
 -- one node more at the end of a chain
 pub walk_push : {Leads : ℕ → ℕ → Type 0} {goal x z : ℕ} {rest : List ℕ} → IsWalk Leads goal x rest

@@ -5,5 +5,4 @@ pub mod ChainOrders
 pub mod WalkChains
 pub mod WalkClosures
 pub mod NamedChains
-pub mod PairRows
-pub mod RowTargets
+pub mod LeastChains

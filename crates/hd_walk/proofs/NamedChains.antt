@@ -3,7 +3,8 @@ use Rattle.std.proofs.Common.{◌≡◌, ℕ, suc, ◌≤◌, List, [], ◌∷�
 use Rattle.std.proofs.lemmas.List.{length_push}
 use Rattle.hd_model.proofs.AnchorChains.{some_edges}
 use Rattle.hd_model.specs.Anchors.{IsShortest, IsUnrooted, LeadsIn}
-use Rattle.hd_walk.specs.Chains.{IsLeast, IsWalk}
+use Rattle.hd_walk.specs.Chains.{IsWalk}
+use Rattle.hd_walk.proofs.LeastChains.{IsLeast}
 use Rattle.hd_walk.proofs.ChainOrders.{walk_push}
 
 -- an edge before a chain

@@ -1,15 +1,14 @@
 -- What a trail has after nodes were added to it.
-use Rattle.std.proofs.Common.{◌≡◌, ◌≢◌, ℕ, suc, zero, ◌==◌, ◌||◌, not, Bool, true, false, cond, List, [], ◌∷◌, ◌++◌, length, map, get_or, Option, Some, refl, sym, ap, ◌∙◌, subst, ⊎_elim, eq-eqb, eqb-true, ne_eqb, AllPairs, Contains}
-use Rattle.std.specs.Prelude.{slice_get}
+use Rattle.std.proofs.Common.{◌≡◌, ◌≢◌, ℕ, suc, zero, ◌==◌, ◌||◌, not, Bool, true, false, cond, List, [], ◌∷◌, ◌++◌, ◌+◌, ◌<◌, length, get_or, arith, Option, Some, refl, sym, ap, ◌∙◌, subst, ⊎_elim, eq-eqb, eqb-true, ne_eqb, AllPairs, Contains}
+use Rattle.std.specs.Prelude.{slice_get, slice_index}
 use Rattle.std.proofs.lemmas.Bool.{cases_eq, false≢true, true≢false, or_cases, or_left, or_right}
-use Rattle.std.proofs.lemmas.List.{append-nil, append_assoc, map_push}
+use Rattle.std.proofs.lemmas.List.{append-nil, append_assoc, length_push}
 use Rattle.std.proofs.lemmas.List.Folds.{list_any-append}
 use Rattle.std.proofs.lemmas.List.Quantifiers.{all_pairs_push}
 use Rattle.std.proofs.lemmas.Option.{none-some, same_Some, slice_get-get_or}
 use Rattle.hd_model.proofs.Members.{not_in_none, first_in, later_in, member_cases, pairs_none, pairs_first, pairs_rest, pairs_cons}
-use Rattle.hd_walk.specs.declared.trail.Entry.{Entry}
 use Rattle.hd_walk.specs.declared.trail.Found.{Found}
-use Rattle.hd_walk.specs.Trail.{found_of, is_found, with_found, with_all, IsTrail}
+use Rattle.hd_walk.specs.{Trail.before_of, Trail.found_by, Trail.is_found, Trail.with_found, Trail.with_all, Trail.IsOnce, Inside.IsTrail}
 use Rattle.hd_walk.proofs.Slices.{at_end}
 
 -- the index at which a node is found
@@ -165,31 +164,67 @@ or_false : (b : Bool) → (b || false) ≡ b
 or_false true = refl
 or_false false = refl
 
-trail_more : {found : List Found} {has after : ℕ → Bool} (x : Found) → IsTrail found has
-    → is_found found x.at ≡ false → ((q : ℕ) → after q ≡ cond (x.at == q) true (has q))
-    → IsTrail (found ++ x ∷ []) after
-trail_more {found = found} {has = has} x r out updates = record {
-  nodes = λ q.
-      updates q
-      ∙ ⊎_elim
-      (λ same. ap (λ b. cond b true (has q)) (eq-eqb x.at q same)
-      ∙ sym (subst (λ n. is_found (found ++ x ∷ []) n ≡ true) same (found_last found x)))
-      (λ apart. ap (λ b. cond b true (has q)) (ne_eqb x.at q apart) ∙ r.nodes q
-      ∙ sym (list_any-append (λ (y : Found). q == y.at) found (x ∷ [])
-      ∙ ap (λ b. is_found found q || (b || false)) (ne_eqb q x.at (λ e. apart (sym e)))
-      ∙ or_false (is_found found q)))
-      (cases_eq x.at q);
-  once =
-      all_pairs_push (λ (a b : Found). a.at ≢ b.at) found x r.once
-      (λ k d lt same. true≢false
-      (sym (subst (λ a. is_found found a ≡ true) same
-      (found_at found k (get_or found k d) (slice_get-get_or found k d lt))) ∙ out));
-}
+pub long_by : (nodes marks : List ℕ) → length marks ≡ length nodes → length (found_by nodes marks) ≡ length nodes
+long_by [] marks same = refl
+long_by (y ∷ ys) [] same = absurd (omega (arith, same))
+long_by (y ∷ ys) (m ∷ ms) same = ap suc (long_by ys ms (omega (arith, same)))
 
-pub entry_more : (entries : List Entry) {has after : ℕ → Bool} (e : Entry) → IsTrail (map found_of entries) has
-    → is_found (map found_of entries) e.at ≡ false
-    → ((q : ℕ) → after q ≡ cond (e.at == q) true (has q))
-    → IsTrail (map found_of (entries ++ e ∷ [])) after
-entry_more entries {after = after} e r out updates =
-    subst (λ xs. IsTrail xs after) (sym (map_push found_of entries e))
-    (trail_more (found_of e) r out updates)
+pub get_by : (nodes marks : List ℕ) (i : ℕ) → i < length nodes → length marks ≡ length nodes
+    → slice_get (found_by nodes marks) i
+    ≡ Some (record { at = slice_index nodes i; before = before_of (slice_index marks i) })
+get_by [] marks i inside same = absurd (omega arith)
+get_by (y ∷ ys) [] i inside same = absurd (omega (arith, same))
+get_by (y ∷ ys) (m ∷ ms) zero inside same = refl
+get_by (y ∷ ys) (m ∷ ms) (suc i) inside same = get_by ys ms i (omega arith) (omega (arith, same))
+
+pub more_by : (nodes marks : List ℕ) (y m : ℕ) → length marks ≡ length nodes
+    → found_by (nodes ++ y ∷ []) (marks ++ m ∷ [])
+    ≡ found_by nodes marks ++ record { at = y; before = before_of m } ∷ []
+more_by [] [] y m same = refl
+more_by [] (n ∷ ms) y m same = absurd (omega (arith, same))
+more_by (x ∷ xs) [] y m same = absurd (omega (arith, same))
+more_by (x ∷ xs) (n ∷ ms) y m same =
+    ap (λ (rest : List Found). record { at = x; before = before_of n } ∷ rest)
+    (more_by xs ms y m (omega (arith, same)))
+
+pub trail_more : (nodes marks : List ℕ) {has after : ℕ → Bool} (y m : ℕ) → IsTrail nodes marks has
+    → is_found (found_by nodes marks) y ≡ false → ((q : ℕ) → after q ≡ cond (y == q) true (has q))
+    → IsTrail (nodes ++ y ∷ []) (marks ++ m ∷ []) after
+trail_more nodes marks {has = has} y m r out updates =
+    let found = found_by nodes marks in
+    let x : Found = record { at = y; before = before_of m } in
+    let more = sym (more_by nodes marks y m r.marked) in
+    record {
+      marked = length_push marks m ∙ ap (λ n. n + 1) r.marked ∙ sym (length_push nodes y);
+      among = λ q.
+          updates q
+          ∙ ⊎_elim
+          (λ same. ap (λ b. cond b true (has q)) (eq-eqb y q same)
+          ∙ sym (subst (λ n. is_found (found ++ x ∷ []) n ≡ true) same (found_last found x)))
+          (λ apart. ap (λ b. cond b true (has q)) (ne_eqb y q apart) ∙ r.among q
+          ∙ sym (list_any-append (λ (z : Found). q == z.at) found (x ∷ [])
+          ∙ ap (λ b. is_found found q || (b || false)) (ne_eqb q y (λ e. apart (sym e)))
+          ∙ or_false (is_found found q)))
+          (cases_eq y q)
+          ∙ ap (λ (xs : List Found). is_found xs q) more;
+      once =
+          subst (λ (xs : List Found). IsOnce xs) more
+          (all_pairs_push (λ (a b : Found). a.at ≢ b.at) found x r.once
+          (λ k d lt same. true≢false
+          (sym (subst (λ a. is_found found a ≡ true) same
+          (found_at found k (get_or found k d) (slice_get-get_or found k d lt))) ∙ out)));
+    }
+
+-- a test of nodes sees what is found
+pub test_by : (nodes marks : List ℕ) {has : ℕ → Bool} (y : ℕ) (b : Bool) → IsTrail nodes marks has → b ≡ not (has y)
+    → b ≡ true → is_found (found_by nodes marks) y ≡ false
+test_by nodes marks y b r is new = sym (r.among y) ∙ not_true _ (sym is ∙ new)
+
+-- what a new node makes of what is found
+pub next_by : (nodes marks : List ℕ) (y m : ℕ) → length marks ≡ length nodes
+    → is_found (found_by nodes marks) y ≡ false
+    → found_by (nodes ++ y ∷ []) (marks ++ m ∷ []) ≡ with_found (found_by nodes marks) y (before_of m)
+next_by nodes marks y m same out =
+    let found = found_by nodes marks in
+    more_by nodes marks y m same
+    ∙ sym (ap (λ b. cond b found (found ++ record { at = y; before = before_of m } ∷ [])) out)

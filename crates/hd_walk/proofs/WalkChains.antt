@@ -6,7 +6,8 @@ use Rattle.std.proofs.lemmas.Bool.{cases_lt}
 use Rattle.std.proofs.lemmas.List.{append-nil, append_assoc, length_push, reverse-append}
 use Rattle.std.proofs.lemmas.Option.{none-some, same_Some, slice_get_within}
 use Rattle.hd_walk.specs.declared.trail.Found.{Found}
-use Rattle.hd_walk.specs.Chains.{IsEarlier, IsLeast, IsNoLater, IsWalk}
+use Rattle.hd_walk.specs.Chains.{IsWalk}
+use Rattle.hd_walk.proofs.LeastChains.{IsEarlier, IsLeast, IsNoLater}
 use Rattle.hd_walk.specs.Trail.{IsReadBack}
 use Rattle.hd_walk.proofs.Slices.{some_at}
 use Rattle.hd_walk.proofs.ChainOrders.{walk_push, push_earlier, push_last, push_no_later, longer, no_later_on}

@@ -1,6 +1,4 @@
 pub mod Trail
 pub mod Walk
 pub mod Chains
-pub mod Rows
-pub mod Cuts
-pub mod Pairs
+pub mod Inside

@@ -2,16 +2,17 @@
 use Rattle.std.specs.Prelude.{◌≡◌, ◌≢◌, ℕ, suc, zero, ◌+◌, ◌^◌, ◌<◌, ◌==◌, Bool, cond, List, [], ◌∷◌, ◌++◌, slice_get, Option, Some, None, AllPairs}
 use Rattle.std.specs.List.{list_any}
 use Rattle.hd_walk.specs.declared.trail.Found.{Found}
-use Rattle.hd_walk.specs.declared.trail.Entry.{Entry}
 
 -- an index as it is kept: 0 is none, and one more is the index
 abbrev pub before_of : ℕ → Option ℕ
 before_of zero = None
 before_of (suc i) = Some i
 
--- a found node as it is kept
-abbrev pub found_of : Entry → Found
-found_of e = record { at = e.at; before = before_of e.mark }
+-- found nodes as they are kept: by the nodes and their marks
+abbrev pub found_by : List ℕ → List ℕ → List Found
+found_by [] marks = []
+found_by (y ∷ ys) [] = []
+found_by (y ∷ ys) (mark ∷ marks) = record { at = y; before = before_of mark } ∷ found_by ys marks
 
 -- an index, if there is one, which with one more is a word
 abbrev pub IsIndex : Option ℕ → Type 0
@@ -33,11 +34,6 @@ with_all found (y ∷ ys) before = with_all (with_found found y before) ys befor
 -- each is found once
 abbrev pub IsOnce : List Found → Type 0
 IsOnce found = AllPairs (λ (x y : Found). x.at ≢ y.at) found
-
--- what is always true of a trail, whose set of nodes has this test
-pub record IsTrail (found : List Found) (has : ℕ → Bool) : Type 0 where
-  pub nodes : (q : ℕ) → has q ≡ is_found found q
-  pub once : IsOnce found
 
 -- the one before a found node was found earlier
 abbrev pub IsFalling : List Found → Type 0

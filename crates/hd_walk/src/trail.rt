@@ -2,8 +2,8 @@
 ghost use Rattle.std.specs.Prelude.{◌≡◌, ◌<◌, [], length, slice_get, Some, IfOk, MatchOption};
 ghost use Rattle.hd_walk.specs.Trail.{IsFirstAt, IsNotBefore, IsOnce, IsIndex, before_of, is_found, with_all, with_found};
 
+use indexmap::IndexSet;
 use std::alloc::{AllocError, Global};
-use std::collections::HashSet;
 use std::marker::Model;
 
 /// A found node, and the index of the one before it in its chain. A start has none before it.
@@ -13,31 +13,25 @@ pub struct Found {
     pub before: Option<usize>,
 }
 
-// A found node as it is kept, in two words: none before it is 0, and index `i` is `i + 1`.
-#[derive(Clone, Copy)]
-struct Entry {
-    at: u64,
-    mark: usize,
-}
-
 /// The found nodes, each once.
 #[derive(Drop)]
 pub struct Trail {
-    entries: Vec<Entry>,
-    nodes: HashSet<u64>,
+    nodes: IndexSet<u64>,
+    // For each the index of the one before it, and 1; or 0, where there is none.
+    marks: Vec<usize>,
 }
 
 impl Model for Trail {
-    ghost use Rattle.std.specs.Prelude.{List, map, nat_eq};
-    ghost use Rattle.std.specs.HashSet.{contains};
+    ghost use Rattle.std.specs.Prelude.{List, nat_eq};
+    ghost use Rattle.indexmap.specs.IndexSet.{contains};
     ghost use Rattle.hd_walk.specs.declared.trail.Found.{Found};
-    ghost use Rattle.hd_walk.specs.Trail.{IsTrail, found_of};
+    ghost use Rattle.hd_walk.specs.{Inside.IsTrail, Trail.found_by};
 
     ghost Value = { List Found };
 
-    ghost view = { λ t. map found_of t.entries.items };
+    ghost view = { λ t. found_by t.nodes.keys t.marks.items };
 
-    ghost invariant = { λ t. IsTrail (map found_of t.entries.items) (contains nat_eq t.nodes) };
+    ghost invariant = { λ t. IsTrail t.nodes.keys t.marks.items (contains nat_eq t.nodes) };
 }
 
 impl Trail {
@@ -46,8 +40,8 @@ impl Trail {
         ensures { result ≡ [] }
     {
         Trail {
-            entries: Vec::new(alloc),
-            nodes: HashSet::new(alloc),
+            nodes: IndexSet::new(alloc),
+            marks: Vec::new(alloc),
         }
     }
 
@@ -55,8 +49,8 @@ impl Trail {
     pub fn reserve(&mut self, more: usize) -> Result<(), AllocError>
         ensures { self.new ≡ self.old }
     {
-        self.entries.reserve(more)?;
-        self.nodes.reserve(more)
+        self.nodes.reserve(more)?;
+        self.marks.reserve(more)
     }
 
     /// The number of found nodes.
@@ -64,7 +58,7 @@ impl Trail {
         ensures value { result ≡ length self.now }
         ensures once { IsOnce self.now }
     {
-        self.entries.len()
+        self.marks.len()
     }
 
     /// Found node `i`, from 0.
@@ -72,10 +66,9 @@ impl Trail {
         requires { i < length self.now }
         ensures { slice_get self.now i ≡ Some result }
     {
-        let entry = self.entries[i];
         Found {
-            at: entry.at,
-            before: before_of(entry.mark),
+            at: self.nodes.as_slice()[i],
+            before: before_of(self.marks[i]),
         }
     }
 
@@ -87,7 +80,7 @@ impl Trail {
     }
 
     /// The index of a node, if it is found. It takes time by the number of found nodes.
-    pub fn place(&self, at: u64) -> Option<usize>
+    pub fn index_of(&self, at: u64) -> Option<usize>
         ensures { MatchOption result (IsNotBefore self.now at (length self.now))
             (IsFirstAt self.now at) }
     {
@@ -99,13 +92,27 @@ impl Trail {
         None
     }
 
+    // Takes memory for three times as many nodes more, where none is left: copies are rare then.
+    fn make_room(&mut self) -> Result<(), AllocError>
+        ensures { self.new ≡ self.old }
+    {
+        let count = self.marks.len();
+        if count == self.marks.capacity() {
+            self.reserve(count.saturating_mul(3))?;
+        }
+        Ok(())
+    }
+
     // Adds a node, if it is not among the found ones.
     fn add(&mut self, at: u64, mark: usize) -> Result<(), AllocError>
         ensures { IfOk result (λ _. self.new ≡ with_found self.old at (before_of mark)) }
     {
-        self.entries.reserve(1)?;
-        if self.nodes.insert(at)? {
-            self.entries.push_reserved(Entry { at, mark });
+        self.make_room()?;
+        self.marks.reserve(1)?;
+        match self.nodes.insert(at) {
+            Ok(true) => self.marks.push_reserved(mark),
+            Ok(false) => {}
+            Err(_) => return Err(AllocError),
         }
         Ok(())
     }
@@ -123,14 +130,14 @@ impl Trail {
     }
 }
 
-// What an entry says of the one before it.
+// The one before a node, by its mark.
 fn before_of(mark: usize) -> Option<usize>
     ensures { result ≡ before_of mark }
 {
     mark.checked_sub(1)
 }
 
-// What an entry keeps of the one before it.
+// The mark of a node, by the one before it.
 fn mark_of(before: Option<usize>) -> usize
     requires { IsIndex before }
     ensures { before_of result ≡ before }

@@ -4,4 +4,4 @@ pub mod StateHeap
 pub mod Applied
 pub mod Stepped
 -- What a world keeps inside.
-pub mod Placed
+pub mod TrueRuns

@@ -1,10 +1,10 @@
 ghost use Rattle.std.specs.Prelude.{◌≡◌, ◌+◌, ◌<◌, ◌≤◌, ◌^◌, [], length, IsTrue, IfOk, OnErr, MatchResult};
 ghost use Rattle.std.specs.FinMap.{len};
 ghost use Rattle.hd_model.specs.State.{Numbers, start_of, use_of, block_of};
-ghost use Rattle.hd_model.specs.{Places.with_places, Run.Run, Valid.IsValid, Valid.takes_memory, RootText.roots_of, Text.collections_of, Text.is_collect};
+ghost use Rattle.hd_model.specs.{PinnedAddresses.with_pinned, Run.Run, Valid.IsValid, Valid.takes_memory, RootText.roots_of, Text.collections_of, Text.is_collect};
 ghost use Rattle.hd_store.specs.{Growth.kind_in_use, Visited.TakesSteps};
 ghost use Rattle.hd_store.specs.Offers.{HasLimits, IsOffer, needs_slot, FitsHeap};
-ghost use Rattle.hd_world.specs.{Placed.Placed, Placed.Placed-prop, Applied.Applied, StateHeap.IsOfJournal, Stepped.Stepped, Stepped.WantsMemory, World.MayApply};
+ghost use Rattle.hd_world.specs.{TrueRuns.Placed, TrueRuns.Placed-prop, Applied.Applied, StateHeap.IsOfJournal, Stepped.Stepped, Stepped.WantsMemory, World.MayApply};
 
 use hd_model::limits::{BLOCKS, CALLERS, HEAP};
 use hd_model::{Class, Cmd, Entry, Held, Journal, Kind, Memory, RootId, Slot, Steps};
@@ -28,8 +28,8 @@ pub struct World {
 }
 
 impl Model for World {
-    ghost use Rattle.hd_model.specs.Places.{with_places};
-    ghost use Rattle.hd_world.specs.{Placed.IsTrueRun, World.WorldView, World.world_view_code};
+    ghost use Rattle.hd_model.specs.PinnedAddresses.{with_pinned};
+    ghost use Rattle.hd_world.specs.{TrueRuns.IsTrueRun, World.WorldView, World.world_view_code};
 
     ghost Value = { WorldView };
 
@@ -37,7 +37,7 @@ impl Model for World {
 
     ghost view = { λ w. record {
       numbers = w.store.numbers;
-      state = with_places w.store.state w.placed.0;
+      state = with_pinned w.store.state w.placed.0;
       ages = w.store.ages;
       heap = w.store.heap;
       table = w.store.table;
@@ -175,14 +175,14 @@ impl World {
         ensures limits { HasLimits self.now.numbers }
     {
         // Read for the proof alone: the store is one over its heap.
-        let _objects = self.store.objects();
+        let _contents = self.store.contents();
         &self.journal
     }
 
     /// The store. It has the world's state but for the pinned addresses.
     pub fn store(&self) -> &Store
         ensures numbers { result.now.numbers ≡ self.now.numbers }
-        ensures state { with_places result.now.state self.now.state.places ≡ self.now.state }
+        ensures state { with_pinned result.now.state self.now.state.pinned ≡ self.now.state }
         ensures ages { result.now.ages ≡ self.now.ages }
         ensures heap { result.now.heap ≡ self.now.heap }
         ensures table { result.now.table ≡ self.now.table }
@@ -212,21 +212,21 @@ impl World {
     pub fn kind_of(&self, slot: Slot) -> Option<Kind>
         ensures { result ≡ kind_in_use (use_of self.now.state (block_of slot)) }
     {
-        self.store.kind_of(slot)
+        self.store.contents().kind_of(slot)
     }
 
     /// The number of live handles, without the slots that the weak table holds.
     pub fn live(&self) -> u32
         ensures { result ≡ len self.now.state.handles }
     {
-        self.store.live()
+        self.store.contents().live()
     }
 
     /// The number of objects, reachable or not.
     pub fn objects(&self) -> u32
         ensures { result ≡ len self.now.state.objects }
     {
-        self.store.objects()
+        self.store.contents().objects()
     }
 
     /// The handles that hold their targets, by rising slot. It takes memory for them.
@@ -234,10 +234,11 @@ impl World {
         ensures value { IfOk result (λ roots. roots.items ≡ roots_of self.now.state) }
         ensures few { IfOk result (λ roots. length roots.items < 2 ^ 32) }
     {
+        let store = self.store.contents();
         // The read gives a bound of the handles, and so of the roots.
-        let _live = self.store.live();
-        let roots = gather(rt, alloc, self.store.table(), self.store.blocks())?;
-        self.store.named_roots(alloc, &roots)
+        let _live = store.live();
+        let roots = gather(rt, alloc, store.table(), store.blocks())?;
+        store.named_roots(alloc, &roots)
     }
 
     /// The number of collections in the journal.

@@ -3,20 +3,14 @@ use Rattle.std.proofs.Common.{None, Option, Some, refl, subst, sym, ℕ, ◌≡�
 use Rattle.std.specs.Prelude.{Err, MatchResult, Ok, Result}
 use Rattle.hd_host.specs.declared.fault.Fault.{Fault}
 use Rattle.hd_host.specs.View.{HostView, IsAsItWas}
-use Rattle.hdt_c.specs.Exports.{Comes, closed, comes_on, Runs, is_wrong, fails, does}
+use Rattle.hdt_c.specs.Exports.{Comes, closed, comes_on, Runs, fails, does}
 use Rattle.hdt_c.specs.Outs.{IsOpened, Opens, Refuses, is_open, opens, refuses}
 use Rattle.hdt_c.specs.Status.{status_of}
 use Rattle.hdt_c.specs.declared.parts.Limits.{Limits}
-use Rattle.hdt_c.specs.declared.status.TheConstants.{ARGUMENT, CLOSED, IS_OPEN, OK}
+use Rattle.hdt_c.specs.declared.status.TheConstants.{CLOSED, IS_OPEN, OK}
 
 module _ {Right : HostView → Type 0} {Fails : HostView → Fault → Type 0}
     {Does : HostView → HostView → ℕ → Type 0} {Kept : Type 0} where
-  pub wrong : {v w : HostView} {s : ℕ} → (Right v → ⊥) → Kept → w ≡ v → s ≡ ARGUMENT
-      → Runs Right Fails Does Kept v w s
-  wrong {v} {w} {s} bad kept same is =
-      subst (λ x. Runs Right Fails Does Kept v x s) (sym same)
-      (subst (λ n. Runs Right Fails Does Kept v v n) (sym is) (is_wrong v bad kept))
-
   pub failed : {v w : HostView} {s : ℕ} (f : Fault) → Right v → Fails v f → IsAsItWas v w → Kept
       → s ≡ status_of f → Runs Right Fails Does Kept v w s
   failed {v} {w} f right why same kept is =

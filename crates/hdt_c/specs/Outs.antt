@@ -9,8 +9,8 @@ use Rattle.hd_store.specs.Offers.{HasLimits}
 use Rattle.hd_host.specs.{Handles.IsNextFrom, View.HostView}
 use Rattle.hd_host.specs.declared.collecting.Root.{Root as HostRoot}
 use Rattle.hd_host.specs.declared.observing.Listed.{Listed}
-use Rattle.hd_host.specs.declared.weak.Found.{Found}
-use Rattle.hd_host.specs.declared.weak.Found.TheVariants as found
+use Rattle.hd_host.specs.declared.weak.Lookup.{Lookup}
+use Rattle.hd_host.specs.declared.weak.Lookup.TheVariants as found
 use Rattle.hdt_c.specs.Arguments.{extra_number, number_of}
 use Rattle.hdt_c.specs.declared.parts.{Info.Info, Limits.Limits, Report.Report, Root.Root, Stats.Stats}
 use Rattle.hdt_c.specs.declared.status.TheConstants.{OK, IS_OPEN, ARGUMENT, NO_MEMORY, NONE}
@@ -41,7 +41,7 @@ pub data Opens (limits : Limits) : Option HostView → Option HostView → ℕ �
   opens : (v : HostView) → IsOpened limits v → Opens limits None (Some v) OK
 
 -- what is found in the weak table; where it has no entry, nothing is written
-abbrev pub IsFound : Found → (old new status : ℕ) → Type 0
+abbrev pub IsFound : Lookup → (old new status : ℕ) → Type 0
 IsFound (found.Value o) old new status = (new ≡ number_of o) × (status ≡ OK)
 IsFound found.Absent old new status = (new ≡ old) × (status ≡ NONE)
 

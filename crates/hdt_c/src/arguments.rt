@@ -3,15 +3,16 @@ ghost use Rattle.std.specs.Prelude.{◌≡◌, ◌<◌, ◌≤◌, MatchOption, 
 ghost use Rattle.hd_model.specs.declared.data.Make.{Make};
 ghost use Rattle.hd_model.specs.Kinds.{kind_number};
 ghost use Rattle.hd_model.specs.Valid.{IsValidMake};
+ghost use Rattle.hdt_c.specs.Exports.{HasLocal, HasLocals};
 ghost use Rattle.hdt_c.specs.Arguments.{IsMake, change_out, extra_number, field_number, number_of, strength_number};
 
 use crate::parts::Change;
-use hd_host::ExtraInfo;
+use hd_host::{ExtraInfo, Host};
 use hd_model::limits::{FIELDS, OLDEST, REGISTERS};
 use hd_model::{Grown, Id, Kind, Make, Strength};
 
 /// The number of a local, of a static, or of a register of a secondary.
-pub(crate) fn local(number: u32) -> Option<u8>
+fn local(number: u32) -> Option<u8>
     ensures { MatchOption result (REGISTERS ≤ number) (λ d. (d ≡ number) × (d < REGISTERS)) }
 {
     if number < REGISTERS {
@@ -19,6 +20,36 @@ pub(crate) fn local(number: u32) -> Option<u8>
     } else {
         None
     }
+}
+
+/// The number of a local of a context, where both are in range.
+#[inline(always)]
+pub(crate) fn local_in(host: &Host, c: u32, number: u32) -> Option<u8>
+    ensures { MatchOption result (HasLocal c number host.now → ⊥)
+        (λ d. (d ≡ number) × HasLocal c number host.now) }
+{
+    if c >= host.contexts() {
+        return None;
+    }
+    let Some(d) = local(number) else {
+        return None;
+    };
+    Some(d)
+}
+
+/// The numbers of two locals, or of a local and a static.
+#[inline(always)]
+pub(crate) fn locals_in(host: &Host, c: u32, one: u32, other: u32) -> Option<(u8, u8)>
+    ensures { MatchOption result (HasLocals c one other host.now → ⊥)
+        (λ both. (both.0 ≡ one) × (both.1 ≡ other) × HasLocals c one other host.now) }
+{
+    let Some(one) = local_in(host, c, one) else {
+        return None;
+    };
+    let Some(other) = local(other) else {
+        return None;
+    };
+    Some((one, other))
 }
 
 /// A number of fields.

@@ -18,6 +18,20 @@ pub struct Held {
     pub ghost value: { Option HostView } by { coded_option host_view_code },
 }
 
+/// Calls a function on the host, unless that is closed, and returns its status.
+macro_rules! on_open {
+    ($alloc:ident, $host:ident, $call:ident($($argument:ident),+)) => {{
+        let Some(mut inside) = $crate::held::take($alloc, $host) else {
+            return $crate::status::CLOSED;
+        };
+        let status = $call(&mut inside, $($argument),+);
+        $crate::held::put($host, inside);
+        status
+    }};
+}
+
+pub(crate) use on_open;
+
 impl Model for Held {
     ghost use Rattle.hdt_c.specs.Held.{owned_at};
 

@@ -1,35 +1,25 @@
 // The exports on the weak table.
-ghost use Rattle.std.specs.Prelude.{◌≡◌, Bool, if◌then◌else◌, None};
+ghost use Rattle.std.specs.Prelude.{◌≡◌, if◌then◌else◌};
 ghost use Rattle.hd_model.specs.declared.command.Cmd.TheVariants as cmd;
-ghost use Rattle.hd_model.specs.declared.data.Reply.TheVariants as reply;
-ghost use Rattle.hd_host.specs.{Calls.AddsEntry, Calls.HasReplied, Calls.FailsBy};
+ghost use Rattle.hd_host.specs.Calls.{AddsEntry};
 ghost use Rattle.hd_host.specs.{Replies.found_reply, Replies.removed_reply};
-ghost use Rattle.hd_host.specs.declared.weak.Found.{Found};
 ghost use Rattle.hdt_c.specs.Arguments.{number_of};
-ghost use Rattle.hdt_c.specs.Exports.{Comes, Runs, KeepsNothing, InContext, IsLocal};
+ghost use Rattle.hdt_c.specs.Exports.{Comes, Runs, KeepsNothing, HasLocal, HasLocals, FailsIn, Returns};
 ghost use Rattle.hdt_c.specs.Outs.{IsFound};
 
-use crate::arguments::{local, number_of};
-use crate::held::{Held, put, take};
-use crate::status::{ARGUMENT, CLOSED, NONE, OK, status, status_of};
-use hd_host::{Found, Host};
+use crate::arguments::{local_in, locals_in, number_of};
+use crate::held::{Held, on_open};
+use crate::status::{ARGUMENT, NONE, OK, status, status_of};
+use hd_host::{Host, Lookup};
 use std::alloc::Global;
 
 // Adds an entry to the weak table.
 fn table_add(host: &mut Host, c: u32, key: u32, value: u32) -> u32
     ensures { let command = cmd.CAdd key value in
-        Runs (λ v. InContext v c × IsLocal key × IsLocal value)
-        (λ v f. FailsBy v c None command f)
-        (λ v w s. AddsEntry v c key value w × (s ≡ OK))
-        KeepsNothing host.old host.new result }
+        Runs (HasLocals c key value) (FailsIn c command)
+        (λ v w s. AddsEntry v c key value w × (s ≡ OK)) KeepsNothing host.old host.new result }
 {
-    if c >= host.contexts() {
-        return ARGUMENT;
-    }
-    let Some(key) = local(key) else {
-        return ARGUMENT;
-    };
-    let Some(value) = local(value) else {
+    let Some((key, value)) = locals_in(host, c, key, value) else {
         return ARGUMENT;
     };
     status(host.table_add(c, key, value))
@@ -39,36 +29,21 @@ fn table_add(host: &mut Host, c: u32, key: u32, value: u32) -> u32
 #[unsafe(no_mangle)]
 pub extern "C" fn hdt_table_add(alloc: Global, host: &mut Held, c: u32, key: u32, value: u32) -> u32
     ensures { let command = cmd.CAdd key value in
-        Comes (λ v. InContext v c × IsLocal key × IsLocal value)
-        (λ v f. FailsBy v c None command f)
-        (λ v w s. AddsEntry v c key value w × (s ≡ OK))
-        KeepsNothing host.old.value host.new.value result }
+        Comes (HasLocals c key value) (FailsIn c command)
+        (λ v w s. AddsEntry v c key value w × (s ≡ OK)) KeepsNothing host.old.value host.new.value
+        result }
 {
-    let Some(mut inside) = take(alloc, host) else {
-        return CLOSED;
-    };
-    let status = table_add(&mut inside, c, key, value);
-    put(host, inside);
-    status
+    on_open!(alloc, host, table_add(c, key, value))
 }
 
 // Looks an entry up.
 fn table_find(host: &mut Host, c: u32, dst: u32, key: u32, id: &mut u64) -> u32
     ensures { let command = cmd.CFind dst key in
-        Runs (λ v. InContext v c × IsLocal dst × IsLocal key)
-        (λ v f. FailsBy v c None command f)
-        (λ v w s. (found : Found) ×
-        HasReplied v c None command (found_reply found) w
-        × IsFound found id.old id.new s)
+        Runs (HasLocals c dst key) (FailsIn c command)
+        (Returns c command found_reply (λ found. IsFound found id.old id.new))
         (id.new ≡ id.old) host.old host.new result }
 {
-    if c >= host.contexts() {
-        return ARGUMENT;
-    }
-    let Some(dst) = local(dst) else {
-        return ARGUMENT;
-    };
-    let Some(key) = local(key) else {
+    let Some((dst, key)) = locals_in(host, c, dst, key) else {
         return ARGUMENT;
     };
     match host.table_find(c, dst, key) {
@@ -78,15 +53,15 @@ fn table_find(host: &mut Host, c: u32, dst: u32, key: u32, id: &mut u64) -> u32
 }
 
 // Writes what was found, if it was.
-fn write_found(found: Found, id: &mut u64) -> u32
+fn write_found(found: Lookup, id: &mut u64) -> u32
     ensures { IsFound found id.old id.new result }
 {
     match found {
-        Found::Value(value) => {
+        Lookup::Value(value) => {
             *id = number_of(value);
             OK
         }
-        Found::Absent => NONE,
+        Lookup::Absent => NONE,
     }
 }
 
@@ -101,35 +76,21 @@ pub extern "C" fn hdt_table_find(
     id: &mut u64,
 ) -> u32
     ensures { let command = cmd.CFind dst key in
-        Comes (λ v. InContext v c × IsLocal dst × IsLocal key)
-        (λ v f. FailsBy v c None command f)
-        (λ v w s. (found : Found) ×
-        HasReplied v c None command (found_reply found) w
-        × IsFound found id.old id.new s)
+        Comes (HasLocals c dst key) (FailsIn c command)
+        (Returns c command found_reply (λ found. IsFound found id.old id.new))
         (id.new ≡ id.old) host.old.value host.new.value result }
 {
-    let Some(mut inside) = take(alloc, host) else {
-        return CLOSED;
-    };
-    let status = table_find(&mut inside, c, dst, key, id);
-    put(host, inside);
-    status
+    on_open!(alloc, host, table_find(c, dst, key, id))
 }
 
 // Takes an entry out.
 fn table_remove(host: &mut Host, c: u32, key: u32) -> u32
     ensures { let command = cmd.CRemove key in
-        Runs (λ v. InContext v c × IsLocal key)
-        (λ v f. FailsBy v c None command f)
-        (λ v w s. (removed : Bool) ×
-        HasReplied v c None command (removed_reply removed) w
-        × (s ≡ (if removed then OK else NONE)))
+        Runs (HasLocal c key) (FailsIn c command)
+        (Returns c command removed_reply (λ removed s. s ≡ (if removed then OK else NONE)))
         KeepsNothing host.old host.new result }
 {
-    if c >= host.contexts() {
-        return ARGUMENT;
-    }
-    let Some(key) = local(key) else {
+    let Some(key) = local_in(host, c, key) else {
         return ARGUMENT;
     };
     match host.table_remove(c, key) {
@@ -149,17 +110,9 @@ fn status_of_removed(removed: bool) -> u32
 #[unsafe(no_mangle)]
 pub extern "C" fn hdt_table_remove(alloc: Global, host: &mut Held, c: u32, key: u32) -> u32
     ensures { let command = cmd.CRemove key in
-        Comes (λ v. InContext v c × IsLocal key)
-        (λ v f. FailsBy v c None command f)
-        (λ v w s. (removed : Bool) ×
-        HasReplied v c None command (removed_reply removed) w
-        × (s ≡ (if removed then OK else NONE)))
+        Comes (HasLocal c key) (FailsIn c command)
+        (Returns c command removed_reply (λ removed s. s ≡ (if removed then OK else NONE)))
         KeepsNothing host.old.value host.new.value result }
 {
-    let Some(mut inside) = take(alloc, host) else {
-        return CLOSED;
-    };
-    let status = table_remove(&mut inside, c, key);
-    put(host, inside);
-    status
+    on_open!(alloc, host, table_remove(c, key))
 }

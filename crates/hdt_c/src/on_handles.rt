@@ -1,38 +1,35 @@
 // The exports on handles.
-ghost use Rattle.std.specs.Prelude.{◌≡◌, [], Some, Option, None, option_map};
-ghost use Rattle.hd_model.specs.{declared.data.Id.Id, declared.data.Make.Make, declared.data.Slot.Slot, declared.data.Strength.Strength};
-ghost use Rattle.hd_model.specs.{Command.loaded, Kinds.kind_number, State.handle_at};
+ghost use Rattle.std.specs.Prelude.{◌≡◌, [], Some, None, option_map};
+ghost use Rattle.hd_model.specs.{declared.data.Make.Make, declared.data.Slot.Slot, declared.data.Strength.Strength};
+ghost use Rattle.hd_model.specs.{Command.load_reply, Kinds.kind_number, State.handle_at};
 ghost use Rattle.hd_model.specs.declared.command.Cmd.TheVariants as cmd;
 ghost use Rattle.hd_model.specs.declared.data.Reply.TheVariants as reply;
 ghost use Rattle.hd_host.specs.declared.fault.Fault.TheVariants.{Stale};
 ghost use Rattle.hd_host.specs.Handles.{IsOf, IsStale};
-ghost use Rattle.hd_host.specs.Calls.{FailsBy, FailsOf, FreesHandle, MakesHandle, RepliesOf};
+ghost use Rattle.hd_host.specs.Calls.{FreesHandle, MakesHandle};
 ghost use Rattle.hdt_c.specs.Arguments.{IsMake, number_of, strength_number};
-ghost use Rattle.hdt_c.specs.Exports.{Comes, Runs, KeepsNothing, NeverFails, AlwaysRight, InContext, IsLocal};
+ghost use Rattle.hdt_c.specs.Exports.{Comes, Runs, KeepsNothing, NeverFails, AlwaysRight, InContext, IsLocal, HasLocal, FailsIn, FailsAt, RepliesAt, LoadsAt};
 ghost use Rattle.hdt_c.specs.Outs.{AreListed, ListsFrom};
 
-use crate::arguments::{local, make, number_of, number_of_extra, number_of_kind, strength_of};
-use crate::held::{Held, put, take};
+use crate::arguments::{local_in, make, number_of, number_of_extra, number_of_kind, strength_of};
+use crate::held::{Held, on_open};
 use crate::parts::Info;
-use crate::status::{ARGUMENT, CLOSED, OK, status, status_of};
+use crate::status::{ARGUMENT, OK, status, status_of};
 use hd_host::{Handle, Host};
 use std::alloc::Global;
 
 // Makes a handle.
 fn handle_new(host: &mut Host, c: u32, kind: u32, target: u32, extra: u32, out: &mut u64) -> u32
     ensures { Runs (λ v. InContext v c × IsLocal target × ((made : Make) × IsMake made kind extra))
-        (λ v f. (made : Make) × IsMake made kind extra × FailsBy v c None (cmd.HNew 0 made target) f)
+        (λ v f. (made : Make) × IsMake made kind extra × FailsIn c (cmd.HNew 0 made target) v f)
         (λ v w s. (made : Make) × IsMake made kind extra ×
         MakesHandle v c made target w (record { 0 = out.new }) × (s ≡ OK))
         (out.new ≡ out.old) host.old host.new result }
 {
-    if c >= host.contexts() {
-        return ARGUMENT;
-    }
-    let Some(made) = make(kind, extra) else {
+    let Some(target) = local_in(host, c, target) else {
         return ARGUMENT;
     };
-    let Some(target) = local(target) else {
+    let Some(made) = make(kind, extra) else {
         return ARGUMENT;
     };
     match host.handle_new(c, made, target) {
@@ -56,26 +53,20 @@ pub extern "C" fn hdt_handle_new(
     out: &mut u64,
 ) -> u32
     ensures { Comes (λ v. InContext v c × IsLocal target × ((made : Make) × IsMake made kind extra))
-        (λ v f. (made : Make) × IsMake made kind extra × FailsBy v c None (cmd.HNew 0 made target) f)
+        (λ v f. (made : Make) × IsMake made kind extra × FailsIn c (cmd.HNew 0 made target) v f)
         (λ v w s. (made : Make) × IsMake made kind extra ×
         MakesHandle v c made target w (record { 0 = out.new }) × (s ≡ OK))
         (out.new ≡ out.old) host.old.value host.new.value result }
 {
-    let Some(mut inside) = take(alloc, host) else {
-        return CLOSED;
-    };
-    let status = handle_new(&mut inside, c, kind, target, extra, out);
-    put(host, inside);
-    status
+    on_open!(alloc, host, handle_new(c, kind, target, extra, out))
 }
 
 // Frees a handle.
 fn handle_free(host: &mut Host, handle: u64) -> u32
     ensures { let command = cmd.HFree 0 in
-        Runs AlwaysRight
-        (λ v f. FailsOf v 0 (record { 0 = handle }) command f)
-        (λ v w s. FreesHandle v (record { 0 = handle }) w × (s ≡ OK))
-        KeepsNothing host.old host.new result }
+        Runs AlwaysRight (FailsAt 0 handle command)
+        (λ v w s. FreesHandle v (record { 0 = handle }) w × (s ≡ OK)) KeepsNothing host.old host.new
+        result }
 {
     status(host.handle_free(Handle(handle)))
 }
@@ -84,38 +75,25 @@ fn handle_free(host: &mut Host, handle: u64) -> u32
 #[unsafe(no_mangle)]
 pub extern "C" fn hdt_handle_free(alloc: Global, host: &mut Held, handle: u64) -> u32
     ensures { let command = cmd.HFree 0 in
-        Comes AlwaysRight
-        (λ v f. FailsOf v 0 (record { 0 = handle }) command f)
-        (λ v w s. FreesHandle v (record { 0 = handle }) w × (s ≡ OK))
-        KeepsNothing host.old.value host.new.value result }
+        Comes AlwaysRight (FailsAt 0 handle command)
+        (λ v w s. FreesHandle v (record { 0 = handle }) w × (s ≡ OK)) KeepsNothing host.old.value
+        host.new.value result }
 {
-    let Some(mut inside) = take(alloc, host) else {
-        return CLOSED;
-    };
-    let status = handle_free(&mut inside, handle);
-    put(host, inside);
-    status
+    on_open!(alloc, host, handle_free(handle))
 }
 
 // Loads a target.
 fn handle_get(host: &mut Host, c: u32, handle: u64, dst: u32, id: &mut u64) -> u32
     ensures { let command = cmd.HGet dst 0 in
-        Runs (λ v. InContext v c × IsLocal dst)
-        (λ v f. FailsOf v c (record { 0 = handle }) command f)
-        (λ v w s. (o : Option Id) ×
-        RepliesOf v c (record { 0 = handle }) command (loaded o) w
-        × (id.new ≡ number_of o) × (s ≡ OK))
+        Runs (HasLocal c dst) (FailsAt c handle command) (LoadsAt c handle command id.new)
         (id.new ≡ id.old) host.old host.new result }
 {
-    if c >= host.contexts() {
-        return ARGUMENT;
-    }
-    let Some(dst) = local(dst) else {
+    let Some(dst) = local_in(host, c, dst) else {
         return ARGUMENT;
     };
     match host.handle_get(c, Handle(handle), dst) {
-        Ok(loaded) => {
-            *id = number_of(loaded);
+        Ok(load_reply) => {
+            *id = number_of(load_reply);
             OK
         }
         Err(fault) => status_of(fault),
@@ -133,34 +111,19 @@ pub extern "C" fn hdt_handle_get(
     id: &mut u64,
 ) -> u32
     ensures { let command = cmd.HGet dst 0 in
-        Comes (λ v. InContext v c × IsLocal dst)
-        (λ v f. FailsOf v c (record { 0 = handle }) command f)
-        (λ v w s. (o : Option Id) ×
-        RepliesOf v c (record { 0 = handle }) command (loaded o) w
-        × (id.new ≡ number_of o) × (s ≡ OK))
+        Comes (HasLocal c dst) (FailsAt c handle command) (LoadsAt c handle command id.new)
         (id.new ≡ id.old) host.old.value host.new.value result }
 {
-    let Some(mut inside) = take(alloc, host) else {
-        return CLOSED;
-    };
-    let status = handle_get(&mut inside, c, handle, dst, id);
-    put(host, inside);
-    status
+    on_open!(alloc, host, handle_get(c, handle, dst, id))
 }
 
 // Stores a target.
 fn handle_set(host: &mut Host, c: u32, handle: u64, src: u32) -> u32
     ensures { let command = cmd.HSet 0 src in
-        Runs (λ v. InContext v c × IsLocal src)
-        (λ v f. FailsOf v c (record { 0 = handle }) command f)
-        (λ v w s. RepliesOf v c (record { 0 = handle }) command reply.Done w
-        × (s ≡ OK))
+        Runs (HasLocal c src) (FailsAt c handle command) (RepliesAt c handle command reply.Done)
         KeepsNothing host.old host.new result }
 {
-    if c >= host.contexts() {
-        return ARGUMENT;
-    }
-    let Some(src) = local(src) else {
+    let Some(src) = local_in(host, c, src) else {
         return ARGUMENT;
     };
     status(host.handle_set(c, Handle(handle), src))
@@ -176,18 +139,10 @@ pub extern "C" fn hdt_handle_set(
     src: u32,
 ) -> u32
     ensures { let command = cmd.HSet 0 src in
-        Comes (λ v. InContext v c × IsLocal src)
-        (λ v f. FailsOf v c (record { 0 = handle }) command f)
-        (λ v w s. RepliesOf v c (record { 0 = handle }) command reply.Done w
-        × (s ≡ OK))
+        Comes (HasLocal c src) (FailsAt c handle command) (RepliesAt c handle command reply.Done)
         KeepsNothing host.old.value host.new.value result }
 {
-    let Some(mut inside) = take(alloc, host) else {
-        return CLOSED;
-    };
-    let status = handle_set(&mut inside, c, handle, src);
-    put(host, inside);
-    status
+    on_open!(alloc, host, handle_set(c, handle, src))
 }
 
 // What kind a handle is of.
@@ -223,33 +178,21 @@ pub extern "C" fn hdt_handle_kind(
         (option_map (λ h. kind_number h.kind) (handle_at v.machine.state slot) ≡ Some kind.new)))
         (kind.new ≡ kind.old) host.old.value host.new.value result }
 {
-    let Some(mut inside) = take(alloc, host) else {
-        return CLOSED;
-    };
-    let status = handle_kind(&mut inside, handle, kind);
-    put(host, inside);
-    status
+    on_open!(alloc, host, handle_kind(handle, kind))
 }
 
 // Loads a secondary.
 fn secondary_get(host: &mut Host, c: u32, handle: u64, dst: u32, id: &mut u64) -> u32
     ensures { let command = cmd.HDep dst 0 in
-        Runs (λ v. InContext v c × IsLocal dst)
-        (λ v f. FailsOf v c (record { 0 = handle }) command f)
-        (λ v w s. (o : Option Id) ×
-        RepliesOf v c (record { 0 = handle }) command (loaded o) w
-        × (id.new ≡ number_of o) × (s ≡ OK))
+        Runs (HasLocal c dst) (FailsAt c handle command) (LoadsAt c handle command id.new)
         (id.new ≡ id.old) host.old host.new result }
 {
-    if c >= host.contexts() {
-        return ARGUMENT;
-    }
-    let Some(dst) = local(dst) else {
+    let Some(dst) = local_in(host, c, dst) else {
         return ARGUMENT;
     };
     match host.secondary_get(c, Handle(handle), dst) {
-        Ok(loaded) => {
-            *id = number_of(loaded);
+        Ok(load_reply) => {
+            *id = number_of(load_reply);
             OK
         }
         Err(fault) => status_of(fault),
@@ -267,34 +210,19 @@ pub extern "C" fn hdt_secondary_get(
     id: &mut u64,
 ) -> u32
     ensures { let command = cmd.HDep dst 0 in
-        Comes (λ v. InContext v c × IsLocal dst)
-        (λ v f. FailsOf v c (record { 0 = handle }) command f)
-        (λ v w s. (o : Option Id) ×
-        RepliesOf v c (record { 0 = handle }) command (loaded o) w
-        × (id.new ≡ number_of o) × (s ≡ OK))
+        Comes (HasLocal c dst) (FailsAt c handle command) (LoadsAt c handle command id.new)
         (id.new ≡ id.old) host.old.value host.new.value result }
 {
-    let Some(mut inside) = take(alloc, host) else {
-        return CLOSED;
-    };
-    let status = secondary_get(&mut inside, c, handle, dst, id);
-    put(host, inside);
-    status
+    on_open!(alloc, host, secondary_get(c, handle, dst, id))
 }
 
 // Stores a secondary.
 fn secondary_set(host: &mut Host, c: u32, handle: u64, src: u32) -> u32
     ensures { let command = cmd.HSec 0 src in
-        Runs (λ v. InContext v c × IsLocal src)
-        (λ v f. FailsOf v c (record { 0 = handle }) command f)
-        (λ v w s. RepliesOf v c (record { 0 = handle }) command reply.Done w
-        × (s ≡ OK))
+        Runs (HasLocal c src) (FailsAt c handle command) (RepliesAt c handle command reply.Done)
         KeepsNothing host.old host.new result }
 {
-    if c >= host.contexts() {
-        return ARGUMENT;
-    }
-    let Some(src) = local(src) else {
+    let Some(src) = local_in(host, c, src) else {
         return ARGUMENT;
     };
     status(host.secondary_set(c, Handle(handle), src))
@@ -310,27 +238,19 @@ pub extern "C" fn hdt_secondary_set(
     src: u32,
 ) -> u32
     ensures { let command = cmd.HSec 0 src in
-        Comes (λ v. InContext v c × IsLocal src)
-        (λ v f. FailsOf v c (record { 0 = handle }) command f)
-        (λ v w s. RepliesOf v c (record { 0 = handle }) command reply.Done w
-        × (s ≡ OK))
+        Comes (HasLocal c src) (FailsAt c handle command) (RepliesAt c handle command reply.Done)
         KeepsNothing host.old.value host.new.value result }
 {
-    let Some(mut inside) = take(alloc, host) else {
-        return CLOSED;
-    };
-    let status = secondary_set(&mut inside, c, handle, src);
-    put(host, inside);
-    status
+    on_open!(alloc, host, secondary_set(c, handle, src))
 }
 
 // Stores a strength.
 fn strength_set(host: &mut Host, handle: u64, strength: u32) -> u32
     ensures { Runs (λ v. (given : Strength) × (strength_number given ≡ strength))
-        (λ v f. (given : Strength) × (strength_number given ≡ strength) ×
-        FailsOf v 0 (record { 0 = handle }) (cmd.HVar 0 given) f)
-        (λ v w s. (given : Strength) × (strength_number given ≡ strength) ×
-        RepliesOf v 0 (record { 0 = handle }) (cmd.HVar 0 given) reply.Done w × (s ≡ OK))
+        (λ v f. (given : Strength) × (strength_number given ≡ strength)
+        × FailsAt 0 handle (cmd.HVar 0 given) v f)
+        (λ v w s. (given : Strength) × (strength_number given ≡ strength)
+        × RepliesAt 0 handle (cmd.HVar 0 given) reply.Done v w s)
         KeepsNothing host.old host.new result }
 {
     let Some(given) = strength_of(strength) else {
@@ -348,28 +268,21 @@ pub extern "C" fn hdt_strength_set(
     strength: u32,
 ) -> u32
     ensures { Comes (λ v. (given : Strength) × (strength_number given ≡ strength))
-        (λ v f. (given : Strength) × (strength_number given ≡ strength) ×
-        FailsOf v 0 (record { 0 = handle }) (cmd.HVar 0 given) f)
-        (λ v w s. (given : Strength) × (strength_number given ≡ strength) ×
-        RepliesOf v 0 (record { 0 = handle }) (cmd.HVar 0 given) reply.Done w × (s ≡ OK))
+        (λ v f. (given : Strength) × (strength_number given ≡ strength)
+        × FailsAt 0 handle (cmd.HVar 0 given) v f)
+        (λ v w s. (given : Strength) × (strength_number given ≡ strength)
+        × RepliesAt 0 handle (cmd.HVar 0 given) reply.Done v w s)
         KeepsNothing host.old.value host.new.value result }
 {
-    let Some(mut inside) = take(alloc, host) else {
-        return CLOSED;
-    };
-    let status = strength_set(&mut inside, handle, strength);
-    put(host, inside);
-    status
+    on_open!(alloc, host, strength_set(handle, strength))
 }
 
 // Raises a count.
 fn count_up(host: &mut Host, handle: u64, count: &mut u64) -> u32
     ensures { let command = cmd.HUp 0 in
-        Runs AlwaysRight
-        (λ v f. FailsOf v 0 (record { 0 = handle }) command f)
-        (λ v w s. RepliesOf v 0 (record { 0 = handle }) command (reply.Value count.new) w
-        × (s ≡ OK))
-        (count.new ≡ count.old) host.old host.new result }
+        Runs AlwaysRight (FailsAt 0 handle command)
+        (RepliesAt 0 handle command (reply.Value count.new)) (count.new ≡ count.old) host.old
+        host.new result }
 {
     match host.count_up(Handle(handle)) {
         Ok(risen) => {
@@ -384,28 +297,19 @@ fn count_up(host: &mut Host, handle: u64, count: &mut u64) -> u32
 #[unsafe(no_mangle)]
 pub extern "C" fn hdt_count_up(alloc: Global, host: &mut Held, handle: u64, count: &mut u64) -> u32
     ensures { let command = cmd.HUp 0 in
-        Comes AlwaysRight
-        (λ v f. FailsOf v 0 (record { 0 = handle }) command f)
-        (λ v w s. RepliesOf v 0 (record { 0 = handle }) command (reply.Value count.new) w
-        × (s ≡ OK))
-        (count.new ≡ count.old) host.old.value host.new.value result }
+        Comes AlwaysRight (FailsAt 0 handle command)
+        (RepliesAt 0 handle command (reply.Value count.new)) (count.new ≡ count.old) host.old.value
+        host.new.value result }
 {
-    let Some(mut inside) = take(alloc, host) else {
-        return CLOSED;
-    };
-    let status = count_up(&mut inside, handle, count);
-    put(host, inside);
-    status
+    on_open!(alloc, host, count_up(handle, count))
 }
 
 // Lowers a count.
 fn count_down(host: &mut Host, handle: u64, count: &mut u64) -> u32
     ensures { let command = cmd.HDown 0 in
-        Runs AlwaysRight
-        (λ v f. FailsOf v 0 (record { 0 = handle }) command f)
-        (λ v w s. RepliesOf v 0 (record { 0 = handle }) command (reply.Value count.new) w
-        × (s ≡ OK))
-        (count.new ≡ count.old) host.old host.new result }
+        Runs AlwaysRight (FailsAt 0 handle command)
+        (RepliesAt 0 handle command (reply.Value count.new)) (count.new ≡ count.old) host.old
+        host.new result }
 {
     match host.count_down(Handle(handle)) {
         Ok(fallen) => {
@@ -425,32 +329,23 @@ pub extern "C" fn hdt_count_down(
     count: &mut u64,
 ) -> u32
     ensures { let command = cmd.HDown 0 in
-        Comes AlwaysRight
-        (λ v f. FailsOf v 0 (record { 0 = handle }) command f)
-        (λ v w s. RepliesOf v 0 (record { 0 = handle }) command (reply.Value count.new) w
-        × (s ≡ OK))
-        (count.new ≡ count.old) host.old.value host.new.value result }
+        Comes AlwaysRight (FailsAt 0 handle command)
+        (RepliesAt 0 handle command (reply.Value count.new)) (count.new ≡ count.old) host.old.value
+        host.new.value result }
 {
-    let Some(mut inside) = take(alloc, host) else {
-        return CLOSED;
-    };
-    let status = count_down(&mut inside, handle, count);
-    put(host, inside);
-    status
+    on_open!(alloc, host, count_down(handle, count))
 }
 
 // Where a pinned object is.
 fn address(host: &mut Host, handle: u64, cell: &mut u32) -> u32
     ensures { let command = cmd.AddrOf 0 in
-        Runs AlwaysRight
-        (λ v f. FailsOf v 0 (record { 0 = handle }) command f)
-        (λ v w s. RepliesOf v 0 (record { 0 = handle }) command (reply.Place cell.new) w
-        × (s ≡ OK))
-        (cell.new ≡ cell.old) host.old host.new result }
+        Runs AlwaysRight (FailsAt 0 handle command)
+        (RepliesAt 0 handle command (reply.Place cell.new)) (cell.new ≡ cell.old) host.old host.new
+        result }
 {
     match host.address(Handle(handle)) {
-        Ok(place) => {
-            *cell = place;
+        Ok(address) => {
+            *cell = address;
             OK
         }
         Err(fault) => status_of(fault),
@@ -461,18 +356,11 @@ fn address(host: &mut Host, handle: u64, cell: &mut u32) -> u32
 #[unsafe(no_mangle)]
 pub extern "C" fn hdt_address(alloc: Global, host: &mut Held, handle: u64, cell: &mut u32) -> u32
     ensures { let command = cmd.AddrOf 0 in
-        Comes AlwaysRight
-        (λ v f. FailsOf v 0 (record { 0 = handle }) command f)
-        (λ v w s. RepliesOf v 0 (record { 0 = handle }) command (reply.Place cell.new) w
-        × (s ≡ OK))
-        (cell.new ≡ cell.old) host.old.value host.new.value result }
+        Comes AlwaysRight (FailsAt 0 handle command)
+        (RepliesAt 0 handle command (reply.Place cell.new)) (cell.new ≡ cell.old) host.old.value
+        host.new.value result }
 {
-    let Some(mut inside) = take(alloc, host) else {
-        return CLOSED;
-    };
-    let status = address(&mut inside, handle, cell);
-    put(host, inside);
-    status
+    on_open!(alloc, host, address(handle, cell))
 }
 
 // Lists the live handles from a slot on.
@@ -531,10 +419,5 @@ pub extern "C" fn hdt_handles(
         ((out.new ≡ out.old) × (count.new ≡ count.old) × (next.new ≡ next.old))
         host.old.value host.new.value result }
 {
-    let Some(mut inside) = take(alloc, host) else {
-        return CLOSED;
-    };
-    let status = handles(&mut inside, from, out, count, next);
-    put(host, inside);
-    status
+    on_open!(alloc, host, handles(from, out, count, next))
 }

@@ -1,17 +1,17 @@
 // The exports on a host as a whole: it is opened and closed, collected and trimmed.
-ghost use Rattle.std.specs.Prelude.{◌≡◌, ◌<◌, ◌≤◌, false, None, Some, Option, IfSome, MatchResult};
-ghost use Rattle.hd_model.specs.{declared.data.Id.Id, declared.data.Kind.Kind, Kinds.is_paired, Kinds.kind_number};
+ghost use Rattle.std.specs.Prelude.{◌≡◌, ◌<◌, ◌≤◌, false, None, Some, MatchResult};
+ghost use Rattle.hd_model.specs.{declared.data.Kind.Kind, Kinds.is_paired, Kinds.kind_number};
 ghost use Rattle.hd_model.specs.declared.command.Cmd.TheVariants as cmd;
 ghost use Rattle.hd_model.specs.declared.data.Reply.TheVariants as reply;
-ghost use Rattle.hd_host.specs.{Calls.HasReplied, Calls.FailsBy, Calls.Trims, Replies.queued_reply};
+ghost use Rattle.hd_host.specs.{Calls.Trims, Replies.queued_reply};
 ghost use Rattle.hdt_c.specs.Arguments.{change_out};
-ghost use Rattle.hdt_c.specs.Exports.{Comes, Runs, KeepsNothing, NeverFails, AlwaysRight, InContext, IsLocal};
+ghost use Rattle.hdt_c.specs.Exports.{Comes, Runs, NeverFails, AlwaysRight, HasLocal, FailsIn, Replies, Returns};
 ghost use Rattle.hdt_c.specs.Outs.{IsFirst, IsOpened, Opens, Refuses, report_in, stats_of};
 
-use crate::arguments::{change, generation_of, kind_of, local, number_of};
-use crate::held::{Held, put, take};
+use crate::arguments::{change, generation_of, kind_of, local_in};
+use crate::held::{Held, on_open, put, take};
 use crate::parts::{Change, Limits, Report, Stats};
-use crate::status::{ARGUMENT, CLOSED, IS_OPEN, NO_MEMORY, NONE, OK, status_of};
+use crate::status::{ARGUMENT, IS_OPEN, NO_MEMORY, NONE, OK, status_of};
 use hd_host::Host;
 use hd_model::limits::{BLOCKS, CALLERS, HEAP};
 use std::alloc::Global;
@@ -107,12 +107,7 @@ pub extern "C" fn hdt_stats(alloc: Global, host: &mut Held, out: &mut Stats) -> 
         (λ v w s. (w ≡ v) × (s ≡ OK) × (out.new ≡ stats_of v))
         (out.new ≡ out.old) host.old.value host.new.value result }
 {
-    let Some(mut inside) = take(alloc, host) else {
-        return CLOSED;
-    };
-    let status = stats(&mut inside, out);
-    put(host, inside);
-    status
+    on_open!(alloc, host, stats(out))
 }
 
 // What the last call that was done did to slots and blocks.
@@ -134,22 +129,15 @@ pub extern "C" fn hdt_last(alloc: Global, host: &mut Held, out: &mut Change) -> 
         (λ v w s. (w ≡ v) × (s ≡ OK) × (out.new ≡ change_out v.last))
         (out.new ≡ out.old) host.old.value host.new.value result }
 {
-    let Some(mut inside) = take(alloc, host) else {
-        return CLOSED;
-    };
-    let status = last(&mut inside, out);
-    put(host, inside);
-    status
+    on_open!(alloc, host, last(out))
 }
 
 // Collects.
 fn collect(host: &mut Host, generation: u32, report: &mut Report) -> u32
     ensures { let command = cmd.Collect generation in
-        Runs (λ v. generation ≤ 2)
-        (λ v f. FailsBy v 0 None command f)
-        (λ v w s. HasReplied v 0 None command (reply.Report (report_in report.new)) w
-        × (s ≡ OK))
-        (report.new ≡ report.old) host.old host.new result }
+        Runs (λ v. generation ≤ 2) (FailsIn 0 command)
+        (Replies 0 command (reply.Report (report_in report.new))) (report.new ≡ report.old) host.old
+        host.new result }
 {
     let Some(n) = generation_of(generation) else {
         return ARGUMENT;
@@ -179,34 +167,21 @@ pub extern "C" fn hdt_collect(
     report: &mut Report,
 ) -> u32
     ensures { let command = cmd.Collect generation in
-        Comes (λ v. generation ≤ 2)
-        (λ v f. FailsBy v 0 None command f)
-        (λ v w s. HasReplied v 0 None command (reply.Report (report_in report.new)) w
-        × (s ≡ OK))
-        (report.new ≡ report.old) host.old.value host.new.value result }
+        Comes (λ v. generation ≤ 2) (FailsIn 0 command)
+        (Replies 0 command (reply.Report (report_in report.new))) (report.new ≡ report.old)
+        host.old.value host.new.value result }
 {
-    let Some(mut inside) = take(alloc, host) else {
-        return CLOSED;
-    };
-    let status = collect(&mut inside, generation, report);
-    put(host, inside);
-    status
+    on_open!(alloc, host, collect(generation, report))
 }
 
 // Takes the first object off the finalization queue.
 fn final_next(host: &mut Host, c: u32, dst: u32, id: &mut u64) -> u32
     ensures { let command = cmd.Final dst in
-        Runs (λ v. InContext v c × IsLocal dst)
-        NeverFails
-        (λ v w s. (first : Option Id) ×
-        HasReplied v c None command (queued_reply first) w
-        × IsFirst first id.old id.new s)
+        Runs (HasLocal c dst) NeverFails
+        (Returns c command queued_reply (λ first. IsFirst first id.old id.new))
         (id.new ≡ id.old) host.old host.new result }
 {
-    if c >= host.contexts() {
-        return ARGUMENT;
-    }
-    let Some(dst) = local(dst) else {
+    let Some(dst) = local_in(host, c, dst) else {
         return ARGUMENT;
     };
     match host.final_next(c, dst) {
@@ -228,19 +203,11 @@ pub extern "C" fn hdt_final_next(
     id: &mut u64,
 ) -> u32
     ensures { let command = cmd.Final dst in
-        Comes (λ v. InContext v c × IsLocal dst)
-        NeverFails
-        (λ v w s. (first : Option Id) ×
-        HasReplied v c None command (queued_reply first) w
-        × IsFirst first id.old id.new s)
+        Comes (HasLocal c dst) NeverFails
+        (Returns c command queued_reply (λ first. IsFirst first id.old id.new))
         (id.new ≡ id.old) host.old.value host.new.value result }
 {
-    let Some(mut inside) = take(alloc, host) else {
-        return CLOSED;
-    };
-    let status = final_next(&mut inside, c, dst, id);
-    put(host, inside);
-    status
+    on_open!(alloc, host, final_next(c, dst, id))
 }
 
 // Gives a block back.
@@ -270,10 +237,5 @@ pub extern "C" fn hdt_trim(alloc: Global, host: &mut Held, kind: u32, given: &mu
         × (s ≡ OK))
         (given.new ≡ given.old) host.old.value host.new.value result }
 {
-    let Some(mut inside) = take(alloc, host) else {
-        return CLOSED;
-    };
-    let status = trim(&mut inside, kind, given);
-    put(host, inside);
-    status
+    on_open!(alloc, host, trim(kind, given))
 }

@@ -1,19 +1,17 @@
 // The exports on objects.
 ghost use Rattle.std.specs.Prelude.{◌≡◌, ◌==◌, ◌<◌, ◌≤◌, None, Option};
-ghost use Rattle.hd_model.specs.{declared.data.Id.Id, Command.loaded};
+ghost use Rattle.hd_model.specs.{Command.load_reply};
 ghost use Rattle.hd_model.specs.declared.command.Cmd.TheVariants as cmd;
 ghost use Rattle.hd_model.specs.declared.data.Reply.TheVariants as reply;
-ghost use Rattle.hd_host.specs.{Calls.HasReplied, Calls.FailsBy};
 ghost use Rattle.hd_host.specs.Replies.{root_reply};
-ghost use Rattle.hd_host.specs.declared.collecting.Root.{Root as HostRoot};
 ghost use Rattle.hdt_c.specs.Arguments.{field_number, number_of};
-ghost use Rattle.hdt_c.specs.Exports.{Comes, Runs, KeepsNothing, InContext, IsLocal};
+ghost use Rattle.hdt_c.specs.Exports.{Comes, Runs, KeepsNothing, InContext, IsLocal, HasLocal, HasLocals, FailsIn, Replies, Returns, Loads};
 ghost use Rattle.hdt_c.specs.Outs.{IsRoot};
 
-use crate::arguments::{count_of_fields, field, local, number_of};
-use crate::held::{Held, put, take};
+use crate::arguments::{count_of_fields, field, local_in, locals_in, number_of};
+use crate::held::{Held, on_open};
 use crate::parts::Root;
-use crate::status::{ARGUMENT, CLOSED, NONE, OK, status, status_of};
+use crate::status::{ARGUMENT, NONE, OK, status, status_of};
 use hd_host::Host;
 use std::alloc::Global;
 
@@ -23,18 +21,11 @@ const FINALIZABLE: u32 = 1;
 // Makes an object.
 fn object_new(host: &mut Host, c: u32, dst: u32, fields: u32, flags: u32, id: &mut u64) -> u32
     ensures { let command = cmd.New dst fields (flags == 1) in
-        Runs (λ v. InContext v c × IsLocal dst
-        × (fields ≤ 61) × (flags < 2))
-        (λ v f. FailsBy v c None command f)
-        (λ v w s. (made : Id) ×
-        HasReplied v c None command (reply.Object made) w
-        × (id.new ≡ made.0) × (s ≡ OK))
+        Runs (λ v. InContext v c × IsLocal dst × (fields ≤ 61) × (flags < 2)) (FailsIn c command)
+        (Returns c command reply.Object (λ made s. (id.new ≡ made.0) × (s ≡ OK)))
         (id.new ≡ id.old) host.old host.new result }
 {
-    if c >= host.contexts() {
-        return ARGUMENT;
-    }
-    let Some(dst) = local(dst) else {
+    let Some(dst) = local_in(host, c, dst) else {
         return ARGUMENT;
     };
     let Some(fields) = count_of_fields(fields) else {
@@ -64,44 +55,25 @@ pub extern "C" fn hdt_object_new(
     id: &mut u64,
 ) -> u32
     ensures { let command = cmd.New dst fields (flags == 1) in
-        Comes (λ v. InContext v c × IsLocal dst
-        × (fields ≤ 61) × (flags < 2))
-        (λ v f. FailsBy v c None command f)
-        (λ v w s. (made : Id) ×
-        HasReplied v c None command (reply.Object made) w
-        × (id.new ≡ made.0) × (s ≡ OK))
+        Comes (λ v. InContext v c × IsLocal dst × (fields ≤ 61) × (flags < 2)) (FailsIn c command)
+        (Returns c command reply.Object (λ made s. (id.new ≡ made.0) × (s ≡ OK)))
         (id.new ≡ id.old) host.old.value host.new.value result }
 {
-    let Some(mut inside) = take(alloc, host) else {
-        return CLOSED;
-    };
-    let status = object_new(&mut inside, c, dst, fields, flags, id);
-    put(host, inside);
-    status
+    on_open!(alloc, host, object_new(c, dst, fields, flags, id))
 }
 
 // Loads a field.
 fn field_get(host: &mut Host, c: u32, dst: u32, object: u32, i: u32, id: &mut u64) -> u32
     ensures { let command = cmd.Get dst object (field_number i) in
-        Runs (λ v. InContext v c × IsLocal dst × IsLocal object)
-        (λ v f. FailsBy v c None command f)
-        (λ v w s. (o : Option Id) ×
-        HasReplied v c None command (loaded o) w
-        × (id.new ≡ number_of o) × (s ≡ OK))
-        (id.new ≡ id.old) host.old host.new result }
+        Runs (HasLocals c dst object) (FailsIn c command) (Loads c command id.new) (id.new ≡ id.old)
+        host.old host.new result }
 {
-    if c >= host.contexts() {
-        return ARGUMENT;
-    }
-    let Some(dst) = local(dst) else {
-        return ARGUMENT;
-    };
-    let Some(object) = local(object) else {
+    let Some((dst, object)) = locals_in(host, c, dst, object) else {
         return ARGUMENT;
     };
     match host.field_get(c, dst, object, field(i)) {
-        Ok(loaded) => {
-            *id = number_of(loaded);
+        Ok(load_reply) => {
+            *id = number_of(load_reply);
             OK
         }
         Err(fault) => status_of(fault),
@@ -120,37 +92,19 @@ pub extern "C" fn hdt_field_get(
     id: &mut u64,
 ) -> u32
     ensures { let command = cmd.Get dst object (field_number i) in
-        Comes (λ v. InContext v c × IsLocal dst × IsLocal object)
-        (λ v f. FailsBy v c None command f)
-        (λ v w s. (o : Option Id) ×
-        HasReplied v c None command (loaded o) w
-        × (id.new ≡ number_of o) × (s ≡ OK))
+        Comes (HasLocals c dst object) (FailsIn c command) (Loads c command id.new)
         (id.new ≡ id.old) host.old.value host.new.value result }
 {
-    let Some(mut inside) = take(alloc, host) else {
-        return CLOSED;
-    };
-    let status = field_get(&mut inside, c, dst, object, i, id);
-    put(host, inside);
-    status
+    on_open!(alloc, host, field_get(c, dst, object, i, id))
 }
 
 // Stores a field.
 fn field_set(host: &mut Host, c: u32, object: u32, i: u32, src: u32) -> u32
     ensures { let command = cmd.Set object (field_number i) src in
-        Runs (λ v. InContext v c × IsLocal object × IsLocal src)
-        (λ v f. FailsBy v c None command f)
-        (λ v w s. HasReplied v c None command reply.Done w
-        × (s ≡ OK))
+        Runs (HasLocals c object src) (FailsIn c command) (Replies c command reply.Done)
         KeepsNothing host.old host.new result }
 {
-    if c >= host.contexts() {
-        return ARGUMENT;
-    }
-    let Some(object) = local(object) else {
-        return ARGUMENT;
-    };
-    let Some(src) = local(src) else {
+    let Some((object, src)) = locals_in(host, c, object, src) else {
         return ARGUMENT;
     };
     status(host.field_set(c, object, field(i), src))
@@ -167,33 +121,19 @@ pub extern "C" fn hdt_field_set(
     src: u32,
 ) -> u32
     ensures { let command = cmd.Set object (field_number i) src in
-        Comes (λ v. InContext v c × IsLocal object × IsLocal src)
-        (λ v f. FailsBy v c None command f)
-        (λ v w s. HasReplied v c None command reply.Done w
-        × (s ≡ OK))
+        Comes (HasLocals c object src) (FailsIn c command) (Replies c command reply.Done)
         KeepsNothing host.old.value host.new.value result }
 {
-    let Some(mut inside) = take(alloc, host) else {
-        return CLOSED;
-    };
-    let status = field_set(&mut inside, c, object, i, src);
-    put(host, inside);
-    status
+    on_open!(alloc, host, field_set(c, object, i, src))
 }
 
 // Reads a value.
 fn value_get(host: &mut Host, c: u32, object: u32, value: &mut u64) -> u32
     ensures { let command = cmd.Read object in
-        Runs (λ v. InContext v c × IsLocal object)
-        (λ v f. FailsBy v c None command f)
-        (λ v w s. HasReplied v c None command (reply.Value value.new) w
-        × (s ≡ OK))
+        Runs (HasLocal c object) (FailsIn c command) (Replies c command (reply.Value value.new))
         (value.new ≡ value.old) host.old host.new result }
 {
-    if c >= host.contexts() {
-        return ARGUMENT;
-    }
-    let Some(object) = local(object) else {
+    let Some(object) = local_in(host, c, object) else {
         return ARGUMENT;
     };
     match host.value_get(c, object) {
@@ -215,33 +155,19 @@ pub extern "C" fn hdt_value_get(
     value: &mut u64,
 ) -> u32
     ensures { let command = cmd.Read object in
-        Comes (λ v. InContext v c × IsLocal object)
-        (λ v f. FailsBy v c None command f)
-        (λ v w s. HasReplied v c None command (reply.Value value.new) w
-        × (s ≡ OK))
+        Comes (HasLocal c object) (FailsIn c command) (Replies c command (reply.Value value.new))
         (value.new ≡ value.old) host.old.value host.new.value result }
 {
-    let Some(mut inside) = take(alloc, host) else {
-        return CLOSED;
-    };
-    let status = value_get(&mut inside, c, object, value);
-    put(host, inside);
-    status
+    on_open!(alloc, host, value_get(c, object, value))
 }
 
 // Writes a value.
 fn value_set(host: &mut Host, c: u32, object: u32, value: u64) -> u32
     ensures { let command = cmd.Val object value in
-        Runs (λ v. InContext v c × IsLocal object)
-        (λ v f. FailsBy v c None command f)
-        (λ v w s. HasReplied v c None command reply.Done w
-        × (s ≡ OK))
-        KeepsNothing host.old host.new result }
+        Runs (HasLocal c object) (FailsIn c command) (Replies c command reply.Done) KeepsNothing
+        host.old host.new result }
 {
-    if c >= host.contexts() {
-        return ARGUMENT;
-    }
-    let Some(object) = local(object) else {
+    let Some(object) = local_in(host, c, object) else {
         return ARGUMENT;
     };
     status(host.value_set(c, object, value))
@@ -257,33 +183,20 @@ pub extern "C" fn hdt_value_set(
     value: u64,
 ) -> u32
     ensures { let command = cmd.Val object value in
-        Comes (λ v. InContext v c × IsLocal object)
-        (λ v f. FailsBy v c None command f)
-        (λ v w s. HasReplied v c None command reply.Done w
-        × (s ≡ OK))
-        KeepsNothing host.old.value host.new.value result }
+        Comes (HasLocal c object) (FailsIn c command) (Replies c command reply.Done) KeepsNothing
+        host.old.value host.new.value result }
 {
-    let Some(mut inside) = take(alloc, host) else {
-        return CLOSED;
-    };
-    let status = value_set(&mut inside, c, object, value);
-    put(host, inside);
-    status
+    on_open!(alloc, host, value_set(c, object, value))
 }
 
 // Reads a generation.
 fn read_generation(host: &mut Host, c: u32, object: u32, generation: &mut u32) -> u32
     ensures { let command = cmd.Gen object in
-        Runs (λ v. InContext v c × IsLocal object)
-        (λ v f. FailsBy v c None command f)
-        (λ v w s. HasReplied v c None command (reply.Generation generation.new) w
-        × (s ≡ OK))
-        (generation.new ≡ generation.old) host.old host.new result }
+        Runs (HasLocal c object) (FailsIn c command)
+        (Replies c command (reply.Generation generation.new)) (generation.new ≡ generation.old)
+        host.old host.new result }
 {
-    if c >= host.contexts() {
-        return ARGUMENT;
-    }
-    let Some(object) = local(object) else {
+    let Some(object) = local_in(host, c, object) else {
         return ARGUMENT;
     };
     match host.generation(c, object) {
@@ -305,33 +218,20 @@ pub extern "C" fn hdt_generation(
     generation: &mut u32,
 ) -> u32
     ensures { let command = cmd.Gen object in
-        Comes (λ v. InContext v c × IsLocal object)
-        (λ v f. FailsBy v c None command f)
-        (λ v w s. HasReplied v c None command (reply.Generation generation.new) w
-        × (s ≡ OK))
-        (generation.new ≡ generation.old) host.old.value host.new.value result }
+        Comes (HasLocal c object) (FailsIn c command)
+        (Replies c command (reply.Generation generation.new)) (generation.new ≡ generation.old)
+        host.old.value host.new.value result }
 {
-    let Some(mut inside) = take(alloc, host) else {
-        return CLOSED;
-    };
-    let status = read_generation(&mut inside, c, object, generation);
-    put(host, inside);
-    status
+    on_open!(alloc, host, read_generation(c, object, generation))
 }
 
 // Unregisters an object.
 fn suppress(host: &mut Host, c: u32, object: u32) -> u32
     ensures { let command = cmd.Suppress object in
-        Runs (λ v. InContext v c × IsLocal object)
-        (λ v f. FailsBy v c None command f)
-        (λ v w s. HasReplied v c None command reply.Done w
-        × (s ≡ OK))
-        KeepsNothing host.old host.new result }
+        Runs (HasLocal c object) (FailsIn c command) (Replies c command reply.Done) KeepsNothing
+        host.old host.new result }
 {
-    if c >= host.contexts() {
-        return ARGUMENT;
-    }
-    let Some(object) = local(object) else {
+    let Some(object) = local_in(host, c, object) else {
         return ARGUMENT;
     };
     status(host.suppress(c, object))
@@ -341,33 +241,19 @@ fn suppress(host: &mut Host, c: u32, object: u32) -> u32
 #[unsafe(no_mangle)]
 pub extern "C" fn hdt_suppress(alloc: Global, host: &mut Held, c: u32, object: u32) -> u32
     ensures { let command = cmd.Suppress object in
-        Comes (λ v. InContext v c × IsLocal object)
-        (λ v f. FailsBy v c None command f)
-        (λ v w s. HasReplied v c None command reply.Done w
-        × (s ≡ OK))
-        KeepsNothing host.old.value host.new.value result }
+        Comes (HasLocal c object) (FailsIn c command) (Replies c command reply.Done) KeepsNothing
+        host.old.value host.new.value result }
 {
-    let Some(mut inside) = take(alloc, host) else {
-        return CLOSED;
-    };
-    let status = suppress(&mut inside, c, object);
-    put(host, inside);
-    status
+    on_open!(alloc, host, suppress(c, object))
 }
 
 // Registers an object.
 fn reregister(host: &mut Host, c: u32, object: u32) -> u32
     ensures { let command = cmd.Reregister object in
-        Runs (λ v. InContext v c × IsLocal object)
-        (λ v f. FailsBy v c None command f)
-        (λ v w s. HasReplied v c None command reply.Done w
-        × (s ≡ OK))
-        KeepsNothing host.old host.new result }
+        Runs (HasLocal c object) (FailsIn c command) (Replies c command reply.Done) KeepsNothing
+        host.old host.new result }
 {
-    if c >= host.contexts() {
-        return ARGUMENT;
-    }
-    let Some(object) = local(object) else {
+    let Some(object) = local_in(host, c, object) else {
         return ARGUMENT;
     };
     status(host.reregister(c, object))
@@ -377,34 +263,20 @@ fn reregister(host: &mut Host, c: u32, object: u32) -> u32
 #[unsafe(no_mangle)]
 pub extern "C" fn hdt_reregister(alloc: Global, host: &mut Held, c: u32, object: u32) -> u32
     ensures { let command = cmd.Reregister object in
-        Comes (λ v. InContext v c × IsLocal object)
-        (λ v f. FailsBy v c None command f)
-        (λ v w s. HasReplied v c None command reply.Done w
-        × (s ≡ OK))
-        KeepsNothing host.old.value host.new.value result }
+        Comes (HasLocal c object) (FailsIn c command) (Replies c command reply.Done) KeepsNothing
+        host.old.value host.new.value result }
 {
-    let Some(mut inside) = take(alloc, host) else {
-        return CLOSED;
-    };
-    let status = reregister(&mut inside, c, object);
-    put(host, inside);
-    status
+    on_open!(alloc, host, reregister(c, object))
 }
 
 // Where a shortest chain to an object begins.
 fn root_of(host: &mut Host, c: u32, object: u32, root: &mut Root) -> u32
     ensures { let command = cmd.GcRoot object in
-        Runs (λ v. InContext v c × IsLocal object)
-        (λ v f. FailsBy v c None command f)
-        (λ v w s. (found : Option HostRoot) ×
-        HasReplied v c None command (root_reply found) w
-        × IsRoot found root.old root.new s)
+        Runs (HasLocal c object) (FailsIn c command)
+        (Returns c command root_reply (λ found. IsRoot found root.old root.new))
         (root.new ≡ root.old) host.old host.new result }
 {
-    if c >= host.contexts() {
-        return ARGUMENT;
-    }
-    let Some(object) = local(object) else {
+    let Some(object) = local_in(host, c, object) else {
         return ARGUMENT;
     };
     match host.root_of(c, object) {
@@ -439,17 +311,9 @@ pub extern "C" fn hdt_root_of(
     root: &mut Root,
 ) -> u32
     ensures { let command = cmd.GcRoot object in
-        Comes (λ v. InContext v c × IsLocal object)
-        (λ v f. FailsBy v c None command f)
-        (λ v w s. (found : Option HostRoot) ×
-        HasReplied v c None command (root_reply found) w
-        × IsRoot found root.old root.new s)
+        Comes (HasLocal c object) (FailsIn c command)
+        (Returns c command root_reply (λ found. IsRoot found root.old root.new))
         (root.new ≡ root.old) host.old.value host.new.value result }
 {
-    let Some(mut inside) = take(alloc, host) else {
-        return CLOSED;
-    };
-    let status = root_of(&mut inside, c, object, root);
-    put(host, inside);
-    status
+    on_open!(alloc, host, root_of(c, object, root))
 }

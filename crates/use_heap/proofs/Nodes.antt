@@ -15,7 +15,7 @@ use Rattle.hd_heap.proofs.RegionReads.{has-get}
 
 module _ {old new : Heap} {at : Addr} {o : Placed} (m : IsMade old new at o) where
   put_at : new.objects ≡ map.insert old.objects at.0 o
-  put_at = ap (λ (h : Heap). h.objects) m.made ∙ ap (λ k. map.insert old.objects k o) (sym m.place)
+  put_at = ap (λ (h : Heap). h.objects) m.made ∙ ap (λ k. map.insert old.objects k o) (sym m.address)
 
   placed : map.get new.objects at.0 ≡ Some o
   placed = ap (λ (os : map.FinMap nat_cmp Placed). map.get os at.0) put_at ∙ get_inserted old.objects at.0 o

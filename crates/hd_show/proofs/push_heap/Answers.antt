@@ -2,7 +2,7 @@ use Rattle.std.proofs.Common.{List, ap, subst, ◌++◌, ◌∙◌, ◌≡◌}
 use Rattle.std.specs.Prelude.{IfOk}
 use Rattle.hd_seen.specs.Seen.{Picture, view_seen}
 use Rattle.hd_seen.specs.declared.SeenRegion.{SeenRegion}
-use Rattle.hd_show.specs.Heaps.{RegionCounts, generations_text, regions_by, regions_of, regions_text}
+use Rattle.hd_show.specs.{Heaps.RegionCounts, Heaps.generations_text, Heaps.regions_of, Heaps.regions_text, Inside.regions_by}
 use Rattle.hd_show.proofs.Cells.{joined_last}
 use Rattle.hd_show.proofs.push_heap.Goals as goal
 

@@ -3,8 +3,8 @@ use Rattle.hd_ages.proofs.due_rows.pass_due.Given as goal
 
 abbrev pub invariant-loop-block : goal.invariant-loop-block
 invariant-loop-block g l =
-    l.steps + length (due_clumps l.ages l.n (drop l.place (chain_of l.seg l.fn.kind)))
+    l.steps + length (due_clumps l.ages l.n (drop l.index (chain_of l.seg l.fn.kind)))
     ≡ l.initial.steps + visits_of l.seg l.ages l.n l.fn.kind
 
 abbrev pub decreases-loop-block : goal.decreases-loop-block
-decreases-loop-block g l = length (drop l.place (chain_of l.seg l.fn.kind))
+decreases-loop-block g l = length (drop l.index (chain_of l.seg l.fn.kind))

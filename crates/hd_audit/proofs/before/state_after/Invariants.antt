@@ -1,6 +1,6 @@
 use Rattle.std.proofs.Common.{length, ◌≤◌}
-use Rattle.hd_audit.specs.Judging.{numbers_of}
-use Rattle.hd_audit.specs.SoFar.{IsAt}
+use Rattle.hd_audit.specs.RightVerdicts.{numbers_of}
+use Rattle.hd_audit.proofs.LinesSoFar.{IsAt}
 use Rattle.hd_audit.proofs.before.state_after.Given as goal
 
 abbrev pub invariant-lines : goal.invariant-lines

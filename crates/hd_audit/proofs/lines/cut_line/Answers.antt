@@ -1,6 +1,6 @@
 use Rattle.std.proofs.Common.{ap, sym, take, ◌+◌, ◌∙◌, ◌∷◌, ℕ, List}
 use Rattle.std.proofs.lemmas.List.{take_rest}
-use Rattle.hd_model.specs.Judged.{cut_lines}
+use Rattle.hd_model.specs.RunTexts.{cut_lines}
 use Rattle.hd_audit.proofs.LineCuts.{cut_at, cut_nowhere}
 use Rattle.hd_audit.proofs.lines.cut_line.Goals as goal
 

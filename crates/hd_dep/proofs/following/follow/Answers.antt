@@ -20,11 +20,11 @@ pub promote_since-requires-clause-objects : goal.promote_since-requires-clause-o
 promote_since-requires-clause-objects g c =
     let b : Basis = g.M.Marker.basis c.args.marker.now in
     let t : Table = c.args.seg.now in
-    subst (λ (a : Basis). AreObjects (objects_of a) c.deref.result.now) (sym c.gather.ensures.basis)
+    subst (λ (a : Basis). AreObjects (objects_of a) c.deref.result.now) (sym c.collect_waiting.ensures.basis)
     (queued_objects (objects_of b) c.args.n t c.args.ages.now (g.M.Marker.promoted c.args.marker.now)
-    (g.M.Marker.promoted c.gather.new.marker) c.deref.result.now
+    (g.M.Marker.promoted c.collect_waiting.new.marker) c.deref.result.now
     (gathered_sorted t c.args.ages.now c.args.n _ _ _ _ c.sort.ensures.permutation c.deref.ensures.value
-    c.gather.ensures.gathered)
+    c.collect_waiting.ensures.gathered)
     c.requires.due.visit.names)
 
 pub returns-clause-closure : goal.returns-clause-closure
@@ -33,13 +33,13 @@ returns-clause-closure g c =
     let t : Table = c.args.seg.now in
     let rows = c.deref.result.now in
     let gathered = gathered_sorted t c.args.ages.now c.args.n _ _ _ _ c.sort.ensures.permutation
-    c.deref.ensures.value c.gather.ensures.gathered in
+    c.deref.ensures.value c.collect_waiting.ensures.gathered in
     let p0 : Addr → Bool = g.M.Marker.promoted c.args.marker.now in
-    let p1 : Addr → Bool = g.M.Marker.promoted c.gather.new.marker in
+    let p1 : Addr → Bool = g.M.Marker.promoted c.collect_waiting.new.marker in
     let p2 : Addr → Bool = g.M.Marker.promoted c.promote_since.new.marker in
     let log0 : List Addr = g.M.PromotionLog.log c.args.marker.now in
     let log2 : List Addr = g.M.PromotionLog.log c.promote_since.new.marker in
-    let basis = c.promote_since.ensures.basis ∙ c.gather.ensures.basis in
+    let basis = c.promote_since.ensures.basis ∙ c.collect_waiting.ensures.basis in
     let first : IsSettled (objects_of b) c.args.n p0 =
     subst (λ n. IsSettled (objects_of b) n p0) c.requires.due.visit.generation
     (g.met.M.Marker.settles c.args.marker.now c.requires.settled) in
@@ -57,13 +57,13 @@ returns-clause-closure g c =
     let second : Spreads (IsWaitingEdge (objects_of b) c.args.n rows) p1 p2 =
     subst (λ n. Spreads (IsWaitingEdge (objects_of b) n rows) p1 p2) c.requires.due.visit.generation
     (subst (λ (a : Basis). Spreads (IsWaitingEdge (objects_of a) a.condemned rows) p1 p2)
-    c.gather.ensures.basis c.promote_since.ensures.spreads) in
+    c.collect_waiting.ensures.basis c.promote_since.ensures.spreads) in
     let start : c.logged-start.result ≡ length log0 = c.logged-start.ensures in
     rescan_closure (objects_of b) c.args.n (row_at t) c.args.ages.now p0 p2 first last
     c.requires.fields c.requires.due.sound
     (both_spread (objects_of b) c.args.n t c.args.ages.now p0 p1 rows gathered
-    c.requires.due.visit.names p2 c.gather.ensures.spreads second)
+    c.requires.due.visit.names p2 c.collect_waiting.ensures.spreads second)
     (followed_at_last (objects_of b) c.args.n t c.args.ages.now p0 p1 rows gathered
     c.requires.due.visit.names p2 log0 log2 first log_first log_last
-    (kept_on log2 c.gather.ensures.log c.promote_since.ensures.log) second.keeps
+    (kept_on log2 c.collect_waiting.ensures.log c.promote_since.ensures.log) second.keeps
     (λ k x y low. c.promote_since.ensures.followed k x y (omega (arith, start, low))))

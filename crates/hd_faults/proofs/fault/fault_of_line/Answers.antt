@@ -29,8 +29,8 @@ returns-clause-reading c =
     none_mapped (λ fault. fault.cause) c.fault_of_words.result ∙ ap is_none (returns-clause-cause c)
     ∙ causes_decide_readings (words_of c.args.line.now)
 
-pub returns-clause-place : goal.returns-clause-place
-returns-clause-place c =
+pub returns-clause-position : goal.returns-clause-position
+returns-clause-position c =
     subst (λ (words : List (ℕ × List ℕ)). IfSome c.fault_of_words.result (IsPlacedIn words))
-    (sym c.in-Some.ensures.words
-    ∙ line_placed c.args.line.now c.content.result.now c.content.ensures.bytes) c.fault_of_words.ensures.place
+    (sym c.in-Some.ensures.words ∙ line_placed c.args.line.now c.content.result.now c.content.ensures.bytes)
+    c.fault_of_words.ensures.position

@@ -1,5 +1,5 @@
 use Rattle.hd_script.proofs.Basics.{None, Some, ap, sym, ◌∙◌}
-use Rattle.hd_faults.specs.FormsSeen.{seen}
+use Rattle.hd_faults.specs.Inside.{seen}
 use Rattle.hd_faults.specs.Placed.{bytes_of, words_from}
 use Rattle.hd_faults.proofs.CauseSteps.{by_form, other_count, right_count}
 use Rattle.hd_faults.proofs.fault.fault_of_words.Goals as goal

@@ -12,8 +12,8 @@ returns-in_default-clause-cause c =
     ∙ ap (λ (words : List (ℕ × List ℕ)). operand_cause c.operands.number left (bytes_of words))
     c.in_default.ensures.words ∙ no_operand c.operands.number left)
 
-pub returns-then-not-fits-clause-place : goal.returns-then-not-fits-clause-place
-returns-then-not-fits-clause-place c =
+pub returns-then-not-fits-clause-position : goal.returns-then-not-fits-clause-position
+returns-then-not-fits-clause-position c =
     let found = c.in-Some.found in
     record {
       command = refl;

@@ -1,6 +1,6 @@
 use Rattle.std.proofs.Common.{drop, map, ◌≡◌}
 use Rattle.hd_model.specs.Grammar.{look_up}
-use Rattle.hd_faults.specs.FormsSeen.{row_seen}
+use Rattle.hd_faults.specs.Inside.{row_seen}
 use Rattle.hd_faults.proofs.forms.find.Given as goal
 
 -- the rows that are left decide

@@ -14,7 +14,7 @@ returns-in_default c =
     (grind (arith, nat_tests)) c.first_line-line.ensures.line c.lines.invariant.lines
     (ap (is_at_fault c.lines.commands) unread) c.fault_of_line.result
     (is_found line c.fault_of_line.result c.fault_of_line.ensures.reading unread)
-    (of_unread line c.fault_of_line.result c.fault_of_line.ensures.cause c.fault_of_line.ensures.place)
+    (of_unread line c.fault_of_line.result c.fault_of_line.ensures.cause c.fault_of_line.ensures.position)
     c.numbered.result _ (omega arith) c.numbered.ensures
 
 pub returns-then-is_at_fault : goal.returns-then-is_at_fault

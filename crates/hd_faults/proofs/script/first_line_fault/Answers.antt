@@ -14,7 +14,7 @@ returns-in_default c =
     subst (λ (l : List ℕ). FaultOf before l c.fault_of_line.result) is
     (is_fault_of line c.fault_of_line.result before (ap (is_at_fault before) unread)
     (is_found line c.fault_of_line.result c.fault_of_line.ensures.reading unread)
-    (of_unread line c.fault_of_line.result c.fault_of_line.ensures.cause c.fault_of_line.ensures.place))
+    (of_unread line c.fault_of_line.result c.fault_of_line.ensures.cause c.fault_of_line.ensures.position))
 
 pub returns-then-is_at_fault : goal.returns-then-is_at_fault
 returns-then-is_at_fault c =

@@ -15,7 +15,7 @@ returns-clause-some c =
     let first = c.in-Some.first in
     let is = c.command_fault.ensures in record {
       cause = is.cause;
-      place = at_first c.args.line.now c.command_fault.result first.column first.word.now
+      position = at_first c.args.line.now c.command_fault.result first.column first.word.now
           (words_from first.end first.rest.now)
           (sym (line_placed c.args.line.now c.content.result.now c.content.ensures.bytes)
           ∙ c.in-Some.ensures.words) (ap word_of is.cause) is.command is.column is.word;

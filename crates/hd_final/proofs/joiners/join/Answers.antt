@@ -1,5 +1,5 @@
-use Rattle.hd_final.proofs.Basics.{Basis, Contains, Grows, IsYoungField, Joiner, get_or, objects_of, places, subst, sym, take, ◌∙◌, ◌≡◌}
-use Rattle.hd_final.proofs.QueueJoin.{places_more, beyond, grown_more}
+use Rattle.hd_final.proofs.Basics.{Basis, Contains, Grows, IsYoungField, Joiner, get_or, objects_of, addresses, subst, sym, take, ◌∙◌, ◌≡◌}
+use Rattle.hd_final.proofs.QueueJoin.{addresses_more, beyond, grown_more}
 use Rattle.hd_final.proofs.joiners.join.Goals as goal
 
 abbrev no_joiner : Joiner
@@ -19,14 +19,14 @@ loop-joiner-preserved g c =
     (promoted c.loop-joiner.marker) (promoted c.promote.new.self)) c.loop-joiner.invariant.1
     c.promote.ensures.grows in
     let more = grown_more (IsYoungField (objects_of (basis start)) (basis start).condemned)
-    (places (take i js)) at (promoted start) (promoted c.loop-joiner.marker) (promoted c.promote.new.self)
+    (addresses (take i js)) at (promoted start) (promoted c.loop-joiner.marker) (promoted c.promote.new.self)
     c.loop-joiner.invariant.3 grown in (
       c.promote.ensures.settled,
       c.promote.ensures.basis ∙ c.loop-joiner.invariant.1,
       c.promote.ensures.pinned ∙ c.loop-joiner.invariant.2,
       subst (λ xs. Grows (IsYoungField (objects_of (basis start)) (basis start).condemned)
           (λ a. Contains xs a) (promoted start) (promoted c.promote.new.self))
-          (sym (places_more js i no_joiner low)) more,
+          (sym (addresses_more js i no_joiner low)) more,
       c.push_back_reserved.ensures.items
           ∙ beyond c.loop-joiner.queued.items c.args.queued.now.items js i no_joiner low
           c.loop-joiner.invariant.4,

@@ -5,5 +5,6 @@ abbrev pub invariant-loop-task : goal.invariant-loop-task
 invariant-loop-task g l = record {
   clears : Clears (takes_any (take l.task-index l.tasks)) l.fn.seg l.seg l.marks l.cleared;
   few : l.cleared ≤ BLOCKS * ROWS * l.task-index;
-  steps : l.steps ≡ l.fn.steps + task_visits l.fn.seg l.ages l.n (take l.task-index l.tasks);
+  steps : l.steps ≡ l.fn.steps
+      + task_visits l.fn.seg l.context.ages.now l.context.condemned (take l.task-index l.tasks);
 }

@@ -1,9 +1,12 @@
 use Rattle.hd_gc.proofs.Basics.{IsWalk, is_old_carded, subst}
-use Rattle.hd_gc.proofs.CardWalk.{carded_next, carded_all}
+use Rattle.hd_gc.proofs.{CardWalk.carded_next, CardWalk.carded_all, PromoteSteps.may_promote}
 use Rattle.hd_gc.proofs.marking.promote_carded.Goals as goal
 
-pub promote_fields-requires-clause-objects : goal.promote_fields-requires-clause-objects
-promote_fields-requires-clause-objects c = λ y f. c.requires.objects c.in-Some.at y f
+pub promote_fields-requires-clause-fields : goal.promote_fields-requires-clause-fields
+promote_fields-requires-clause-fields c =
+    may_promote c.loop-at.invariant.settled c.loop-at.invariant.basis
+    (λ y f. c.requires.objects y
+    (record { from = c.in-Some.at; carded = c.in-Some.ensures.walk.member; field = f }))
 
 pub loop-at-preserved : goal.loop-at-preserved
 loop-at-preserved c =

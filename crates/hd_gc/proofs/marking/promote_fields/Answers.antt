@@ -1,16 +1,15 @@
-use Rattle.hd_gc.proofs.Basics.{Basis, Contains, Contains-get_or, Heap, None, Promotes, Some, ap, arith, fields_at, has_object, object_at, subst, sym, true, ◌∙◌, ◌≡◌}
-use Rattle.hd_gc.proofs.PromoteSteps.{promoted_next, promoted_all}
+use Rattle.hd_gc.proofs.Basics.{Contains, Contains-get_or, None, Promotes, Some, arith, fields_at, object_at, subst, sym, ◌∙◌, ◌≡◌}
+use Rattle.hd_gc.proofs.PromoteSteps.{may_promote, promoted_next, promoted_all}
 use Rattle.hd_gc.proofs.marking.promote_fields.Goals as goal
 
 pub load-requires-clause-within : goal.load-requires-clause-within
 load-requires-clause-within c = omega (arith, c.fields-i-end.ensures.count)
 
-pub promote_named-requires-clause-object : goal.promote_named-requires-clause-object
-promote_named-requires-clause-object c = λ x is.
+pub promote_named-requires : goal.promote_named-requires
+promote_named-requires c =
     let fields = fields_at (object_at c.args.heap.now) c.args.at in
-    subst (λ (h : Heap). has_object h x ≡ true)
-    (sym (ap (λ (g : Basis). g.heap) c.loop-i.invariant.basis ∙ c.requires.heap))
-    (c.requires.objects x
+    may_promote c.loop-i.invariant.settled c.loop-i.invariant.basis
+    (λ x is. c.requires.fields.objects x
     (subst (λ v. Contains fields v) (sym c.load.ensures ∙ is)
     (Contains-get_or fields c.loop-i.i None (omega (arith, c.fields-i-end.ensures.count)))))
 

@@ -17,7 +17,8 @@ loop-task-preserved g c =
           (c.promote.ensures.whole (due_again inv.held.basis refl c.requires.due).sound);
       steps =
           (let known =
-          sum_by_more (λ (t : Task). visits_of c.args.seg.now c.args.ages.now c.args.n (task_kind t))
+          sum_by_more (λ (t : Task). visits_of c.args.seg.now c.args.context.ages.now
+          c.args.context.condemned (task_kind t))
           root_tasks i task.Strong c.loop-task-test.true in
           omega (arith, inv.steps, c.promote.ensures.steps, known));
     }

@@ -1,11 +1,11 @@
-use Rattle.hd_gc.proofs.Basics.{Basis, Contains, Contains-get_or, None, Some, arith, is_object, objects_of, subst, sym, true, ◌≡◌}
-use Rattle.hd_gc.proofs.PromoteSteps.{promoted_next, promoted_all}
+use Rattle.hd_gc.proofs.Basics.{Contains, Contains-get_or, None, Some, arith, subst, true}
+use Rattle.hd_gc.proofs.PromoteSteps.{may_promote, promoted_next, promoted_all}
 use Rattle.hd_gc.proofs.marking.promote_roots.Goals as goal
 
-pub promote_named-requires-clause-object : goal.promote_named-requires-clause-object
-promote_named-requires-clause-object c = λ x is.
-    subst (λ (g : Basis). is_object (objects_of g) x ≡ true) (sym c.loop-root.invariant.basis)
-    (c.requires.objects x
+pub promote_named-requires : goal.promote_named-requires
+promote_named-requires c =
+    may_promote c.loop-root.invariant.settled c.loop-root.invariant.basis
+    (λ x is. c.requires.objects x
     (subst (λ v. Contains c.args.roots.now v) is
     (Contains-get_or c.args.roots.now c.loop-root.root-index None c.loop-root-test.true)))
 

@@ -1,20 +1,23 @@
-use Rattle.std.proofs.Common.{arith, sym}
+use Rattle.std.proofs.Common.{nat_eq, sym}
+use Rattle.std.specs.HashSet.{contains}
 use Rattle.std.proofs.lemmas.List.{append-nil}
-use Rattle.hd_graph.specs.Graph.{marked_text}
-use Rattle.hd_graph.proofs.TextRows.{row_next, rows_all}
+use Rattle.hd_graph.specs.Inside.{tested_text}
+use Rattle.hd_walk.specs.Trail.{is_found}
+use Rattle.hd_graph.proofs.TextRows.{list_all, list_next}
 use Rattle.hd_graph.proofs.objects.push_objects.Goals as goal
 
-pub loop-i-init : goal.loop-i-init
-loop-i-init c = sym (append-nil c.args.text.now.items)
+pub loop-object-init : goal.loop-object-init
+loop-object-init c = sym (append-nil c.args.text.now.items)
 
-pub loop-i-preserved : goal.loop-i-preserved
-loop-i-preserved c =
-    row_next (marked_text c.args.clusters c.args.pinned.now c.args.kept.now) 0 c.args.objects.now c.loop-i.i
-    c.index-objects-i.result c.loop-i-test.true c.args.text.now.items c.loop-i.text.items
-    c.push_object.new.text.items c.loop-i.i c.index-objects-i.result (omega arith) c.index-objects-i.is
-    c.loop-i.invariant c.in_ok-push_object.ensures
+pub loop-object-preserved : goal.loop-object-preserved
+loop-object-preserved c =
+    list_next (tested_text c.args.clusters (contains nat_eq c.args.pinned.now) (is_found c.args.kept.now))
+    c.args.objects.now c.loop-object.object-index _ c.loop-object-test.true c.args.text.now.items
+    c.loop-object.text.items c.push_looked.new.text.items _ c.object-item.is c.loop-object.invariant
+    c.in_ok-push_looked.ensures
 
 pub returns : goal.returns
 returns c =
-    rows_all (marked_text c.args.clusters c.args.pinned.now c.args.kept.now) 0 c.args.objects.now c.loop-i.i
-    c.loop-i-test.false c.args.text.now.items c.loop-i.text.items c.loop-i.invariant
+    list_all (tested_text c.args.clusters (contains nat_eq c.args.pinned.now) (is_found c.args.kept.now))
+    c.args.objects.now c.loop-object.object-index c.loop-object-test.false c.args.text.now.items
+    c.loop-object.text.items c.loop-object.invariant

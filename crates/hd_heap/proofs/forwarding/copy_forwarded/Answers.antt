@@ -1,4 +1,4 @@
-use Rattle.hd_heap.proofs.Basics.{HEADER, MayForward, Object, ap, length, length-map, object_at, offset_of, region_forwarded, region_with_object, stored_place, subst, sym, ◌+◌, ◌∙◌}
+use Rattle.hd_heap.proofs.Basics.{HEADER, MayForward, Object, ap, length, length-map, object_at, offset_of, region_forwarded, region_with_object, stored_forwarding, subst, sym, ◌+◌, ◌∙◌}
 use Rattle.hd_heap.proofs.FieldForward.{put_again, put_placed}
 use Rattle.hd_heap.proofs.forwarding.copy_forwarded.Goals as goal
 
@@ -21,8 +21,8 @@ returns-clause-put g c =
     let o = object_at c.args.source.now (offset_of c.args.from) in
     let (_, same) = put_placed c.args.region.now c.put_copy-at.new.self c.put_copy-at.result o
     c.put_copy-at.ensures.offset c.put_copy-at.ensures.put in
-    let place = g.F.Forward.place c.args.forward.now in
+    let forwarding = g.F.Forward.forwarding c.args.forward.now in
     c.forward_fields.ensures.written ∙ (λ i. region_with_object (c.put_copy-at.ensures.put i) c.put_copy-at.result
-    (region_forwarded place (same i))) ∙ put_again c.args.region.now c.put_copy-at.result
-    c.put_copy-at.ensures.offset o (region_forwarded place o)
-    (ap (λ n. n + HEADER) (length-map o.fields (stored_place place)))
+    (region_forwarded forwarding (same i))) ∙ put_again c.args.region.now c.put_copy-at.result
+    c.put_copy-at.ensures.offset o (region_forwarded forwarding o)
+    (ap (λ n. n + HEADER) (length-map o.fields (stored_forwarding forwarding)))

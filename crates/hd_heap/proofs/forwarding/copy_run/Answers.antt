@@ -8,7 +8,7 @@ copy_forwarded-requires-clause-kept g c =
 
 pub loop-region-init : goal.loop-region-init
 loop-region-init g c =
-    put_first (g.F.Forward.place c.args.forward.now) c.args.source.now c.args.moves.now c.args.first
+    put_first (g.F.Forward.forwarding c.args.forward.now) c.args.source.now c.args.moves.now c.args.first
     c.requires.run.within c.copy_forwarded.ensures.put c.copy_forwarded.ensures.laid_out
 
 pub copy_forwarded-requires-in-loop-region : goal.copy_forwarded-requires-in-loop-region
@@ -23,7 +23,7 @@ copy_forwarded-requires-in-loop-region g c =
         arith,
         may.room k run,
         ap (λ (r : Contents). r.fill) c.loop-region.invariant.is,
-        run_fill (g.F.Forward.place c.args.forward.now) c.args.source.now c.args.moves.now c.args.first
+        run_fill (g.F.Forward.forwarding c.args.forward.now) c.args.source.now c.args.moves.now c.args.first
             (k - c.args.first) c.args.region.now,
       );
       laid = c.requires.laid;
@@ -34,7 +34,7 @@ pub loop-region-preserved : goal.loop-region-preserved
 loop-region-preserved g c =
     let so_far = c.loop-region.invariant in
     let some = so_far.run.some in
-    put_next (g.F.Forward.place c.args.forward.now) c.args.source.now c.args.moves.now c.args.first (omega arith)
+    put_next (g.F.Forward.forwarding c.args.forward.now) c.args.source.now c.args.moves.now c.args.first (omega arith)
     (run_more c.args.moves.now c.args.first c.loop-region.k so_far.run
     (sym c.goes_with.ensures ∙ c.loop-region-test.true)) so_far.is so_far.laid_out
     c.copy_forwarded-in-loop-region.ensures.put c.copy_forwarded-in-loop-region.ensures.laid_out

@@ -1,11 +1,11 @@
-use Rattle.hd_heap.proofs.Basics.{ap, arith, fields_at, stored_place, ◌∙◌}
+use Rattle.hd_heap.proofs.Basics.{ap, arith, fields_at, stored_forwarding, ◌∙◌}
 use Rattle.hd_heap.proofs.FieldForward.{forwarding_starts, forwarding_there, forwarding_long, forwarding_read, forwarding_next, forwarding_ends, field_kept}
 use Rattle.hd_heap.proofs.forwarding.forward_fields.Goals as goal
 
 pub loop-i-init : goal.loop-i-init
 loop-i-init g c =
-    let place = g.F.Forward.place c.args.forward.now in (
-      forwarding_starts (stored_place place) c.args.region.now c.args.at c.requires.object,
+    let forwarding = g.F.Forward.forwarding c.args.forward.now in (
+      forwarding_starts (stored_forwarding forwarding) c.args.region.now c.args.at c.requires.object,
       c.requires.laid_out,
     )
 
@@ -17,8 +17,8 @@ field-field-requires g c =
       within = omega (arith, forwarding_long f, c.requires.number, c.loop-i-test.true);
     }
 
-pub stored_place-requires : goal.stored_place-requires
-stored_place-requires g c = record {
+pub stored_forwarding-requires : goal.stored_forwarding-requires
+stored_forwarding-requires g c = record {
   laid = c.requires.laid;
   kept = field_kept (g.F.Forward.kept c.args.forward.now) (fields_at c.args.region.now c.args.at)
       c.requires.kept c.loop-i.i c.field-field.result (omega (arith, c.requires.number, c.loop-i-test.true))
@@ -36,9 +36,9 @@ set_field-requires g c =
 pub loop-i-preserved : goal.loop-i-preserved
 loop-i-preserved g c =
     let f = c.loop-i.invariant.0 in (
-      forwarding_next f c.set_field.new.self c.stored_place.result
+      forwarding_next f c.set_field.new.self c.stored_forwarding.result
           (omega (arith, c.requires.number, c.loop-i-test.true))
-          (c.stored_place.ensures ∙ ap (stored_place (g.F.Forward.place c.args.forward.now))
+          (c.stored_forwarding.ensures ∙ ap (stored_forwarding (g.F.Forward.forwarding c.args.forward.now))
           (c.field-field.ensures ∙ forwarding_read f)) c.set_field.ensures.written,
       c.set_field.ensures.laid_out,
     )

@@ -1,6 +1,6 @@
 use Rattle.std.proofs.Common.{subst, take}
 use Rattle.std.proofs.lemmas.List.{take_all, take_more}
-use Rattle.hd_path.specs.Names.{LeastOf}
+use Rattle.hd_path.specs.Inside.{LeastOf}
 use Rattle.hd_path.proofs.LeastLinks.{least_more, least_none}
 use Rattle.hd_path.proofs.names.least_link.Goals as goal
 

@@ -1,5 +1,5 @@
 use Rattle.std.proofs.Common.{take}
-use Rattle.hd_path.specs.Names.{LeastOf}
+use Rattle.hd_path.specs.Inside.{LeastOf}
 use Rattle.hd_path.proofs.names.least_link.Given as goal
 
 abbrev pub invariant-loop-link : goal.invariant-loop-link

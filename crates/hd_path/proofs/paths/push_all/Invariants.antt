@@ -1,7 +1,8 @@
 use Rattle.std.proofs.Common.{take}
 use Rattle.hd_model.specs.State.{State}
 use Rattle.hd_seen.specs.Seen.{view_seen}
-use Rattle.hd_path.specs.Paths.{IsPictureOf, WritesPaths}
+use Rattle.hd_links.specs.Shown.{IsPictureOf}
+use Rattle.hd_path.specs.Paths.{WritesPaths}
 use Rattle.hd_path.proofs.paths.push_all.Given as goal
 
 abbrev pub invariant-loop-id : goal.invariant-loop-id

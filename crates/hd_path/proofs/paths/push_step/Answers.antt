@@ -1,15 +1,18 @@
-use Rattle.std.proofs.Common.{append-nil, get_or, sym, []}
-use Rattle.std.proofs.lemmas.List.{get_or_default}
-use Rattle.hd_path.proofs.ChainLines.{step_none}
+use Rattle.std.proofs.Common.{List, Option, Some, append-nil, inl, subst, sym, []}
+use Rattle.hd_links.specs.Graph.{named}
+use Rattle.hd_links.specs.declared.links.Link.{Link}
+use Rattle.hd_model.specs.declared.data.Id.{Id}
+use Rattle.hd_path.specs.Inside.{LinksToNone, NoIndex}
 use Rattle.hd_path.proofs.paths.push_step.Goals as goal
 
 pub returns-in-None : goal.returns-in-None
 returns-in-None c =
-    let target = get_or c.args.objects.now c.args.to c.index-objects-to.result in (
+    let x = named c.args.from in
+    let y = named c.args.to in (
       [],
       sym (append-nil c.args.text.now.items),
-      step_none c.args.objects.now c.args.links.now c.args.from c.args.to c.index-objects-from.result target
-          c.deref.result.now c.index-objects-from.is
-          (get_or_default c.args.objects.now c.args.to c.index-objects-to.result target c.requires.to)
-          c.deref.ensures.value c.in-None.ensures,
+      inl (
+        subst (λ (fs : List (Option Id)). NoIndex fs y) c.fields_at.ensures c.in-None.ensures.0,
+        subst (λ (ls : List Link). LinksToNone ls x (Some y)) c.deref.ensures.value c.in-None.ensures.1,
+      ),
     )

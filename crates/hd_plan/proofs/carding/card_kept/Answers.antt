@@ -6,9 +6,9 @@ pub card_if_needed-requires-clause-fields : goal.card_if_needed-requires-clause-
 card_if_needed-requires-clause-fields c =
     subst HasClosedFields (sym (ap object_at c.loop-object.invariant.same)) c.requires.fields
 
-pub card_if_needed-requires-clause-spared : goal.card_if_needed-requires-clause-spared
-card_if_needed-requires-clause-spared c = λ spared kept names.
-    c.requires.spared c.loop-object.object-index c.loop-object-test.true spared kept
+pub card_if_needed-requires-clause-with_free : goal.card_if_needed-requires-clause-with_free
+card_if_needed-requires-clause-with_free c = λ with_free kept names.
+    c.requires.with_free c.loop-object.object-index c.loop-object-test.true with_free kept
     (names_alike (ap object_at c.loop-object.invariant.same) names)
 
 pub loop-object-preserved : goal.loop-object-preserved

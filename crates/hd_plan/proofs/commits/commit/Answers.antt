@@ -1,5 +1,5 @@
-use Rattle.hd_plan.proofs.Basics.{AreGivenUp, AreRemovedIn, HasPlaces, Heap, PlanOf, ap, is_pinned, length, refl, subst, ℕ, ◌∙◌, ◌≡◌}
-use Rattle.hd_plan.proofs.{KeptMoves.moving_kept, CommitCards.cards_alone, CommitGenerations.settled_generations, CommitShape.AreAtPlaces, CommitShape.AreMoved, CommitShape.IsCommitting, CommitShape.can_copy, CommitImage.carded_kept, CommitImage.place_some, CommitImage.fields_kept, CommitImage.from_second, CommitImage.stayed_fields, CommitImage.from_there, CommitClears.cleared, CommitClears.first_within, CommitShape.stays_listed, CommitClears.held_still, CommitResult.settled_there, CommitResult.ending_closed, CommitResult.ending_cards, CommitResult.ending_grown, CommitResult.ending_spared, CommitResult.ending_alike, CommitResult.ended}
+use Rattle.hd_plan.proofs.Basics.{AreGivenUp, AreRemovedIn, HasForwards, Heap, PlanOf, ap, is_pinned, length, refl, subst, ℕ, ◌∙◌, ◌≡◌}
+use Rattle.hd_plan.proofs.{KeptMoves.moving_kept, CommitCards.cards_alone, CommitGenerations.settled_generations, CommitShape.AreAtNewAddresses, CommitShape.AreMoved, CommitShape.IsCommitting, CommitShape.can_copy, KeptObjectSteps.carded_kept, KeptObjectSteps.forwarding_some, KeptObjectSteps.fields_kept, KeptObjectSteps.from_second, KeptObjectSteps.stayed_fields, KeptObjectSteps.from_there, CommitClears.cleared, CommitClears.first_within, CommitShape.stays_listed, CommitClears.held_still, CommitResult.settled_there, CommitResult.ending_closed, CommitResult.ending_cards, CommitResult.ending_grown, CommitResult.ending_with_free, CommitResult.ending_alike, CommitResult.ended}
 use Rattle.hd_plan.proofs.commits.commit.Goals.{After-deref-regions, After-rewrite_pinned}
 use Rattle.hd_plan.proofs.commits.commit.Goals as goal
 
@@ -13,10 +13,10 @@ cs c = c.deref-regions.ensures.value ∙ ap (λ (p : PlanOf). p.regions) c.plan.
 n : (c : After-deref-regions) → c.plan.inside.condemned ≡ c.args.plan.now.basis.condemned
 n c = ap {B = ℕ} (λ (p : PlanOf). p.basis.condemned) c.plan.view_is
 
-table : (c : After-deref-regions) → HasPlaces c.args.plan.now.moves c.args.plan.now.regions
-    c.plan.inside.places.firsts.items c.plan.inside.places.cells.items
-table c = subst (λ (p : PlanOf). HasPlaces p.moves p.regions c.plan.inside.places.firsts.items
-    c.plan.inside.places.cells.items) c.plan.view_is c.plan.invariant.places
+table : (c : After-deref-regions) → HasForwards c.args.plan.now.moves c.args.plan.now.regions
+    c.plan.inside.forwards.firsts.items c.plan.inside.forwards.cells.items
+table c = subst (λ (p : PlanOf). HasForwards p.moves p.regions c.plan.inside.forwards.firsts.items
+    c.plan.inside.forwards.cells.items) c.plan.view_is c.plan.invariant.forwards
 
 -- what the steps begin with
 start : (c : After-deref-regions) → IsCommitting c.args.plan.now c.args.heap.now
@@ -28,7 +28,7 @@ start c = record {
 }
 
 -- the steps up to the removal
-steps : (c : After-rewrite_pinned) → AreAtPlaces c.args.plan.now c.args.heap.now c.copy_moves.new.heap
+steps : (c : After-rewrite_pinned) → AreAtNewAddresses c.args.plan.now c.args.heap.now c.copy_moves.new.heap
     c.rewrite_carded.new.heap c.rewrite_pinned.new.heap
 steps c =
     let moves : c.deref-moves.result.now ≡ c.args.plan.now.moves =
@@ -43,14 +43,14 @@ steps c =
 
 -- what they leave, up to the settling of regions
 moved : (c : After-deref-regions) {h1 h2 h3 hr h5 : Heap}
-    → AreAtPlaces c.args.plan.now c.args.heap.now h1 h2 h3
-    → AreRemovedIn (is_pinned c.deref-regions.result.now c.plan.inside.places.firsts.items) h3 hr
+    → AreAtNewAddresses c.args.plan.now c.args.heap.now h1 h2 h3
+    → AreRemovedIn (is_pinned c.deref-regions.result.now c.plan.inside.forwards.firsts.items) h3 hr
     c.deref-moves.result.now (length c.deref-moves.result.now)
     → AreGivenUp hr h5 c.deref-regions.result.now (length c.deref-regions.result.now)
     → AreMoved c.args.plan.now c.args.heap.now h1 h2 h3 h5
 moved c m removed given_up = record {
   committing = start c;
-  places = m;
+  forwards = m;
   cleared = cleared (start c) m (table c) (rw (ms c, cs c) at removed) (rw (cs c) at given_up);
 }
 
@@ -61,7 +61,7 @@ copy_moves-requires c =
       can_copy = can_copy (start d);
       laid = c.requires.laid;
       kept = λ k low moving. fields_kept (start d) k low (moving_kept _ moving);
-      places = place_some (start d);
+      forwards = forwarding_some (start d);
     })
 
 pub rewrite_carded-requires : goal.rewrite_carded-requires
@@ -70,7 +70,7 @@ rewrite_carded-requires c =
     rw (n d) (record {
       laid = c.requires.laid;
       kept = λ x is y field. carded_kept (start d) (rw (ms d) at c.copy_moves.ensures) x y is field;
-      places = place_some (start d);
+      forwards = forwarding_some (start d);
     })
 
 pub rewrite_pinned-requires : goal.rewrite_pinned-requires
@@ -84,7 +84,7 @@ rewrite_pinned-requires c =
       objects = from_second (start d) copied carded;
       rising = c.requires.laid.moves.rising;
       kept = stayed_fields (start d) copied carded;
-      places = place_some (start d);
+      forwards = forwarding_some (start d);
     })
 
 pub remove_left-requires : goal.remove_left-requires
@@ -115,7 +115,7 @@ card_kept-requires c =
     c.settle_regions.ensures in
     rw (ms d, cs d) (record {
       alike = ending_alike m c.settle_regions.new.heap refl;
-      spared = ending_spared m c.settle_regions.new.heap refl;
+      with_free = ending_with_free m c.settle_regions.new.heap refl;
       objects = settled_there m;
       fields = ending_closed m c.settle_regions.new.heap refl;
     })

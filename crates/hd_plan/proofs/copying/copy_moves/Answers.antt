@@ -4,7 +4,7 @@ use Rattle.hd_plan.proofs.copying.copy_moves.Goals as goal
 
 pub loop-k-init : goal.loop-k-init
 loop-k-init g c = record {
-  copied = copied_starts (g.F.Forward.place c.args.forward.now) c.args.heap.now c.args.moves.now;
+  copied = copied_starts (g.F.Forward.forwarding c.args.forward.now) c.args.heap.now c.args.moves.now;
   within = omega arith;
 }
 

@@ -1,7 +1,7 @@
 use Rattle.hd_plan.proofs.Basics.{AllocCursors, IsFirstIn, IsFirstObject, IsLaying, None, IsMoveOf, REGION, ap, arith, length, refl, spot_in, subst, sym, ℕ, ◌*◌, ◌+◌, ◌∙◌, ◌≡◌, ◌<◌}
 use Rattle.hd_heap.specs.Walks.{WalkOf, end_in}
 use Rattle.hd_heap.proofs.NextObjects.{end_within, none_left}
-use Rattle.hd_plan.specs.{LaySteps.CanPutAt, LaySteps.with_cursor_at, declared.cursors.AllocCursor.AllocCursor}
+use Rattle.hd_plan.specs.{Inside.CanPutAt, Inside.with_cursor_at, declared.cursors.AllocCursor.AllocCursor}
 use Rattle.hd_plan.proofs.{KeptMoves.raised_most, LayStep.laying_past, LayStep.may_put}
 use Rattle.hd_plan.proofs.RegionLay.{cursor_again, laid_none, laying_on, laying_upto, move_fits, same_cursor, these_on, with_again}
 use Rattle.hd_plan.proofs.lay.lay_objects.Given.{Over}
@@ -23,7 +23,7 @@ loop-object-init g c =
           (subst (λ (bound : ℕ). IsLaying c.args.heap.now (g.M.Marker.basis c.args.marker.now).condemned
           (g.M.Marker.promoted c.args.marker.now) (g.M.Marker.pinned c.args.marker.now)
           c.args.moves.now.items c.args.cursors.now bound) (omega (arith, start)) c.requires.so_far);
-      these = laid_none c.args.moves.now.items c.args.region c.args.k c.args.places.now.cells.items
+      these = laid_none c.args.moves.now.items c.args.region c.args.k c.args.forwards.now.cells.items
           (λ j low. (c.requires.so_far.to.condemned j low).1);
       firsts = refl;
       capacity = refl;
@@ -33,7 +33,7 @@ pub lay_object-laid-requires-clause-can_put : goal.lay_object-laid-requires-clau
 lay_object-laid-requires-clause-can_put g c =
     subst (λ (x : AllocCursor). CanPutAt c.args.heap.now x c.loop-object.opened)
     (cursor_again c.args.cursors.now c.args.generation c.loop-object.cursor c.loop-object.opened)
-    (may_put c.requires.sound c.loop-object.invariant.laying c.args.generation c.requires.spare
+    (may_put c.requires.sound c.loop-object.invariant.laying c.args.generation c.requires.free
     (rw c.requires.generation (raised_most _ _ c.requires.condemned.young)))
 
 -- the object, where it ends, and its move
@@ -86,7 +86,7 @@ loop-object-preserved g c =
     let inv = c.loop-object.invariant in
     let end = ap {B = ℕ} (λ (w : WalkOf). w.end) (ended g a) in
     let from = c.lay_object-laid.ensures.from in
-    let spot : spot_in c.args.k m.from < length c.loop-object.places.cells.items =
+    let spot : spot_in c.args.k m.from < length c.loop-object.forwards.cells.items =
     omega (arith, inv.these.long, c.requires.table) in
     record {
       walk = ended g a ∙ ap (λ e. record { heap = h; region = c.args.region; end = e }) (sym end);

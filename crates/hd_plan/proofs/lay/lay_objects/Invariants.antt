@@ -1,5 +1,5 @@
 use Rattle.hd_plan.proofs.Basics.{IsLaying, REGION, vec_capacity, ◌*◌, ◌+◌, ◌-◌, ◌≡◌, ◌≤◌}
-use Rattle.hd_plan.specs.LaySteps.{AreLaidIn, with_cursor_at}
+use Rattle.hd_plan.specs.Inside.{AreLaidIn, with_cursor_at}
 use Rattle.hd_plan.proofs.lay.lay_objects.Given as goal
 
 abbrev pub invariant-loop-object : goal.invariant-loop-object
@@ -9,9 +9,9 @@ invariant-loop-object g l = record {
   laying : IsLaying l.heap (g.M.Marker.basis l.marker).condemned (g.M.Marker.promoted l.marker)
       (g.M.Marker.pinned l.marker) l.moves.items
       (with_cursor_at l.fn.cursors l.generation l.cursor l.opened) (l.region * REGION + l.objects.end);
-  these : AreLaidIn l.fn.moves.items l.moves.items l.region l.k l.pinned l.fn.places.cells.items
-      l.places.cells.items;
-  firsts : l.places.firsts.items ≡ l.fn.places.firsts.items;
+  these : AreLaidIn l.fn.moves.items l.moves.items l.region l.k l.pinned l.fn.forwards.cells.items
+      l.forwards.cells.items;
+  firsts : l.forwards.firsts.items ≡ l.fn.forwards.firsts.items;
   capacity : vec_capacity l.moves ≡ vec_capacity l.fn.moves;
 }
 

@@ -5,16 +5,16 @@ use Rattle.hd_plan.proofs.lay.lay_regions.Goals as goal
 pub returns-then-condemned-eq0-clause-laid : goal.returns-then-condemned-eq0-clause-laid
 returns-then-condemned-eq0-clause-laid g c =
     rw (c.requires.none, c.requires.unlisted) (laid_done c.regions-regions.ensures.sound
-    (laid_start c.regions-regions.ensures.sound c.args.places.now.firsts.items c.args.places.now.cells.items
-    c.requires.places) (omega arith)
+    (laid_start c.regions-regions.ensures.sound c.args.forwards.now.firsts.items
+    c.args.forwards.now.cells.items c.requires.forwards) (omega arith)
     (λ a of. absurd (let found = c.requires.condemned.all (region_of a) (a, (of, refl)) in
     omega (arith, found.1, c.requires.condemned.number, c.if-condemned-eq0.true))))
 
 pub loop-region-init : goal.loop-region-init
 loop-region-init g c = record {
   laid = rw (c.requires.none, c.requires.unlisted, c.new-cursors.ensures) (laid_start
-      c.regions-regions.ensures.sound c.args.places.now.firsts.items c.args.places.now.cells.items
-      c.requires.places);
+      c.regions-regions.ensures.sound c.args.forwards.now.firsts.items c.args.forwards.now.cells.items
+      c.requires.forwards);
   within = omega arith;
   room = c.requires.room;
 }

@@ -3,4 +3,4 @@ use Rattle.hd_plan.proofs.releasing.remove_left.Given as goal
 
 abbrev pub invariant-loop-object : goal.invariant-loop-object
 invariant-loop-object l =
-    AreRemovedIn (is_pinned l.regions l.places.firsts.items) l.initial.heap l.heap l.moves l.object-index
+    AreRemovedIn (is_pinned l.regions l.forwards.firsts.items) l.initial.heap l.heap l.moves l.object-index

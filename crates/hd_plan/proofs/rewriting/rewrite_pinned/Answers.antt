@@ -8,8 +8,8 @@ rewrite_fields-requires-clause-kept g c = λ y field. c.requires.kept c.loop-obj
     c.loop-object-test.true (sym c.stays.ensures ∙ c.if-stays.true) y
     (stayed_field c.loop-object.invariant c.loop-object-test.true c.requires.rising y field)
 
-pub rewrite_fields-requires-clause-places : goal.rewrite_fields-requires-clause-places
-rewrite_fields-requires-clause-places g c = λ y field. c.requires.places y
+pub rewrite_fields-requires-clause-forwardings : goal.rewrite_fields-requires-clause-forwardings
+rewrite_fields-requires-clause-forwardings g c = λ y field. c.requires.forwards y
     (c.requires.kept c.loop-object.object-index c.loop-object-test.true
     (sym c.stays.ensures ∙ c.if-stays.true) y
     (stayed_field c.loop-object.invariant c.loop-object-test.true c.requires.rising y field))

@@ -2,7 +2,7 @@ use Rattle.std.proofs.Common.{List, Global, Vec, map, subst, ◌∙◌, ◌≡�
 use Rattle.std.specs.List.Sorted.{IsPermutation}
 use Rattle.std.proofs.lemmas.Result.{IfOk-weaker}
 use Rattle.hd_root.specs.declared.anchors.Anchor.{Anchor}
-use Rattle.hd_root.specs.Anchors.{AreStarts, node_of}
+use Rattle.hd_root.specs.Inside.{AreStarts, node_of}
 use Rattle.hd_root.proofs.AnchorStarts.{starts_are}
 use Rattle.hd_root.proofs.anchors.by_identity.Goals as goal
 

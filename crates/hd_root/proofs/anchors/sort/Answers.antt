@@ -1,6 +1,6 @@
 use Rattle.std.proofs.Common.{rules}
 use Rattle.std.proofs.lemmas.List.Sorted.{IsNonDecreasingBy-from_sort, answers_always}
-use Rattle.hd_root.specs.Anchors.{id_of}
+use Rattle.hd_root.specs.Inside.{id_of}
 use Rattle.hd_root.proofs.anchors.sort.Goals as goal
 
 pub returns-clause-rising : goal.returns-clause-rising

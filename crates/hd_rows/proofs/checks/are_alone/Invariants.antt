@@ -3,7 +3,7 @@ use Rattle.hd_model.specs.declared.data.Addr.{Addr}
 use Rattle.hd_model.specs.Heap.{has_object}
 use Rattle.hd_heap.specs.Calls.{is_after}
 use Rattle.hd_gc.proofs.CardWalk.{left_to}
-use Rattle.hd_rows.specs.Checks.{IsAlone}
+use Rattle.hd_rows.specs.Inside.{IsAlone}
 use Rattle.hd_rows.proofs.checks.are_alone.Given as goal
 
 abbrev pub invariant-loop-at : goal.invariant-loop-at

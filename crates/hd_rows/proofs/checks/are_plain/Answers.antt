@@ -3,7 +3,7 @@ use Rattle.std.proofs.lemmas.Bool.{cases_eq}
 use Rattle.hd_model.specs.declared.data.Addr.{Addr}
 use Rattle.hd_model.specs.State.{Handle}
 use Rattle.hd_model.specs.Table.{row_at}
-use Rattle.hd_rows.specs.Checks.{IsPlain}
+use Rattle.hd_rows.specs.Inside.{IsPlain}
 use Rattle.hd_rows.proofs.checks.are_plain.Goals as goal
 
 pub loop-slot-preserved : goal.loop-slot-preserved

@@ -2,7 +2,7 @@ use Rattle.std.proofs.Common.{◌≡◌, ◌<◌, ℕ, Some}
 use Rattle.hd_model.specs.declared.data.Addr.{Addr}
 use Rattle.hd_model.specs.State.{Handle}
 use Rattle.hd_model.specs.Table.{row_at}
-use Rattle.hd_rows.specs.Checks.{IsPlain}
+use Rattle.hd_rows.specs.Inside.{IsPlain}
 use Rattle.hd_rows.proofs.checks.are_plain.Given as goal
 
 abbrev pub invariant-loop-slot : goal.invariant-loop-slot

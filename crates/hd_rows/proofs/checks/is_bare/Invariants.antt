@@ -3,7 +3,7 @@ use Rattle.hd_model.specs.declared.data.Addr.{Addr}
 use Rattle.hd_model.specs.Heap.{has_object}
 use Rattle.hd_heap.specs.Calls.{is_after}
 use Rattle.hd_gc.proofs.CardWalk.{left_to}
-use Rattle.hd_rows.specs.Checks.{HasNullFields}
+use Rattle.hd_rows.specs.Inside.{HasNullFields}
 use Rattle.hd_rows.proofs.checks.is_bare.Given as goal
 
 abbrev pub invariant-loop-at : goal.invariant-loop-at

@@ -1,5 +1,5 @@
 use Rattle.std.proofs.Common.{◌∙◌}
-use Rattle.hd_final.proofs.QueueSettle.{settled_has}
+use Rattle.hd_final.proofs.SettleSteps.{settled_has}
 use Rattle.hd_rows.proofs.queue.settle.Goals as goal
 
 pub returns : goal.returns

@@ -3,7 +3,7 @@ use Rattle.std.specs.FinMap.{get}
 use Rattle.hd_model.specs.declared.data.Addr.{Addr}
 use Rattle.hd_model.specs.State.{Handle}
 use Rattle.hd_seg.specs.Row.{row_of}
-use Rattle.hd_rows.specs.Roots.{NamesIn}
+use Rattle.hd_rows.specs.Inside.{NamesIn}
 use Rattle.hd_rows.proofs.root.rows_name_objects.Given as goal
 
 abbrev pub invariant-loop-slot : goal.invariant-loop-slot

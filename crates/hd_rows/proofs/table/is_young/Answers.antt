@@ -7,9 +7,9 @@ use Rattle.hd_rows.proofs.table.is_young.Goals as goal
 pub loop-clump-preserved : goal.loop-clump-preserved
 loop-clump-preserved c =
     below_more _ _ c.loop-clump.invariant
-    (let place : clump_at (c.loop-clump.clump / 4 + 1) (c.loop-clump.clump % 4) ≡ c.loop-clump.clump = omega
+    (let index : clump_at (c.loop-clump.clump / 4 + 1) (c.loop-clump.clump % 4) ≡ c.loop-clump.clump = omega
     arith in
-    ap (λ (k : ℕ). get_or c.args.ages.now k 0) (sym place) ∙ cc)
+    ap (λ (k : ℕ). get_or c.args.ages.now k 0) (sym index) ∙ cc)
 
 pub returns : goal.returns
 returns c = λ e clump.

@@ -3,7 +3,7 @@ use Rattle.std.specs.FinMap.{get}
 use Rattle.hd_model.specs.declared.data.Addr.{Addr}
 use Rattle.hd_model.specs.State.{Handle}
 use Rattle.hd_seg.specs.Row.{row_of}
-use Rattle.hd_rows.specs.Toy.{NamesBelow}
+use Rattle.hd_rows.specs.Inside.{NamesBelow}
 use Rattle.hd_rows.proofs.table.names_objects.Given as goal
 
 abbrev pub invariant-loop-slot : goal.invariant-loop-slot

@@ -7,8 +7,8 @@ loop-slot-init g c =
     change_start c.args.seg.now c.args.ages.now c.args.n c.args.kind _ _ c.start-rows.ensures.table
     c.start-rows.result c.args.steps.now c.start-rows.ensures.on c.start-rows.ensures.slots
     c.start-rows.ensures.clumps
-    (undue_left c.args.seg.now c.args.ages.now c.args.n c.args.kind (g.F.Forward.place c.args.forward.now))
-    (λ slot never. absurd never)
+    (undue_left c.args.seg.now c.args.ages.now c.args.n c.args.kind
+    (g.F.Forward.forwarding c.args.forward.now)) (λ slot never. absurd never)
 
 pub relocate_row-requires-clause-live : goal.relocate_row-requires-clause-live
 relocate_row-requires-clause-live g c = row_live c.loop-slot.invariant.under c.in-Some.ensures.row
@@ -28,14 +28,14 @@ loop-slot-smaller g c =
     let under = c.loop-slot.invariant.under in
     change_smaller c.loop-slot.invariant c.in-Some.ensures.row
     (moved_row (row_due under c.in-Some.ensures.row) (row_same under c.in-Some.ensures.row)
-    (g.F.Forward.place c.args.forward.now) c.relocate_row.ensures)
+    (g.F.Forward.forwarding c.args.forward.now) c.relocate_row.ensures)
 
 pub loop-slot-preserved : goal.loop-slot-preserved
 loop-slot-preserved g c =
     let under = c.loop-slot.invariant.under in
     change_row c.loop-slot.invariant c.in-Some.ensures.row
     (moved_row (row_due under c.in-Some.ensures.row) (row_same under c.in-Some.ensures.row)
-    (g.F.Forward.place c.args.forward.now) c.relocate_row.ensures)
+    (g.F.Forward.forwarding c.args.forward.now) c.relocate_row.ensures)
     c.next.ensures.on c.next.ensures.steps false 0 (λ yes. absurd (false≢true yes)) (λ no never. never) refl
 
 pub returns-clause-relocates : goal.returns-clause-relocates
@@ -48,8 +48,8 @@ returns-clause-steps g c =
 pub returns-clause-whole : goal.returns-clause-whole
 returns-clause-whole g c = λ generation sound.
     let o = objects_of (g.F.Forward.basis c.args.forward.now) in
-    relocates_all c.args.seg.now c.args.ages.now c.args.n c.args.kind (g.F.Forward.place c.args.forward.now) o
-    (g.F.Forward.kept c.args.forward.now) c.loop-slot.seg
-    (subst (λ n. IsKeeping o n (g.F.Forward.kept c.args.forward.now) (g.F.Forward.place c.args.forward.now))
-    generation (g.met.F.Forward.keeps c.args.forward.now c.requires.laid)) sound
+    relocates_all c.args.seg.now c.args.ages.now c.args.n c.args.kind
+    (g.F.Forward.forwarding c.args.forward.now) o (g.F.Forward.kept c.args.forward.now) c.loop-slot.seg
+    (subst (λ n. IsKeeping o n (g.F.Forward.kept c.args.forward.now) (g.F.Forward.forwarding
+    c.args.forward.now)) generation (g.met.F.Forward.keeps c.args.forward.now c.requires.laid)) sound
     (returns-clause-relocates g c)

@@ -1,5 +1,5 @@
 use Rattle.hd_script.proofs.Basics.{arith, length, line_after, nat_tests, subst, sym, ◌+◌, ◌<◌, ◌≡◌, ◌≤◌}
-use Rattle.hd_model.specs.Judged.{cut_lines}
+use Rattle.hd_model.specs.RunTexts.{cut_lines}
 use Rattle.hd_script.proofs.LineSplit.{shorter}
 use Rattle.hd_script.proofs.DividingLines.{counted}
 use Rattle.hd_script.proofs.audit.count_lines.Goals as goal

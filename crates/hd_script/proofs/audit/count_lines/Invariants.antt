@@ -1,5 +1,5 @@
 use Rattle.hd_script.proofs.Basics.{length, ◌+◌, ◌≡◌, ◌≤◌}
-use Rattle.hd_model.specs.Judged.{cut_lines}
+use Rattle.hd_model.specs.RunTexts.{cut_lines}
 use Rattle.hd_script.proofs.audit.count_lines.Given as goal
 
 -- the lines so far and those that are left are all, and each has a byte

@@ -1,7 +1,7 @@
 use Rattle.std.proofs.Common.{sym, ◌++◌, ◌∙◌}
 use Rattle.std.proofs.lemmas.List.{append-nil}
 use Rattle.hd_model.specs.Text.{newline}
-use Rattle.hd_show.specs.Blocks.{block_row, blocks_header, rows_by}
+use Rattle.hd_show.specs.{Blocks.block_row, Blocks.blocks_header, Inside.rows_by}
 use Rattle.hd_show.proofs.Tables.{list_end}
 use Rattle.hd_show.proofs.blocks.push_blocks.Goals as goal
 

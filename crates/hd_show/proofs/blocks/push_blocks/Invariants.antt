@@ -1,7 +1,7 @@
 use Rattle.std.proofs.Common.{take, ◌++◌, ◌≡◌}
 use Rattle.std.specs.Prelude.{flat_map}
 use Rattle.hd_model.specs.Text.{newline}
-use Rattle.hd_show.specs.Blocks.{block_row, blocks_header, rows_by}
+use Rattle.hd_show.specs.{Blocks.block_row, Blocks.blocks_header, Inside.rows_by}
 use Rattle.hd_show.proofs.blocks.push_blocks.Given as goal
 
 abbrev pub invariant-loop-block : goal.invariant-loop-block

@@ -1,6 +1,6 @@
 use Rattle.std.proofs.Common.{ap, ◌++◌, ◌∙◌}
 use Rattle.hd_model.specs.Text.{newline}
-use Rattle.hd_show.specs.Blocks.{counts_line, free_rows, rows_by}
+use Rattle.hd_show.specs.{Blocks.counts_line, Blocks.free_rows, Inside.rows_by}
 use Rattle.hd_show.specs.Ranges.{ranges_of, ranges_word}
 use Rattle.hd_show.proofs.Cells.{joined, joined_last}
 use Rattle.hd_show.proofs.blocks.push_kind_block.Goals as goal

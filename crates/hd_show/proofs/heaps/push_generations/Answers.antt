@@ -4,7 +4,7 @@ use Rattle.std.specs.List.{range_with_len}
 use Rattle.std.proofs.lemmas.List.{append-nil}
 use Rattle.hd_model.specs.Text.{newline}
 use Rattle.hd_model.specs.declared.limits.TheConstants.{OLDEST}
-use Rattle.hd_show.specs.Heaps.{at_generation, generation_row, generations_header, regions_by}
+use Rattle.hd_show.specs.{Heaps.at_generation, Heaps.generation_row, Heaps.generations_header, Inside.regions_by}
 use Rattle.hd_show.proofs.Cells.{joined}
 use Rattle.hd_show.proofs.Tables.{list_end, range_next}
 use Rattle.hd_show.proofs.heaps.push_generations.Goals as goal

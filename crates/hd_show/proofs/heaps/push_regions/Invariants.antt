@@ -1,7 +1,7 @@
 use Rattle.std.proofs.Common.{take, ◌++◌, ◌≡◌}
 use Rattle.std.specs.Prelude.{flat_map}
 use Rattle.hd_model.specs.Text.{newline}
-use Rattle.hd_show.specs.Heaps.{region_row, regions_by, regions_header}
+use Rattle.hd_show.specs.{Heaps.region_row, Heaps.regions_header, Inside.regions_by}
 use Rattle.hd_show.proofs.heaps.push_regions.Given as goal
 
 abbrev pub invariant-loop-region : goal.invariant-loop-region

@@ -1,7 +1,7 @@
 use Rattle.std.proofs.Common.{take, ◌≡◌}
 use Rattle.std.specs.Prelude.{filter, sum_by}
 use Rattle.hd_seen.specs.declared.SeenBlock.{SeenBlock}
-use Rattle.hd_show.specs.Blocks.{free_in, rows_by}
+use Rattle.hd_show.specs.{Blocks.free_in, Inside.rows_by}
 use Rattle.hd_show.specs.Kinds.{block_is}
 use Rattle.hd_show.proofs.kinds.free_of.Given as goal
 

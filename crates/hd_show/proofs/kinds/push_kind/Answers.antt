@@ -1,7 +1,7 @@
 use Rattle.std.proofs.Common.{List, ap, count_by, filter, sum_by, ◌++◌, ◌∙◌, ◌≡◌}
 use Rattle.hd_seen.specs.declared.SeenBlock.{SeenBlock}
 use Rattle.hd_seen.specs.declared.SeenHandle.{SeenHandle}
-use Rattle.hd_show.specs.Blocks.{free_in, rows_by}
+use Rattle.hd_show.specs.{Blocks.free_in, Inside.rows_by}
 use Rattle.hd_show.specs.Kinds.{block_is, handle_is, name_of}
 use Rattle.hd_show.proofs.Cells.{number_at, row_end}
 use Rattle.hd_show.proofs.kinds.push_kind.Goals as goal

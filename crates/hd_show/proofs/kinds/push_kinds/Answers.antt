@@ -5,7 +5,7 @@ use Rattle.hd_model.specs.Kinds.{all_kinds}
 use Rattle.hd_model.specs.declared.data.Kind.TheVariants as kind
 use Rattle.hd_model.specs.Text.{newline}
 use Rattle.hd_seen.specs.Seen.{view_seen}
-use Rattle.hd_show.specs.Blocks.{rows_by}
+use Rattle.hd_show.specs.Inside.{rows_by}
 use Rattle.hd_show.specs.Kinds.{kind_row, kinds_header, of_kind}
 use Rattle.hd_show.proofs.Cells.{joined}
 use Rattle.hd_show.proofs.Tables.{list_end, list_next}

@@ -3,7 +3,7 @@ use Rattle.std.specs.Prelude.{flat_map}
 use Rattle.hd_model.specs.Kinds.{all_kinds}
 use Rattle.hd_model.specs.Text.{newline}
 use Rattle.hd_seen.specs.Seen.{view_seen}
-use Rattle.hd_show.specs.Blocks.{rows_by}
+use Rattle.hd_show.specs.Inside.{rows_by}
 use Rattle.hd_show.specs.Kinds.{kinds_header, of_kind}
 use Rattle.hd_show.proofs.kinds.push_kinds.Given as goal
 

@@ -1,7 +1,7 @@
 use Rattle.std.proofs.Common.{List, ◌++◌, ◌≡◌, subst, ℕ}
 use Rattle.std.specs.Prelude.{IfOk}
 use Rattle.hd_model.specs.declared.limits.TheConstants.{ROWS}
-use Rattle.hd_show.specs.Blocks.{free_rows, is_free_row, rows_by}
+use Rattle.hd_show.specs.{Blocks.free_rows, Blocks.is_free_row, Inside.rows_by}
 use Rattle.hd_show.specs.Ranges.{ranges_of, ranges_word}
 use Rattle.hd_show.proofs.RangeSteps.{none_left, row_step}
 use Rattle.hd_show.proofs.ranges.push_free.Goals as goal

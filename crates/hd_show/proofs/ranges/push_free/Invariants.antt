@@ -1,7 +1,7 @@
 use Rattle.std.proofs.Common.{◌++◌, ◌≡◌}
 use Rattle.hd_model.specs.declared.limits.TheConstants.{ROWS}
-use Rattle.hd_show.specs.Blocks.{free_rows, is_free_row, rows_by}
-use Rattle.hd_show.specs.Ranges.{left_word, ranges_of, ranges_word}
+use Rattle.hd_show.specs.{Blocks.free_rows, Blocks.is_free_row, Inside.rows_by}
+use Rattle.hd_show.specs.{Inside.left_word, Ranges.ranges_of, Ranges.ranges_word}
 use Rattle.hd_show.proofs.RangeSteps.{passing}
 use Rattle.hd_show.proofs.ranges.push_free.Given as goal
 

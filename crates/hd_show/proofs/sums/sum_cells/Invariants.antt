@@ -1,7 +1,7 @@
 use Rattle.std.proofs.Common.{take, ℕ, ◌≡◌}
 use Rattle.std.specs.Prelude.{sum_by}
-use Rattle.hd_show.specs.Heaps.{cells_seen_in}
-use Rattle.hd_show.specs.Tally.{tally_at}
+use Rattle.hd_show.specs.Inside.{cells_seen_in}
+use Rattle.hd_show.specs.Inside.{tally_at}
 use Rattle.hd_show.proofs.sums.sum_cells.Given as goal
 
 abbrev pub invariant-loop-object : goal.invariant-loop-object

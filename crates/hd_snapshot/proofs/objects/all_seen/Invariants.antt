@@ -1,7 +1,7 @@
 use Rattle.std.proofs.Common.{map, take, ◌≡◌}
 use Rattle.hd_seen.specs.Seen.{object_shown}
 use Rattle.hd_snapshot.specs.declared.objects.Located.{Located}
-use Rattle.hd_snapshot.specs.Located.{shown_at}
+use Rattle.hd_snapshot.specs.Inside.{shown_at}
 use Rattle.hd_snapshot.proofs.objects.all_seen.Given as goal
 
 -- those so far

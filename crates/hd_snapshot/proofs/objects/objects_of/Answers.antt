@@ -2,7 +2,7 @@ use Rattle.std.proofs.Common.{IfOk, List, ap, map, subst, ◌∙◌, ◌≡◌}
 use Rattle.hd_seen.specs.Seen.{ObjectSeen, object_shown}
 use Rattle.hd_snapshot.proofs.Listings.{listing-shown}
 use Rattle.hd_snapshot.specs.declared.objects.Located.{Located}
-use Rattle.hd_snapshot.specs.Located.{shown_at}
+use Rattle.hd_snapshot.specs.Inside.{shown_at}
 use Rattle.hd_snapshot.proofs.objects.objects_of.Goals as goal
 
 pub returns : goal.returns

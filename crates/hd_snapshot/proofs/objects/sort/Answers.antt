@@ -1,6 +1,6 @@
 use Rattle.std.proofs.Common.{rules}
 use Rattle.std.proofs.lemmas.List.Sorted.{IsNonDecreasingBy-from_sort, answers_always}
-use Rattle.hd_snapshot.specs.Located.{number_of}
+use Rattle.hd_snapshot.specs.Inside.{number_of}
 use Rattle.hd_snapshot.proofs.objects.sort.Goals as goal
 
 pub returns-clause-rising : goal.returns-clause-rising

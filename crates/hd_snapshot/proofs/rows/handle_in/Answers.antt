@@ -14,11 +14,11 @@ returns-in_err-info c =
 
 pub age-requires-clause-low : goal.age-requires-clause-low
 age-requires-clause-low c =
-    (handle_block c.objects-objects.ensures.sound c.args.slot.0 _ c.in_ok-info.ensures).0
+    (handle_block c.contents-contents.ensures.sound c.args.slot.0 _ c.in_ok-info.ensures).0
 
 pub age-requires-clause-high : goal.age-requires-clause-high
 age-requires-clause-high c =
-    (handle_block c.objects-objects.ensures.sound c.args.slot.0 _ c.in_ok-info.ensures).1
+    (handle_block c.contents-contents.ensures.sound c.args.slot.0 _ c.in_ok-info.ensures).1
 
 pub returns : goal.returns
 returns c =

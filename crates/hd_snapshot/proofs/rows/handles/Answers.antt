@@ -4,6 +4,7 @@ use Rattle.std.specs.Option.{option_to_list}
 use Rattle.hd_model.specs.declared.limits.TheConstants.{ROWS}
 use Rattle.hd_seg.specs.Mapped.{entries_of}
 use Rattle.hd_seen.specs.Seen.{handle_seen}
+use Rattle.hd_store.specs.Store.{Machine}
 use Rattle.hd_snapshot.proofs.Ranges.{all_read, none_read, read-more}
 use Rattle.hd_snapshot.proofs.StoreSlots.{handle_block, slot_below}
 use Rattle.hd_snapshot.proofs.rows.handles.Goals as goal
@@ -23,9 +24,10 @@ loop-number-preserved c =
 
 pub returns : goal.returns
 returns c =
-    let end : c.loop-number.number ≡ ROWS * (c.args.store.now.numbers.blocks + 1) = omega arith in
+    let blocks = ap (λ (m : Machine). m.numbers.blocks) c.contents-contents.ensures.value in
+    let end : c.loop-number.number ≡ ROWS * (c.args.store.now.numbers.blocks + 1) = omega (arith, blocks) in
     c.loop-number.invariant
     ∙ ap (map (handle_seen c.args.store.now.ages))
     (ap (λ n. entries_of 0 n (get c.args.store.now.state.handles)) end
     ∙ all_read c.args.store.now.state.handles (ROWS * (c.args.store.now.numbers.blocks + 1)) (λ q x is.
-    slot_below q c.args.store.now.numbers.blocks (handle_block c.objects-objects.ensures.sound q x is).1))
+    slot_below q c.args.store.now.numbers.blocks (handle_block c.contents-contents.ensures.sound q x is).1))

@@ -1,5 +1,5 @@
 use Rattle.std.proofs.Common.{◌+◌, length}
-use Rattle.hd_step.specs.Talk.{IsTalking}
+use Rattle.hd_step.proofs.Talks.{IsTalking}
 use Rattle.hd_step.proofs.session.talk.Given as goal
 
 -- the lines so far were done, and what was read behind them is at hand

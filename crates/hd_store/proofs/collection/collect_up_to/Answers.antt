@@ -1,4 +1,4 @@
-use Rattle.hd_store.proofs.StoreWords.{Done, KeepsPlaces, TakesSteps, entry_by, subst, sym}
+use Rattle.hd_store.proofs.StoreWords.{Done, KeepsPinned, TakesSteps, entry_by, subst, sym}
 use Rattle.hd_store.proofs.AddressSteps.{collect-moves, collect-steps}
 use Rattle.hd_model.specs.declared.command.Cmd.TheVariants as cmd
 use Rattle.hd_store.proofs.collection.collect_up_to.Goals as goal
@@ -9,7 +9,7 @@ returns g c =
     let k = c.collect.new.self in
     subst
     (λ (d : Done).
-    KeepsPlaces m (entry_by c.args.caller (cmd.Collect c.args.n) d) k
+    KeepsPinned m (entry_by c.args.caller (cmd.Collect c.args.n) d) k
     × TakesSteps m.state m.ages (entry_by c.args.caller (cmd.Collect c.args.n) d) c.args.steps.now
     c.collect.new.steps) (sym c.of.ensures) (
       collect-moves m k c.args.n c.in_ok-report.report c.args.caller c.requires.caller c.requires.generation

@@ -20,10 +20,10 @@ returns-in-AddrOf g c =
     let m = c.args.store.now in
     let steps = c.args.steps.now in
     let asked = cmd.AddrOf c.in-AddrOf.s in
-    let r = c.reply_place.result in
+    let r = c.reply_address.result in
     as-asked m m c.args.caller c.args.cmd asked c.args.offer r steps steps c.entry_of-in-AddrOf.result
     c.in-AddrOf.is c.entry_of-in-AddrOf.ensures c.requires
-    (others-run m m c.args.caller asked c.args.offer r steps steps refl c.reply_place.ensures
+    (others-run m m c.args.caller asked c.args.offer r steps steps refl c.reply_address.ensures
     (others-steps (entry_by c.args.caller asked (done_of r)) is_collect refl (λ n. refl) m steps refl))
 
 pub returns : goal.returns

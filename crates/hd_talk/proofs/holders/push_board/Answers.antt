@@ -10,9 +10,9 @@ loop-k-init c = sym (append-nil c.args.text.now.items)
 pub loop-k-preserved : goal.loop-k-preserved
 loop-k-preserved c =
     row_next (board_line c.args.slot.0) 0 c.args.board.now c.loop-k.k None c.loop-k-test.true
-    c.args.text.now.items c.loop-k.text.items c.push_place.new.text.items c.loop-k.k
+    c.args.text.now.items c.loop-k.text.items c.push_index.new.text.items c.loop-k.k
     (get_or c.args.board.now c.loop-k.k None) (omega arith) refl c.loop-k.invariant
-    c.in_ok-push_place.ensures
+    c.in_ok-push_index.ensures
 
 pub returns : goal.returns
 returns c =

@@ -2,7 +2,7 @@ use Rattle.std.proofs.lemmas.Result.{IfOk-weaker}
 use Rattle.std.proofs.Common.{ℕ, ◌*◌, ◌+◌, ◌⊎◌, false, refl, true}
 use Rattle.std.specs.Prelude.{◌↔◌}
 use Rattle.hd_model.specs.declared.limits.TheConstants.{ROWS}
-use Rattle.hd_view.specs.Accepted.{CoversTo, IsSlotOf}
+use Rattle.hd_view.specs.Inside.{CoversTo, IsSlotOf}
 use Rattle.hd_view.specs.Sets.{IsIn}
 use Rattle.hd_view.specs.declared.sets.NumberSet.{NumberSet}
 use Rattle.hd_view.proofs.SlotSets.{covers_listed, covers_named}

@@ -1,6 +1,6 @@
 use Rattle.std.proofs.Common.{[], refl, sym, ◌++◌, ◌+◌, ◌∷◌, ◌≡◌}
 use Rattle.std.proofs.lemmas.Result.{IfOk-weaker}
-use Rattle.hd_view.specs.Accepted.{AreDueTo}
+use Rattle.hd_view.specs.Inside.{AreDueTo}
 use Rattle.hd_view.specs.declared.accepted.Due.{Due}
 use Rattle.hd_view.proofs.DueCommands.{due_more, due_skip}
 use Rattle.hd_view.proofs.accepted.add_due.Goals as goal

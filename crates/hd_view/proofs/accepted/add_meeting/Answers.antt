@@ -2,7 +2,7 @@ use Rattle.std.proofs.Common.{arith, min, ℕ, ⊎_elim, ◌+◌, ◌-◌, ◌<�
 use Rattle.std.specs.Prelude.{◌↔◌}
 use mathlib.Core.Logic.{inl, inr}
 use Rattle.std.proofs.lemmas.Result.{IfOk-weaker}
-use Rattle.hd_view.specs.Accepted.{meets}
+use Rattle.hd_view.specs.Inside.{meets}
 use Rattle.hd_view.specs.Sets.{IsIn}
 use Rattle.hd_view.proofs.AddressSets.{meets_range}
 use Rattle.hd_view.proofs.accepted.add_meeting.Goals as goal

@@ -1,7 +1,7 @@
 use Rattle.std.proofs.Common.{ℕ, ◌≤◌, ◌⊎◌}
 use Rattle.std.specs.Prelude.{◌↔◌}
 use Rattle.std.proofs.lemmas.Result.{IfOk-weaker}
-use Rattle.hd_view.specs.Accepted.{IsThatSlot}
+use Rattle.hd_view.specs.Inside.{IsThatSlot}
 use Rattle.hd_view.specs.Sets.{IsIn}
 use Rattle.hd_view.proofs.SlotSets.{adds_none, adds_slot, differ_by, same_by}
 use Rattle.hd_view.proofs.accepted.add_slot.Goals as goal

@@ -1,5 +1,5 @@
 use Rattle.std.proofs.Common.{List, arith, length, subst, sym, ◌≤◌}
-use Rattle.hd_view.specs.Accepted.{AreDueTo}
+use Rattle.hd_view.specs.Inside.{AreDueTo}
 use Rattle.hd_view.specs.declared.accepted.Due.{Due}
 use Rattle.hd_view.proofs.DueCommands.{due_all, due_none}
 use Rattle.hd_view.proofs.accepted.all_due.Goals as goal

@@ -1,5 +1,5 @@
 use Rattle.std.proofs.Common.{length, ◌≡◌}
-use Rattle.hd_view.specs.Accepted.{AreDueTo}
+use Rattle.hd_view.specs.Inside.{AreDueTo}
 use Rattle.hd_view.proofs.accepted.all_due.Given as goal
 
 abbrev pub invariant-loop-caller : goal.invariant-loop-caller

@@ -1,5 +1,5 @@
 use Rattle.std.proofs.Common.{ap, arith, subst, ◌+◌, ◌≡◌}
-use Rattle.hd_view.specs.Accepted.{CoversTo}
+use Rattle.hd_view.specs.Inside.{CoversTo}
 use Rattle.hd_view.proofs.SlotSets.{covers_all, covers_none}
 use Rattle.hd_view.proofs.accepted.free_slots.Goals as goal
 

@@ -1,5 +1,5 @@
 use Rattle.std.proofs.Common.{◌+◌, ◌≡◌}
-use Rattle.hd_view.specs.Accepted.{CoversTo}
+use Rattle.hd_view.specs.Inside.{CoversTo}
 use Rattle.hd_view.proofs.accepted.free_slots.Given as goal
 
 abbrev pub invariant-loop-block : goal.invariant-loop-block

@@ -1,6 +1,6 @@
 use Rattle.std.proofs.Common.{Some, arith, subst, sym}
 use Rattle.hd_model.specs.declared.data.Entry.{Entry}
-use Rattle.hd_view.specs.Accepted.{IsGrownOf}
+use Rattle.hd_view.specs.Inside.{IsGrownOf}
 use Rattle.hd_view.proofs.AcceptedSets.{grown_none, grown_one, grown_two}
 use Rattle.hd_view.proofs.accepted.growth_entry.Goals as goal
 

@@ -1,7 +1,7 @@
 use Rattle.std.proofs.Common.{subst, sym, ◌<◌, ◌∙◌}
 use Rattle.std.proofs.lemmas.Result.{IfOk-weaker}
 use Rattle.hd_model.specs.State.{Numbers}
-use Rattle.hd_audit.specs.Before.{HasOne}
+use Rattle.hd_plain.specs.OneEntry.{HasOne}
 use Rattle.hd_view.proofs.AcceptedSets.{same_one}
 use Rattle.hd_view.proofs.accepted.stepped.Goals as goal
 

@@ -1,5 +1,5 @@
 use Rattle.std.proofs.Common.{List, ap, sym, ℕ, ◌∙◌, true≢false}
-use Rattle.hd_view.specs.Stated.{begins, parts_in}
+use Rattle.hd_view.specs.{Stated.begins, Inside.parts_in}
 use Rattle.hd_view.proofs.RowCauses.{address_grows, address_reads, address_slot, address_taken, is_absent, is_there, no_address}
 use Rattle.hd_view.proofs.cause.address_cause.Goals as goal
 

@@ -1,5 +1,5 @@
 use Rattle.std.proofs.Common.{ap, sym, ⊎_elim, ◌∙◌}
-use Rattle.hd_view.specs.Stated.{parts_in}
+use Rattle.hd_view.specs.Inside.{parts_in}
 use Rattle.hd_view.proofs.RowCauses.{back_missing, back_other, block_slot, is_absent, is_back, is_there}
 use Rattle.hd_view.proofs.cause.back_cause.Goals as goal
 

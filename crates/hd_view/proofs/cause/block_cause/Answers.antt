@@ -1,5 +1,5 @@
 use Rattle.std.proofs.Common.{sym, ◌∙◌, true≢false}
-use Rattle.hd_view.specs.Stated.{parts_in}
+use Rattle.hd_view.specs.Inside.{parts_in}
 use Rattle.hd_view.proofs.RowCauses.{no_value_reply}
 use Rattle.hd_view.proofs.cause.block_cause.Goals as goal
 

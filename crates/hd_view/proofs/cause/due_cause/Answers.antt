@@ -1,4 +1,4 @@
-use Rattle.hd_view.specs.Stated.{parts_in}
+use Rattle.hd_view.specs.Inside.{parts_in}
 use Rattle.hd_view.proofs.CauseFacts.{only_one}
 use Rattle.hd_view.proofs.DueCauses.{address_next, block_next, full_only, slot_next}
 use Rattle.hd_view.proofs.cause.due_cause.Goals as goal

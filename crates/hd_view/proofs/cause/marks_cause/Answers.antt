@@ -1,5 +1,5 @@
 use Rattle.std.proofs.Common.{ap, is_some, sym, ◌∙◌}
-use Rattle.hd_view.specs.Stated.{parts_in}
+use Rattle.hd_view.specs.Inside.{parts_in}
 use Rattle.hd_view.proofs.RowCauses.{is_there, marks_grown, marks_missing, marks_needless, marks_read, marks_slot, other_number, same_slot}
 use Rattle.hd_view.proofs.cause.marks_cause.Goals as goal
 

@@ -1,5 +1,5 @@
 use Rattle.std.proofs.Common.{sym, ◌∙◌}
-use Rattle.hd_view.specs.Stated.{parts_in}
+use Rattle.hd_view.specs.Inside.{parts_in}
 use Rattle.hd_view.proofs.RowCauses.{block_slot, is_absent, is_there, none_grows, none_reads}
 use Rattle.hd_view.proofs.cause.none_cause.Goals as goal
 

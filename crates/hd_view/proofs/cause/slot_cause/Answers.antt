@@ -1,5 +1,5 @@
 use Rattle.std.proofs.Common.{sym, ◌∙◌, true≢false, subst}
-use Rattle.hd_view.specs.Stated.{parts_in}
+use Rattle.hd_view.specs.Inside.{parts_in}
 use Rattle.hd_model.specs.Step.{MayGive}
 use Rattle.hd_view.proofs.RowCauses.{no_slot, not_done, other_blocks}
 use Rattle.hd_view.proofs.cause.slot_cause.Goals as goal

@@ -1,7 +1,7 @@
 use Rattle.std.proofs.Common.{ap, ◌++◌, ◌∙◌}
-use Rattle.hd_graph.proofs.PictureNumbers.{pictures_rise}
 use Rattle.hd_graph.proofs.StateMarks.{grey_is_removed}
 use Rattle.hd_graph.specs.Graph.{graph_text}
+use Rattle.hd_links.proofs.SeenStates.{pictures_rise}
 use Rattle.hd_seen.specs.Seen.{view_seen}
 use Rattle.hd_view.proofs.ShownClaims.{not_seen, well_formed}
 use Rattle.hd_view.proofs.shown.graph_of.Goals as goal

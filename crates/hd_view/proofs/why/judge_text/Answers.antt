@@ -1,4 +1,4 @@
-use Rattle.hd_audit.specs.Judging.{numbers_of}
+use Rattle.hd_audit.specs.RightVerdicts.{numbers_of}
 use Rattle.hd_view.proofs.WrongLines.{has_before}
 use Rattle.hd_view.proofs.why.judge_text.Goals as goal
 

@@ -1,4 +1,4 @@
-use Rattle.hd_audit.specs.Judging.{numbers_of}
+use Rattle.hd_audit.specs.RightVerdicts.{numbers_of}
 use Rattle.hd_view.proofs.WrongLines.{is_wrong, reason_is, written_by}
 use Rattle.hd_view.proofs.why.reason.Goals as goal
 

@@ -1,43 +1,17 @@
-use Rattle.std.proofs.Common.{arith, refl, subst, ℕ}
-use Rattle.hd_model.specs.declared.command.Cmd.TheVariants as cmd
-use Rattle.hd_model.specs.Command.{loaded}
-use Rattle.hd_host.specs.Calls.{FailsOf, RepliesOf}
-use Rattle.hdt_c.specs.Exports.{does}
-use Rattle.hdt_c.proofs.Comings.{failed, wrong}
+use Rattle.std.proofs.Common.{refl}
+use Rattle.hdt_c.specs.Exports.{does, is_wrong}
+use Rattle.hdt_c.proofs.Comings.{failed}
 use Rattle.hdt_c.proofs.on_handles.secondary_get.Goals as goal
 
-pub returns-then-c-contexts : goal.returns-then-c-contexts
-returns-then-c-contexts c =
-    wrong (λ right. let known = right.0 in omega
-    (arith, known, c.if-c-contexts.true, c.contexts.ensures.value))
-    refl refl refl
-
 pub returns-in_default : goal.returns-in_default
-returns-in_default c =
-    wrong (λ right. let low = right.1 in omega (arith, low, c.in_default.ensures)) refl refl refl
+returns-in_default c = is_wrong _ c.in_default.ensures refl
 
 pub returns-in-Ok : goal.returns-in-Ok
 returns-in-Ok c =
-    does c.args.host.now _ _ (
-      omega (arith, c.if-c-contexts.false, c.contexts.ensures.value),
-      omega
-          (arith, c.in-Some.ensures),
-    ) (
-      c.in-Ok.loaded,
-      subst (λ (d : ℕ). RepliesOf c.args.host.now c.args.c (record { 0 = c.args.handle })
-          (cmd.HDep d 0) (loaded c.in-Ok.loaded) c.secondary_get.new.self) c.in-Some.ensures.0
-          c.in-Ok.ensures.does,
-      c.number_of.ensures,
-      refl,
-    )
+    does c.args.host.now _ _ c.in-Some.ensures.1
+    (c.in-Ok.load_reply, rw c.in-Some.ensures.0 at c.in-Ok.ensures.does, c.number_of.ensures, refl)
 
 pub returns-in-Err : goal.returns-in-Err
 returns-in-Err c =
-    failed c.in-Err.fault (
-      omega (arith, c.if-c-contexts.false, c.contexts.ensures.value),
-      omega
-          (arith, c.in-Some.ensures),
-    )
-    (subst (λ (d : ℕ). FailsOf c.args.host.now c.args.c (record { 0 = c.args.handle }) (cmd.HDep d 0)
-    c.in-Err.fault) c.in-Some.ensures.0 c.in-Err.ensures.does.0)
-    c.in-Err.ensures.does.1 refl c.status_of.ensures
+    failed c.in-Err.fault c.in-Some.ensures.1 (rw c.in-Some.ensures.0 at c.in-Err.ensures.does.0) c.in-Err.ensures.does.1
+    refl c.status_of.ensures

@@ -1,24 +1,23 @@
 use Rattle.std.proofs.Common.{arith, false, refl, sym, ◌∙◌, ◌≡◌}
 use Rattle.hd_model.specs.Kinds.{is_paired}
-use Rattle.hdt_c.specs.Exports.{does}
-use Rattle.hdt_c.proofs.Comings.{wrong}
+use Rattle.hdt_c.specs.Exports.{does, is_wrong}
 use Rattle.hdt_c.proofs.Makes.{few_kinds, same_paired}
 use Rattle.hdt_c.proofs.on_host.trim.Goals as goal
 
 pub returns-in_default : goal.returns-in_default
 returns-in_default c =
-    wrong (λ right. let few = few_kinds right.0 in let is = right.1 in omega
-    (arith, few, is, c.in_default.ensures)) refl refl refl
+    is_wrong _ (λ right. let few = few_kinds right.0 in let is = right.1 in omega
+    (arith, few, is, c.in_default.ensures)) refl
 
 pub returns-then-paired : goal.returns-then-paired
 returns-then-paired c =
-    wrong (λ right. cc (
+    is_wrong _ (λ right. cc (
       c.if-paired.true,
       c.paired.ensures,
       same_paired right.0 c.in-Some.of
           (right.1 ∙ sym c.in-Some.ensures),
       right.2,
-    )) refl refl refl
+    )) refl
 
 pub returns : goal.returns
 returns c =

@@ -1,30 +1,11 @@
-use Rattle.std.proofs.Common.{None, arith, refl, subst, ℕ}
-use Rattle.hd_model.specs.declared.command.Cmd.TheVariants as cmd
-use Rattle.hd_model.specs.declared.data.Reply.TheVariants as reply
-use Rattle.hd_host.specs.Calls.{HasReplied}
-use Rattle.hdt_c.specs.Exports.{does}
-use Rattle.hdt_c.proofs.Comings.{wrong}
+use Rattle.std.proofs.Common.{refl}
+use Rattle.hdt_c.specs.Exports.{does, is_wrong}
 use Rattle.hdt_c.proofs.on_locals.local_clear.Goals as goal
 
-pub returns-then-c-contexts : goal.returns-then-c-contexts
-returns-then-c-contexts c =
-    wrong (λ right. let known = right.0 in omega
-    (arith, known, c.if-c-contexts.true, c.contexts.ensures.value))
-    tt refl refl
-
 pub returns-in_default : goal.returns-in_default
-returns-in_default c =
-    wrong (λ right. let low = right.1 in omega (arith, low, c.in_default.ensures)) tt refl refl
+returns-in_default c = is_wrong _ c.in_default.ensures tt
 
 pub returns : goal.returns
 returns c =
-    does c.args.host.now _ _ (
-      omega (arith, c.if-c-contexts.false, c.contexts.ensures.value),
-      omega
-          (arith, c.in-Some.ensures),
-    ) (
-      subst (λ (d : ℕ). HasReplied c.args.host.now c.args.c None (cmd.Clear d) reply.Done
-          c.local_clear.new.self)
-          c.in-Some.ensures.0 c.local_clear.ensures.does,
-      refl,
-    )
+    does c.args.host.now _ _ c.in-Some.ensures.1
+    (rw c.in-Some.ensures.0 at c.local_clear.ensures.does, refl)

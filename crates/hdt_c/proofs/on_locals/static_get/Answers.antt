@@ -1,37 +1,11 @@
-use Rattle.std.proofs.Common.{None, arith, refl, subst, ℕ}
-use Rattle.hd_model.specs.declared.command.Cmd.TheVariants as cmd
-use Rattle.hd_model.specs.Command.{loaded}
-use Rattle.hd_host.specs.Calls.{HasReplied}
-use Rattle.hdt_c.specs.Exports.{does}
-use Rattle.hdt_c.proofs.Comings.{wrong}
+use Rattle.std.proofs.Common.{refl}
+use Rattle.hdt_c.specs.Exports.{does, is_wrong}
 use Rattle.hdt_c.proofs.on_locals.static_get.Goals as goal
 
-pub returns-then-c-contexts : goal.returns-then-c-contexts
-returns-then-c-contexts c =
-    wrong (λ right. let known = right.0 in omega
-    (arith, known, c.if-c-contexts.true, c.contexts.ensures.value)) refl refl refl
-
 pub returns-in_default : goal.returns-in_default
-returns-in_default c =
-    wrong (λ right. let low = right.1 in omega (arith, low, c.in_default.ensures)) refl refl refl
-
-pub returns-in_default-local : goal.returns-in_default-local
-returns-in_default-local c =
-    wrong (λ right. let low = right.2 in omega (arith, low, c.in_default-local.ensures)) refl refl refl
+returns-in_default c = is_wrong _ c.in_default.ensures refl
 
 pub returns : goal.returns
 returns c =
-    does c.args.host.now _ _ (
-      omega (arith, c.if-c-contexts.false, c.contexts.ensures.value),
-      omega
-          (arith, c.in-Some.ensures),
-      omega (arith, c.in-Some-local.ensures),
-    ) (
-      c.static_get.result,
-      (subst (λ (x : ℕ). HasReplied c.args.host.now c.args.c None
-          (cmd.SGet c.args.dst x) (loaded c.static_get.result) c.static_get.new.self) c.in-Some-local.ensures.0
-          (subst (λ (x : ℕ). HasReplied c.args.host.now c.args.c None (cmd.SGet x c.in-Some-local.k)
-          (loaded c.static_get.result) c.static_get.new.self) c.in-Some.ensures.0 c.static_get.ensures.does)),
-      c.number_of.ensures,
-      refl,
-    )
+    does c.args.host.now _ _ c.in-Some.ensures.2
+    (c.static_get.result, rw (c.in-Some.ensures.0, c.in-Some.ensures.1) at c.static_get.ensures.does, (c.number_of.ensures, refl))

@@ -1,55 +1,17 @@
-use Rattle.std.proofs.Common.{None, arith, refl, subst, ℕ}
-use Rattle.hd_model.specs.declared.command.Cmd.TheVariants as cmd
-use Rattle.hd_model.specs.Command.{loaded}
-use Rattle.hd_host.specs.Calls.{FailsBy, HasReplied}
-use Rattle.hdt_c.specs.Exports.{does}
-use Rattle.hdt_c.proofs.Comings.{failed, wrong}
+use Rattle.std.proofs.Common.{refl}
+use Rattle.hdt_c.specs.Exports.{does, is_wrong}
+use Rattle.hdt_c.proofs.Comings.{failed}
 use Rattle.hdt_c.proofs.on_objects.field_get.Goals as goal
 
-pub returns-then-c-contexts : goal.returns-then-c-contexts
-returns-then-c-contexts c =
-    wrong (λ right. let known = right.0 in omega
-    (arith, known, c.if-c-contexts.true, c.contexts.ensures.value)) refl refl refl
-
 pub returns-in_default : goal.returns-in_default
-returns-in_default c =
-    wrong (λ right. let low = right.1 in omega (arith, low, c.in_default.ensures)) refl refl refl
-
-pub returns-in_default-local : goal.returns-in_default-local
-returns-in_default-local c =
-    wrong (λ right. let low = right.2 in omega (arith, low, c.in_default-local.ensures)) refl refl refl
+returns-in_default c = is_wrong _ c.in_default.ensures refl
 
 pub returns-in-Ok : goal.returns-in-Ok
 returns-in-Ok c =
-    does c.args.host.now _ _ (
-      omega (arith, c.if-c-contexts.false, c.contexts.ensures.value),
-      omega
-          (arith, c.in-Some.ensures),
-      omega (arith, c.in-Some-local.ensures),
-    ) (
-      c.in-Ok.loaded,
-      subst (λ (i : ℕ). HasReplied c.args.host.now c.args.c None
-          (cmd.Get c.args.dst c.args.object i) (loaded c.in-Ok.loaded) c.field_get.new.self) c.field.ensures
-          (subst (λ (x : ℕ). HasReplied c.args.host.now c.args.c None (cmd.Get c.args.dst x c.field.result)
-          (loaded c.in-Ok.loaded) c.field_get.new.self) c.in-Some-local.ensures.0
-          (subst (λ (x : ℕ). HasReplied c.args.host.now c.args.c None
-          (cmd.Get x c.in-Some-local.object c.field.result) (loaded c.in-Ok.loaded) c.field_get.new.self)
-          c.in-Some.ensures.0 c.in-Ok.ensures.does)),
-      c.number_of.ensures,
-      refl,
-    )
+    does c.args.host.now _ _ c.in-Some.ensures.2
+    (c.in-Ok.load_reply, rw (c.in-Some.ensures.0, c.in-Some.ensures.1, c.field.ensures) at c.in-Ok.ensures.does, (c.number_of.ensures, refl))
 
 pub returns-in-Err : goal.returns-in-Err
 returns-in-Err c =
-    failed c.in-Err.fault (
-      omega (arith, c.if-c-contexts.false, c.contexts.ensures.value),
-      omega
-          (arith, c.in-Some.ensures),
-      omega (arith, c.in-Some-local.ensures),
-    )
-    (subst (λ (i : ℕ). FailsBy c.args.host.now c.args.c None (cmd.Get c.args.dst c.args.object i)
-    c.in-Err.fault) c.field.ensures (subst (λ (x : ℕ). FailsBy c.args.host.now c.args.c None
-    (cmd.Get c.args.dst x c.field.result) c.in-Err.fault) c.in-Some-local.ensures.0
-    (subst (λ (x : ℕ). FailsBy c.args.host.now c.args.c None
-    (cmd.Get x c.in-Some-local.object c.field.result) c.in-Err.fault) c.in-Some.ensures.0
-    c.in-Err.ensures.does.0))) c.in-Err.ensures.does.1 refl c.status_of.ensures
+    failed c.in-Err.fault c.in-Some.ensures.2 (rw (c.in-Some.ensures.0, c.in-Some.ensures.1, c.field.ensures) at c.in-Err.ensures.does.0) c.in-Err.ensures.does.1
+    refl c.status_of.ensures

@@ -1,32 +1,11 @@
-use Rattle.std.proofs.Common.{None, arith, refl, subst, ℕ}
-use Rattle.std.specs.Prelude.{MatchResult}
-use Rattle.hd_model.specs.declared.command.Cmd.TheVariants as cmd
-use Rattle.hd_model.specs.declared.data.Reply.TheVariants as reply
-use Rattle.hd_host.specs.Calls.{FailsBy, HasReplied}
-use Rattle.hd_host.specs.View.{IsAsItWas}
-use Rattle.hdt_c.proofs.Comings.{by_status, wrong}
+use Rattle.hdt_c.specs.Exports.{is_wrong}
+use Rattle.hdt_c.proofs.Comings.{by_status}
 use Rattle.hdt_c.proofs.on_objects.value_set.Goals as goal
 
-pub returns-then-c-contexts : goal.returns-then-c-contexts
-returns-then-c-contexts c =
-    wrong (λ right. let known = right.0 in omega
-    (arith, known, c.if-c-contexts.true, c.contexts.ensures.value))
-    tt refl refl
-
 pub returns-in_default : goal.returns-in_default
-returns-in_default c =
-    wrong (λ right. let low = right.1 in omega (arith, low, c.in_default.ensures)) tt refl refl
+returns-in_default c = is_wrong _ c.in_default.ensures tt
 
 pub returns : goal.returns
 returns c =
-    by_status (
-      omega (arith, c.if-c-contexts.false, c.contexts.ensures.value),
-      omega
-          (arith, c.in-Some.ensures),
-    ) tt (λ done ok. (done, ok))
-    c.value_set.result c.status.ensures
-    (subst (λ (d : ℕ). MatchResult c.value_set.result
-    (λ _. HasReplied c.args.host.now c.args.c None (cmd.Val d c.args.value) reply.Done c.value_set.new.self)
-    (λ fault. FailsBy c.args.host.now c.args.c None (cmd.Val d c.args.value) fault × IsAsItWas
-    c.args.host.now c.value_set.new.self)) c.in-Some.ensures.0
-    c.value_set.ensures.does)
+    by_status c.in-Some.ensures.1 tt (λ done ok. (done, ok)) c.value_set.result c.status.ensures
+    (rw c.in-Some.ensures.0 at c.value_set.ensures.does)

@@ -1,6 +1,6 @@
 use Rattle.hd_ages.proofs.Basics.{Advances, CLUMP, IsOver, MatchOption, Option, ap, arith, bit_and, contains_key, clump_at, length, length-map, map, nat_le, refl, set_bits, slice_index, slots_of, subst, sym, ℕ, ◌*◌, ◌+◌, ◌/◌, ◌≤◌, ◌∙◌, ◌≡◌, ROWS}
 use Rattle.hd_ages.proofs.WalkSteps.{due_of, new_block, over}
-use Rattle.hd_ages.proofs.WalkSlots.{few_places}
+use Rattle.hd_ages.proofs.WalkSlots.{few_indexes}
 use Rattle.hd_ages.proofs.ClumpBits.{both_bits, rows_by_bits}
 use Rattle.hd_ages.proofs.due_rows.DueRows.advance.Goals as goal
 
@@ -15,7 +15,7 @@ returns-in_err-block-clause-goes g c =
 
 pub overflow_add-self : goal.overflow_add-self
 overflow_add-self g c =
-    let few = few_places c.args.seg.now c.block_at.ensures.table c.args.ages.now c.args.self.now.n
+    let few = few_indexes c.args.seg.now c.block_at.ensures.table c.args.ages.now c.args.self.now.n
     c.args.self.now.kind c.args.self.now.next c.in_ok-block.block
     (sym c.block_at.ensures.value ∙ c.in_ok-block.was) in
     omega arith

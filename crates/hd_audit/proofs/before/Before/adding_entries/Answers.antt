@@ -8,7 +8,8 @@ use Rattle.hd_model.specs.declared.data.Entry.{Entry}
 use Rattle.hd_model.specs.declared.data.Refusal.TheVariants as refusal
 use Rattle.hd_commands.specs.Done.{entry_by}
 use Rattle.hd_commands.specs.declared.done.Done.{Done}
-use Rattle.hd_audit.specs.Before.{HasExactly, HasOne, TakesSlot}
+use Rattle.hd_plain.specs.OneEntry.{HasExactly, HasOne}
+use Rattle.hd_audit.specs.Before.{TakesSlot}
 use Rattle.hd_audit.specs.Known.{Known}
 use Rattle.hd_audit.proofs.EntryChoices.{adding_idle, adding_new, adding_refused, meets_idle, meets_new, meets_null, meets_present}
 use Rattle.hd_audit.proofs.before.Before.adding_entries.Goals as goal

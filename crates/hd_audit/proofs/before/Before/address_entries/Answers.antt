@@ -4,8 +4,9 @@ use Rattle.hd_model.specs.declared.command.Cmd.TheVariants.{AddrOf}
 use Rattle.hd_model.specs.declared.data.Entry.{Entry}
 use Rattle.hd_commands.specs.Done.{entry_by}
 use Rattle.hd_commands.specs.declared.done.Done.{Done}
-use Rattle.hd_audit.specs.Before.{HasExactly, HasOne, ReturnsFree}
-use Rattle.hd_audit.specs.Judge.{Judge}
+use Rattle.hd_plain.specs.OneEntry.{HasExactly, HasOne}
+use Rattle.hd_audit.specs.Before.{ReturnsFree}
+use Rattle.hd_plain.specs.MachineViews.{MachineView}
 use Rattle.hd_audit.specs.Known.{Known}
 use Rattle.hd_audit.proofs.EntryChoices.{address_again, address_free, address_refused}
 use Rattle.hd_audit.proofs.JudgedLines.{well_formed}
@@ -34,7 +35,7 @@ returns-in-Some c =
     (address_again j.numbers j.state c.args.caller cmd
     (subst (λ (k : Known). c.args.caller < k.numbers.callers) (sym c.self.view_is) c.requires.caller)
     c.requires.valid c.args.s refl c.in-Ok.id c.in-Some.own (sym c.in-Ok.ensures.value)
-    (sym (c.in-Some.ensures ∙ ap (λ (j : Judge). get j.state.places c.in-Ok.id.0) c.machine.view_is))))
+    (sym (c.in-Some.ensures ∙ ap (λ (j : MachineView). get j.state.pinned c.in-Ok.id.0) c.machine.view_is))))
 
 pub returns-in-None : goal.returns-in-None
 returns-in-None c =
@@ -45,4 +46,4 @@ returns-in-None c =
     (address_free j.numbers j.state c.args.caller cmd
     (subst (λ (k : Known). c.args.caller < k.numbers.callers) (sym c.self.view_is) c.requires.caller)
     c.requires.valid c.args.s refl c.in-Ok.id (sym c.in-Ok.ensures.value)
-    (sym (c.in-None.ensures ∙ ap (λ (j : Judge). get j.state.places c.in-Ok.id.0) c.machine.view_is)))
+    (sym (c.in-None.ensures ∙ ap (λ (j : MachineView). get j.state.pinned c.in-Ok.id.0) c.machine.view_is)))

@@ -1,7 +1,8 @@
 use Rattle.std.proofs.Common.{ap, subst, sym}
 use Rattle.hd_model.specs.declared.command.Cmd.{Cmd}
 use Rattle.hd_model.specs.Step.{way_of}
-use Rattle.hd_audit.specs.Before.{HasExactly, MayHave, TakesSlot}
+use Rattle.hd_plain.specs.OneEntry.{HasExactly}
+use Rattle.hd_audit.specs.Before.{MayHave, TakesSlot}
 use Rattle.hd_audit.proofs.EntryChoices.{block_of_trim, slot_of_handle}
 use Rattle.hd_audit.proofs.before.Before.entries.Goals as goal
 

@@ -1,5 +1,5 @@
 use Rattle.std.proofs.Common.{IfOk, subst, sym, ◌<◌}
-use Rattle.hd_audit.specs.Before.{HasOne}
+use Rattle.hd_plain.specs.OneEntry.{HasOne}
 use Rattle.hd_audit.specs.Known.{Known}
 use Rattle.hd_audit.proofs.KnownFacts.{may_step}
 use Rattle.hd_audit.proofs.before.Before.entry.Goals as goal

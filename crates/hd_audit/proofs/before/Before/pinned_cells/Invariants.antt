@@ -1,4 +1,5 @@
-use Rattle.hd_audit.proofs.AddressIds.{BeginsBelow, Gathers, cells_at}
+use Rattle.hd_audit.proofs.AddressCells.{BeginsBelow, cells_at}
+use Rattle.hd_maps.proofs.AddressIds.{Gathers}
 use Rattle.hd_audit.proofs.before.Before.pinned_cells.Given as goal
 
 abbrev pub invariant-loop-id : goal.invariant-loop-id

@@ -3,12 +3,12 @@ use Rattle.hd_cells.proofs.Contents.{opened, object_inside, new_laid_out}
 use Rattle.hd_cells.proofs.{CellWrites.registration_written, ObjectStarts.whole_written}
 use Rattle.hd_cells.proofs.region.Region.set_registered.Goals as goal
 
-pub bounds-self-inside-place : goal.bounds-self-inside-place
-bounds-self-inside-place c =
+pub bounds-self-inside-index : goal.bounds-self-inside-index
+bounds-self-inside-index c =
     omega (arith, object_inside (opened c.self.told c.self.invariant c.self.view_is) c.args.at c.requires)
 
-pub bounds-self-inside-place-2 : goal.bounds-self-inside-place-2
-bounds-self-inside-place-2 c =
+pub bounds-self-inside-index-2 : goal.bounds-self-inside-index-2
+bounds-self-inside-index-2 c =
     omega (arith, object_inside (opened c.self.told c.self.invariant c.self.view_is) c.args.at c.requires)
 
 pub returns : goal.returns

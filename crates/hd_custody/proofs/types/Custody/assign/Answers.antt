@@ -4,7 +4,7 @@ use Rattle.hd_custody.proofs.types.Custody.assign.Goals as goal
 
 pub store-requires : goal.store-requires
 store-requires g c =
-    let place = c.caller.inside.place in
+    let inner = c.caller.inside.inner in
     let block = c.requires.block in
     let world = c.requires.no_kind.0 in
     let now = subst (λ (a : Acting g.row.W.Denot). (a.view.has_gate ≡ true) × (a.view.taken ≡ Some world)

@@ -5,8 +5,8 @@ use Rattle.hd_custody.proofs.types.Custody.join.Goals as goal
 pub join_seat-requires : goal.join_seat-requires
 join_seat-requires g c =
     let W = g.row.W.Denot in
-    let first = c.caller.inside.place in
-    let other = c.other.inside.place in
+    let first = c.caller.inside.inner in
+    let other = c.other.inside.inner in
     let view : first.me.0 ≡ c.args.first.now.view = ap (λ (a : Acting W). a.view) c.caller.view_is
     ∙ ap (λ (k : Known W). k.view) c.first.view_is in
     let other_view : other.me.0 ≡ c.args.ended.view = ap (λ (a : Acting W). a.view) c.other.view_is

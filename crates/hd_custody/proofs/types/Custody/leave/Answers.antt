@@ -24,7 +24,7 @@ store-requires g c =
     let W = g.row.W.Denot in
     let seat = c.exchange.new.seat in
     let u = c.requires.follows.0 in
-    let s = between c.caller.inside.place.me seat.me c.seat.inside.caller c.args.seat.now c.args.world
+    let s = between c.caller.inside.inner.me seat.me c.seat.inside.caller c.args.seat.now c.args.world
     c.caller.view_is c.seat.view_is c.seat.invariant c.requires.gate c.exchange.ensures.3 in (
       c.exchange.ensures.0 ∙ ap (λ (a : Acting W). a.table) c.caller.view_is
           ∙ ap (λ (k : Known W). k.table) c.seat.view_is ∙ c.requires.seat
@@ -39,7 +39,7 @@ store-requires g c =
 pub invariant_of-caller : goal.invariant_of-caller
 invariant_of-caller g c =
     let W = g.row.W.Denot in
-    let s = between c.caller.inside.place.me c.exchange.new.seat.me c.seat.inside.caller c.args.seat.now
+    let s = between c.caller.inside.inner.me c.exchange.new.seat.me c.seat.inside.caller c.args.seat.now
     c.args.world c.caller.view_is c.seat.view_is c.seat.invariant c.requires.gate c.exchange.ensures.3 in
     let given = c.store.ensures.2 c.args.world c.requires.follows.0 s.2
     (ap (λ (v : View W). v.taken) (sym s.1) ∙ c.requires.follows.1) in
@@ -49,7 +49,7 @@ invariant_of-caller g c =
 pub invariant_of-seat : goal.invariant_of-seat
 invariant_of-seat g c =
     let W = g.row.W.Denot in
-    let s = between c.caller.inside.place.me c.exchange.new.seat.me c.seat.inside.caller c.args.seat.now
+    let s = between c.caller.inside.inner.me c.exchange.new.seat.me c.seat.inside.caller c.args.seat.now
     c.args.world c.caller.view_is c.seat.view_is c.seat.invariant c.requires.gate c.exchange.ensures.3 in
     let given = c.store.ensures.2 c.args.world c.requires.follows.0 s.2
     (ap (λ (v : View W). v.taken) (sym s.1) ∙ c.requires.follows.1) in

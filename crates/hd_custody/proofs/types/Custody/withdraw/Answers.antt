@@ -5,13 +5,13 @@ use Rattle.hd_custody.proofs.types.Custody.withdraw.Goals as goal
 pub store-requires : goal.store-requires
 store-requires g c =
     let W = g.row.W.Denot in
-    let place = c.caller.inside.place in
-    let now : c.args.seat.now.view ≡ place.me.0 = ap (λ (k : Known W). k.view) (sym c.seat.view_is)
+    let inner = c.caller.inside.inner in
+    let now : c.args.seat.now.view ≡ inner.me.0 = ap (λ (k : Known W). k.view) (sym c.seat.view_is)
     ∙ ap (λ (a : Acting W). a.view) (sym c.caller.view_is) in
     let kinded = subst (λ (a : Acting W). Kinded a.view.held) (sym c.caller.view_is) c.seat.invariant.2 in
-    let has : (r : ℕ) → r < ROWS → Has (ROWS * c.args.block + r) place.me.0.held =
+    let has : (r : ℕ) → r < ROWS → Has (ROWS * c.args.block + r) inner.me.0.held =
     λ r lt. subst (λ (v : View W). Has (ROWS * c.args.block + r) v.held) now (c.requires.all r lt) in
-    let real = block_real c.args.block 0 place.me.0.held (omega arith) kinded (has 0 (omega arith)) in (
+    let real = block_real c.args.block 0 inner.me.0.held (omega arith) kinded (has 0 (omega arith)) in (
       ap (λ (a : Acting W). a.table) c.caller.view_is ∙ ap (λ (k : Known W). k.table) c.seat.view_is
           ∙ c.requires.seat
           ∙ ap (λ (n : Named). n.table) (sym c.self.view_is),

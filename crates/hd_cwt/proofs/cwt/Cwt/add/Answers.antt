@@ -29,12 +29,12 @@ invariant_of-self c =
     let none : get c.self.inside.entries.held slot ≡ None =
     none_from (get c.self.inside.entries.held slot) (λ i. false≢true (sym unheld ∙ i)) in
     relisted (put_new c.self.invariant slot c.self.view_is c.args.key c.requires.new c.requires.within none
-    c.requires.slot) c.put.ensures c.push.ensures.slots c.push.ensures.places c.push.ensures.capacity
+    c.requires.slot) c.put.ensures c.push.ensures.slots c.push.ensures.indexes c.push.ensures.capacity
 
 pub invariant_of-self-else-not-held : goal.invariant_of-self-else-not-held
 invariant_of-self-else-not-held c =
     let slot = c.args.slot.0 in
     let had : IsSome (get c.self.inside.entries.held slot) = search rules in
     relisted (put_idle c.self.invariant slot c.self.view_is c.args.key c.requires.new c.requires.within had
-    (can_seen c.self.view_is slot c.requires.slot)) c.put.ensures c.push.ensures.slots c.push.ensures.places
+    (can_seen c.self.view_is slot c.requires.slot)) c.put.ensures c.push.ensures.slots c.push.ensures.indexes
     c.push.ensures.capacity

@@ -1,5 +1,5 @@
 use Rattle.hd_cwt.proofs.Basics.{IsSome, WeakTable, get, refl, subst, sym, ◌∙◌}
-use Rattle.hd_cwt.proofs.KeyChanges.{clear_idle, clear_listed, held_low, keyed_place, last_low, relisted}
+use Rattle.hd_cwt.proofs.KeyChanges.{clear_idle, clear_listed, held_low, keyed_index, last_low, relisted}
 use Rattle.hd_cwt.proofs.cwt.Cwt.clear.Goals as goal
 
 pub remove-requires-clause-within : goal.remove-requires-clause-within
@@ -9,7 +9,7 @@ remove-requires-clause-within c =
 
 pub remove-requires-clause-listed : goal.remove-requires-clause-listed
 remove-requires-clause-listed c =
-    keyed_place c.self.invariant c.args.slot.0 (sym c.has_key-keyed.ensures ∙ c.if-keyed.true)
+    keyed_index c.self.invariant c.args.slot.0 (sym c.has_key-keyed.ensures ∙ c.if-keyed.true)
 
 pub remove-requires-clause-last : goal.remove-requires-clause-last
 remove-requires-clause-last c =

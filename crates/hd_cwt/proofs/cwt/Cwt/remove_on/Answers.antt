@@ -1,5 +1,5 @@
 use Rattle.hd_cwt.proofs.Basics.{HasKey, ap, is_some, keyed_in, refl, rules}
-use Rattle.hd_cwt.proofs.KeyChanges.{clear_listed, held_low, keyed_place, last_low, relisted}
+use Rattle.hd_cwt.proofs.KeyChanges.{clear_listed, held_low, keyed_index, last_low, relisted}
 use Rattle.hd_cwt.proofs.cwt.Cwt.remove_on.Goals as goal
 
 pub remove-requires-clause-within : goal.remove-requires-clause-within
@@ -10,7 +10,7 @@ remove-requires-clause-within g c =
 pub remove-requires-clause-listed : goal.remove-requires-clause-listed
 remove-requires-clause-listed g c =
     let has : HasKey c.self.inside.entries c.args.key c.unwrap-slot.result = search rules in
-    keyed_place c.self.invariant c.unwrap-slot.result (ap keyed_in has)
+    keyed_index c.self.invariant c.unwrap-slot.result (ap keyed_in has)
 
 pub remove-requires-clause-last : goal.remove-requires-clause-last
 remove-requires-clause-last g c =

@@ -6,8 +6,8 @@ pub loop-left-init : goal.loop-left-init
 loop-left-init c =
     let slots = c.self.inside.keyed.slots in
     let all : length slots.items ≡ c.len-left.result = omega (arith, slots.ok.0, c.len-left.ensures) in (
-      subst (λ n. IsSwept c.args.seg.now c.self.inside.keyed.places.items n c.args.self.now
-          c.self.inside.entries) all (subst (λ (t : WeakTable). IsSwept c.args.seg.now c.self.inside.keyed.places.items
+      subst (λ n. IsSwept c.args.seg.now c.self.inside.keyed.indexes.items n c.args.self.now
+          c.self.inside.entries) all (subst (λ (t : WeakTable). IsSwept c.args.seg.now c.self.inside.keyed.indexes.items
           (length slots.items) t c.self.inside.entries) c.self.view_is
           (none_swept c.args.seg.now c.self.invariant)),
       c.self.invariant,
@@ -27,8 +27,8 @@ loop-left-preserved c =
     let slot : ℕ = c.index-slot.result.now in
     let at : slot ≡ node_at keyed.slots.items i =
     c.index-slot.ensures ∙ get_or_default_zero keyed.slots.items i slot low in
-    let swept : IsSwept seg keyed.places.items (i + 1) old now =
-    subst (λ n. IsSwept seg keyed.places.items n old now) more c.loop-left.invariant.0 in
+    let swept : IsSwept seg keyed.indexes.items (i + 1) old now =
+    subst (λ n. IsSwept seg keyed.indexes.items n old now) more c.loop-left.invariant.0 in
     let listed = c.loop-left.invariant.1 in
     ⊎_elim
     (λ taken. (
@@ -37,10 +37,10 @@ loop-left-preserved c =
       (let shorter = taken.lists.shorter in omega (arith, shorter, low)),
     ))
     (λ left. (
-      subst (λ (t : WeakTable). IsSwept seg next.places.items i old t) (sym left.entries)
-          (subst (λ ps. IsSwept seg ps i old now) (sym left.places_are)
+      subst (λ (t : WeakTable). IsSwept seg next.indexes.items i old t) (sym left.entries)
+          (subst (λ ps. IsSwept seg ps i old now) (sym left.indexes_are)
           (sweep_left swept listed low slot at left.target)),
-      relisted listed left.entries left.slots_are left.places_are c.sweep_slot.ensures.capacity,
+      relisted listed left.entries left.slots_are left.indexes_are c.sweep_slot.ensures.capacity,
       subst (λ xs. i ≤ length xs) (sym left.slots_are) (omega (arith, low)),
     )) c.sweep_slot.ensures.swept
 

@@ -1,4 +1,4 @@
-use Rattle.hd_cwt.proofs.Basics.{by_place-empty}
+use Rattle.hd_cwt.proofs.Basics.{by_index-empty}
 use Rattle.hd_cwt.proofs.EntryOpen.{none, opened}
 use Rattle.hd_cwt.proofs.entries.Entries.open.Goals as goal
 
@@ -12,7 +12,7 @@ invariant_of-result c =
 pub returns : goal.returns
 returns c = λ i. record {
   blocks = c.args.blocks;
-  held = by_place-empty c.in_ok-held.held.items
+  held = by_index-empty c.in_ok-held.held.items
       (none c.requires c.in_ok-held.held.items c.in_ok-rings.rings.next.items
       c.in_ok-rings.rings.previous.items
       c.in_ok-idle.idle.items c.in_ok-held.ensures c.in_ok-idle.ensures c.in_ok-rings.ensures.next

@@ -1,4 +1,4 @@
-use Rattle.hd_final.proofs.Basics.{AllPairs, Basis, Contains, Counts, Grows, IsNonDecreasingBy, IsOut, IsYoungField, Joiner, Queue, ap, arith, is_object, length, object_at, objects_of, places, subst, sym, true, ◌++◌, ◌∙◌, ◌≡◌, ◌≢◌}
+use Rattle.hd_final.proofs.Basics.{AllPairs, Basis, Contains, Counts, Grows, IsNonDecreasingBy, IsOut, IsYoungField, Joiner, Queue, ap, arith, is_object, length, object_at, objects_of, addresses, subst, sym, true, ◌++◌, ◌∙◌, ◌≡◌, ◌≢◌}
 use Rattle.hd_final.proofs.QueueRevive.{joins_object, joins_count, resurrected, queue_once, queue_fits, joiners_fit}
 use Rattle.hd_final.proofs.queue.Final.revive.Goals as goal
 
@@ -44,8 +44,8 @@ returns-clause-resurrects g c =
     (subst (λ xs. IsNonDecreasingBy (λ (j : Joiner). j.id.0) xs) (sym c.deref.ensures.value)
     c.sort.ensures.rising)
     (g.M.Marker.promoted c.join.new.marker) c.args.self.now.queued c.join.new.queued.items
-    (c.join.ensures.queued ∙ ap (λ (q : Queue). q.queued ++ places ks) c.self.view_is)
-    (subst (λ (b : Basis). Grows (IsYoungField (objects_of b) b.condemned) (λ a. Contains (places ks) a) p
+    (c.join.ensures.queued ∙ ap (λ (q : Queue). q.queued ++ addresses ks) c.self.view_is)
+    (subst (λ (b : Basis). Grows (IsYoungField (objects_of b) b.condemned) (λ a. Contains (addresses ks) a) p
     (g.M.Marker.promoted c.join.new.marker)) c.requires.basis c.join.ensures.grows)
 
 pub returns-clause-count : goal.returns-clause-count

@@ -1,5 +1,5 @@
 use Rattle.hd_final.proofs.Basics.{Contains, Contains-get_or, Queue, ap, arith, get_or, length, subst, sym, ◌<◌, ◌∙◌, ◌≡◌}
-use Rattle.hd_final.proofs.QueueSettle.{settled_more, settled_has}
+use Rattle.hd_final.proofs.SettleSteps.{settled_more, settled_has}
 use Rattle.hd_final.proofs.queue.Final.settle.Goals as goal
 
 pub loop-i-preserved : goal.loop-i-preserved

@@ -5,7 +5,7 @@ use Rattle.hd_heap.proofs.area.Area.put_run.Given.{Over}
 use Rattle.hd_heap.proofs.area.Area.put_run.Goals.{After-fill}
 use Rattle.hd_heap.proofs.area.Area.put_run.Goals as goal
 
-put : (g : Over) → (c : After-fill g) → ArePut (g.F.Forward.place c.args.forward.now) (contents c.args.source.now)
+put : (g : Over) → (c : After-fill g) → ArePut (g.F.Forward.forwarding c.args.forward.now) (contents c.args.source.now)
     c.args.moves.now c.args.first c.copy_run-end.result (contents c.args.self.now) c.copy_run-end.new.region
 put g c = rw (c.deref-2.ensures, c.deref_mut.ensures.value) at c.copy_run-end.ensures
 
@@ -16,7 +16,7 @@ filled : (g : Over) → (c : After-fill g)
     × (n ≤ 256)
 filled g c =
     let n = c.copy_run-end.result - c.args.first in
-    let place = g.F.Forward.place c.args.forward.now in
+    let forwarding = g.F.Forward.forwarding c.args.forward.now in
     let source = contents c.args.source.now in
     let risen : c.fill.result ≡ c.fill-before.result + cells_run source c.args.moves.now c.args.first n = omega (
       arith,
@@ -25,7 +25,7 @@ filled g c =
       ap (λ (r : Contents). r.fill) c.deref.ensures,
       ap (λ (r : Contents). r.fill) c.deref-3.ensures,
       ap (λ (r : Contents). r.fill) (put g c).is,
-      run_fill place source c.args.moves.now c.args.first n (contents c.args.self.now),
+      run_fill forwarding source c.args.moves.now c.args.first n (contents c.args.self.now),
     ) in (
       risen,
       omega (
@@ -33,7 +33,7 @@ filled g c =
         risen,
         c.fill.ensures.value,
         c.fill.ensures.laid_out.within_region,
-        run_many place source c.args.moves.now c.args.first n,
+        run_many forwarding source c.args.moves.now c.args.first n,
       ),
     )
 

@@ -1,12 +1,12 @@
 use Rattle.hd_heap.proofs.Basics.{Contents, IsObject, REGION, Region, ap, area_put, arith, cells_of, contents, deque_capacity, object_at, placed_at, region_at, set, size_of, sym, with_copy, ◌*◌, ◌+◌, ◌∙◌, ◌≡◌}
-use Rattle.hd_heap.proofs.{FieldForward.put_placed, RegionSums.cells_placed, RegionReads.closed, RegionReads.opened, RegionReads.noted, RegionReads.held_index, RegionReads.held_read, RegionReads.IsHeap, RegionReads.IsHeldAt, RegionChanges.object_put, RegionChanges.place_free, RegionChanges.put_fits}
+use Rattle.hd_heap.proofs.{FieldForward.put_placed, RegionSums.cells_placed, RegionReads.closed, RegionReads.opened, RegionReads.noted, RegionReads.held_index, RegionReads.held_read, RegionReads.IsHeap, RegionReads.IsHeldAt, RegionChanges.object_put, RegionChanges.index_free, RegionChanges.put_fits}
 use Rattle.hd_heap.proofs.heap.Heap.copy_into.Goals.{After-fill-cells, After-index_mut}
 use Rattle.hd_heap.proofs.heap.Heap.copy_into.Goals as goal
 
 pub index_mut-requires : goal.index_mut-requires
 index_mut-requires c =
     let i = held_index (opened c.self.inside c.self.view_is c.self.invariant) c.requires.held
-    c.place_of.ensures in
+    c.index_of.ensures in
     omega (arith, i.1)
 
 -- the object, as it is in the region between
@@ -33,8 +33,8 @@ between c =
     )
 
 located : (c : After-index_mut) → IsHeldAt c.self.inside.areas.items c.args.self.now c.args.region
-    c.place_of.result c.index_mut.result.now
-located c = held_read (opened c.self.inside c.self.view_is c.self.invariant) c.requires.held c.place_of.ensures
+    c.index_of.result c.index_mut.result.now
+located c = held_read (opened c.self.inside c.self.view_is c.self.invariant) c.requires.held c.index_of.ensures
     c.index_mut.ensures.value
 
 pub put_copy-end-requires : goal.put_copy-end-requires
@@ -64,18 +64,18 @@ overflow_add-self-2 c =
 pub address_in-requires-clause-region : goal.address_in-requires-clause-region
 address_in-requires-clause-region c =
     let heap = opened c.self.inside c.self.view_is c.self.invariant in
-    let index = held_index heap c.requires.held c.place_of.ensures in
-    omega (arith, c.place_of.ensures, index.0, index.1, heap.kept.few)
+    let index = held_index heap c.requires.held c.index_of.ensures in
+    omega (arith, c.index_of.ensures, index.0, index.1, heap.kept.few)
 
 put : (c : goal.After-address_in)
-    → IsHeap (set c.self.inside.areas.items c.place_of.result c.put_copy-end.new.self) c.self.inside.spare.items
-    c.self.inside.limit (deque_capacity c.self.inside.spare)
+    → IsHeap (set c.self.inside.areas.items c.index_of.result c.put_copy-end.new.self) c.self.inside.free.items
+    c.self.inside.limit (deque_capacity c.self.inside.free)
     (c.self.inside.used + c.fill-cells.result, c.self.inside.count + 1, c.self.inside.held)
     (c.self.inside.current, c.self.inside.carding, c.self.inside.registering)
     (with_copy c.args.self.now c.args.from c.args.region)
 put c =
     let heap = opened c.self.inside c.self.view_is c.self.invariant in
-    let at = held_read heap c.requires.held c.place_of.ensures c.index_mut.ensures.value in
+    let at = held_read heap c.requires.held c.index_of.ensures c.index_mut.ensures.value in
     let (_, same, size, cells) = between ((goal.at.invariant_of-self c).After-fill-cells) in
     object_put heap _ (placed_at c.args.self.now c.args.from) c.fill-cells.result
     (sym c.area_of-offset.ensures.placed) size at c.put_copy-end.ensures.area
@@ -91,10 +91,10 @@ returns c =
     let heap = opened c.self.inside c.self.view_is c.self.invariant in
     let at = located ((goal.at.returns c).After-index_mut) in
     let fill = ap (λ (x : Region). x.fill) at.region in
-    let place : c.address_in.result.0 ≡ c.args.region * REGION + (region_at c.args.self.now c.args.region).fill =
+    let address : c.address_in.result.0 ≡ c.args.region * REGION + (region_at c.args.self.now c.args.region).fill =
     omega (arith, c.address_in.ensures, c.put_copy-end.ensures.offset, fill) in
     record {
-      place = place;
-      was_free = place_free heap c.address_in.result at (omega (arith, c.requires.room, fill)) place;
+      address = address;
+      was_free = index_free heap c.address_in.result at (omega (arith, c.requires.room, fill)) address;
       copied = (put c).view;
     }

@@ -1,5 +1,5 @@
 use Rattle.hd_heap.proofs.Basics.{IsRun, ap, arith, deque_capacity, drop, length, move_at, refl, region_of, run_copied, subst, take, take-append_seam, ◌++◌, ◌+◌, ◌-◌, ◌<◌, ◌^◌, ◌∙◌, ◌≡◌}
-use Rattle.hd_heap.proofs.{RegionReads.closed, RegionReads.opened, RegionReads.IsHeap, RegionReads.found, RegionReads.index_of, RegionReads.held_index, RegionUse.heap_lists, HeapSoundness.cells_small, HeapSoundness.objects_small, RunCopies.run_one, RegionCopy.source_read, RegionCopy.target_read, RegionCopy.may_put, RegionCopy.run_moved}
+use Rattle.hd_heap.proofs.{RegionReads.closed, RegionReads.opened, RegionReads.IsHeap, RegionReads.found, RegionReads.index_within, RegionReads.held_index, RegionUse.heap_lists, HeapSoundness.cells_small, HeapSoundness.objects_small, RunCopies.run_one, RegionCopy.source_read, RegionCopy.target_read, RegionCopy.may_put, RegionCopy.run_moved}
 use Rattle.hd_heap.proofs.heap.Heap.copy_run.Given.{Over}
 use Rattle.hd_heap.proofs.heap.Heap.copy_run.Goals.{After-copy_between-end}
 use Rattle.hd_heap.proofs.heap.Heap.copy_run.Goals as goal
@@ -14,11 +14,11 @@ copy_between-end-requires g c =
     let long = ap length value in
     let from = (move_at ms c.args.first).from in
     let there = may.objects c.args.first (run_one ms c.args.first may.within) in
-    let source = c.place_of-source.ensures in
-    let target = c.place_of-target.ensures in
-    let low = index_of heap from there source in
+    let source = c.index_of-source.ensures in
+    let target = c.index_of-target.ensures in
+    let low = index_within heap from there source in
     let index = held_index heap may.held target in
-    let number = (found heap from there).2.located.place.number in
+    let number = (found heap from there).2.located.index.number in
     record {
       source = omega (arith, low, long);
       target = omega (arith, index.1, long);
@@ -28,7 +28,7 @@ copy_between-end-requires g c =
           let t = target_read heap ms c.args.first may value is_b target in (
             t.area,
             may_put heap ms c.args.first (source_read heap ms c.args.first may value is_a source) t
-                (g.F.Forward.place c.args.forward.now) may,
+                (g.F.Forward.forwarding c.args.forward.now) may,
           );
     }
 
@@ -36,9 +36,9 @@ copy_between-end-requires g c =
 moved : (g : Over) → (c : After-copy_between-end g)
     → let s = c.self.inside in let n = c.copy_between-end.result.0 - c.args.first in
     let new = c.copy_between-end.new.areas in
-    let h = run_copied (g.F.Forward.place c.args.forward.now) c.args.self.now c.args.moves.now c.args.first n in
-    IsHeap (take s.areas.len (new ++ drop (length new) s.areas.items)) s.spare.items s.limit
-    (deque_capacity s.spare) (s.used + c.copy_between-end.result.1, s.count + n, s.held)
+    let h = run_copied (g.F.Forward.forwarding c.args.forward.now) c.args.self.now c.args.moves.now c.args.first n in
+    IsHeap (take s.areas.len (new ++ drop (length new) s.areas.items)) s.free.items s.limit
+    (deque_capacity s.free) (s.used + c.copy_between-end.result.1, s.count + n, s.held)
     (s.current, s.carding, s.registering) h
 moved g c =
     let new = c.copy_between-end.new.areas in
@@ -50,8 +50,8 @@ moved g c =
     let long : c.self.inside.areas.len ≡ length new =
     omega (arith, c.deref_mut.ensures.len, c.copy_between-end.auto.areas) in
     let is = run_moved (opened c.self.inside c.self.view_is c.self.invariant) c.args.moves.now c.args.first
-    c.requires.run c.requires.places c.deref_mut.ensures.value c.place_of-source.ensures
-    c.place_of-target.ensures c.copy_between-end.ensures.put (subst (IsRun c.args.moves.now c.args.first) whole run) in
+    c.requires.run c.requires.forwardings c.deref_mut.ensures.value c.index_of-source.ensures
+    c.index_of-target.ensures c.copy_between-end.ensures.put (subst (IsRun c.args.moves.now c.args.first) whole run) in
     heap_lists (ap (λ n. take n (new ++ rest)) long ∙ take-append_seam new rest) refl is
 
 -- there is room for the numbers of cells and of objects

@@ -1,5 +1,6 @@
-use Rattle.hd_heap.proofs.Basics.{IsExtentBelow, ◌+◌}
+use Rattle.hd_heap.proofs.Basics.{◌+◌}
+use Rattle.hd_heap.proofs.CondemnedSums.{IsExtentBelow}
 use Rattle.hd_heap.proofs.heap.Heap.extent.Given as goal
 
-abbrev pub invariant-loop-place : goal.invariant-loop-place
-invariant-loop-place l = IsExtentBelow l.self l.n (l.place + 1) l.extent
+abbrev pub invariant-loop-index : goal.invariant-loop-index
+invariant-loop-index l = IsExtentBelow l.self l.n (l.index + 1) l.extent

@@ -1,20 +1,20 @@
-use Rattle.hd_heap.proofs.{RegionReads.closed, RegionReads.opened, RegionUse.spare_read, RegionUse.region_held}
+use Rattle.hd_heap.proofs.{RegionReads.closed, RegionReads.opened, RegionUse.free_read, RegionUse.region_held}
 use Rattle.hd_heap.proofs.heap.Heap.fresh.Goals as goal
 
 pub hold-requires : goal.hold-requires
 hold-requires c =
     let heap = opened c.self.inside c.self.view_is c.self.invariant in
-    let at = spare_read heap c.requires.spare c.index-number.ensures c.place_of.ensures
+    let at = free_read heap c.requires.free c.index-number.ensures c.index_of.ensures
     c.index_mut.ensures.value in
     record {
-      area = heap.kept.each _ c.index_mut.result.now at.place.here;
+      area = heap.kept.each _ c.index_mut.result.now at.index.here;
       generation = c.requires.generation;
     }
 
 pub invariant_of-self : goal.invariant_of-self
 invariant_of-self c =
     let heap = opened c.self.inside c.self.view_is c.self.invariant in
-    let at = spare_read heap c.requires.spare c.index-number.ensures c.place_of.ensures
+    let at = free_read heap c.requires.free c.index-number.ensures c.index_of.ensures
     c.index_mut.ensures.value in
     closed (region_held heap c.hold.new.self c.args.generation at c.hold.ensures.area c.hold.ensures.held
     c.pop_front.ensures.rest c.pop_front.ensures.capacity c.still_current-self-inside.ensures)
@@ -22,7 +22,7 @@ invariant_of-self c =
 pub returns : goal.returns
 returns c =
     let heap = opened c.self.inside c.self.view_is c.self.invariant in
-    let at = spare_read heap c.requires.spare c.index-number.ensures c.place_of.ensures
+    let at = free_read heap c.requires.free c.index-number.ensures c.index_of.ensures
     c.index_mut.ensures.value in
     let is = region_held heap c.hold.new.self c.args.generation at c.hold.ensures.area c.hold.ensures.held
     c.pop_front.ensures.rest c.pop_front.ensures.capacity c.still_current-self-inside.ensures in

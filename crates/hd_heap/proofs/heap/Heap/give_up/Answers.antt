@@ -6,14 +6,14 @@ use Rattle.hd_heap.proofs.heap.Heap.give_up.Goals as goal
 pub index_mut-requires : goal.index_mut-requires
 index_mut-requires c =
     let i = held_index (opened c.self.inside c.self.view_is c.self.invariant) c.requires.held
-    c.place_of.ensures in
+    c.index_of.ensures in
     omega (arith, i.1)
 
 located : (c : After-index_mut)
-    → IsHeldAt c.self.inside.areas.items c.args.self.now c.args.region c.place_of.result
+    → IsHeldAt c.self.inside.areas.items c.args.self.now c.args.region c.index_of.result
     c.index_mut.result.now
 located c = held_read (opened c.self.inside c.self.view_is c.self.invariant) c.requires.held
-    c.place_of.ensures c.index_mut.ensures.value
+    c.index_of.ensures c.index_mut.ensures.value
 
 pub give_up-cells-requires : goal.give_up-cells-requires
 give_up-cells-requires c = record { area = (located c).area }
@@ -22,14 +22,14 @@ pub overflow_sub-self : goal.overflow_sub-self
 overflow_sub-self c =
     let known =
     cells_counted (opened c.self.inside c.self.view_is c.self.invariant)
-    (located ((goal.at.overflow_sub-self c).After-index_mut)).place in
+    (located ((goal.at.overflow_sub-self c).After-index_mut)).index in
     omega (arith, known, c.give_up-cells.ensures.cells)
 
 pub overflow_sub-self-2 : goal.overflow_sub-self-2
 overflow_sub-self-2 c =
     let known =
     objects_counted (opened c.self.inside c.self.view_is c.self.invariant)
-    (located ((goal.at.overflow_sub-self-2 c).After-index_mut)).place in
+    (located ((goal.at.overflow_sub-self-2 c).After-index_mut)).index in
     omega (arith, known, c.give_up-cells.ensures.count)
 
 pub overflow_sub-self-3 : goal.overflow_sub-self-3
@@ -42,7 +42,7 @@ push_back_reserved-requires c =
     omega (arith, held_counted heap c.args.region c.requires.held, heap.kept.parted, heap.kept.room)
 
 freed : (c : After-push_back_reserved)
-    → IsHeap (set c.self.inside.areas.items c.place_of.result c.give_up-cells.new.self)
+    → IsHeap (set c.self.inside.areas.items c.index_of.result c.give_up-cells.new.self)
     c.push_back_reserved.new.self.items c.self.inside.limit (deque_capacity c.push_back_reserved.new.self) (
       c.self.inside.used - c.give_up-cells.result.0,
       c.self.inside.count - c.give_up-cells.result.1,
@@ -51,7 +51,7 @@ freed : (c : After-push_back_reserved)
     (c.self.inside.current, c.self.inside.carding, c.self.inside.registering) (without_region c.args.self.now c.args.region)
 freed c =
     let heap = opened c.self.inside c.self.view_is c.self.invariant in
-    let located = held_read heap c.requires.held c.place_of.ensures c.index_mut.ensures.value in
+    let located = held_read heap c.requires.held c.index_of.ensures c.index_mut.ensures.value in
     let now = c.give_up-cells.ensures in
     region_freed heap c.give_up-cells.new.self c.give_up-cells.result.0 c.give_up-cells.result.1 located
     now.area now.freed

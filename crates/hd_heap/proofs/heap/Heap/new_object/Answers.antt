@@ -11,5 +11,5 @@ returns-in-Ok-clause-made c =
     made c.args.self.now c.room_for.new.self c.put.new.self c.in-Ok.region (c.args.fields + HEADER)
     c.put.result
     (new_object c.args.id c.args.fields c.args.registered)
-    (omega arith) c.in-Ok.ensures.ok c.put.ensures.place c.put.ensures.region c.put.ensures.was_free
+    (omega arith) c.in-Ok.ensures.ok c.put.ensures.address c.put.ensures.region c.put.ensures.was_free
     c.put.ensures.put

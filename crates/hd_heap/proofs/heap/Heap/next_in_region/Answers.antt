@@ -1,5 +1,5 @@
 use Rattle.hd_heap.proofs.Basics.{REGION, arith, refl, ◌+◌, ◌/◌}
-use Rattle.hd_heap.proofs.{RegionReads.IsPlace, RegionReads.opened, RegionReads.place_read, HeapSoundness.sound, RegionWalk.wanted_place, RegionWalk.wants_low, RegionWalk.given_some, RegionWalk.given_none}
+use Rattle.hd_heap.proofs.{RegionReads.IsIndex, RegionReads.opened, RegionReads.index_read, HeapSoundness.sound, RegionWalk.wanted_index, RegionWalk.wants_low, RegionWalk.given_some, RegionWalk.given_none}
 use Rattle.hd_heap.proofs.heap.Heap.next_in_region.Goals.{After-index}
 use Rattle.hd_heap.proofs.heap.Heap.next_in_region.Goals as goal
 
@@ -8,34 +8,34 @@ returns-then-at-lt-REGION c =
     let heap = opened c.self.inside c.self.view_is c.self.invariant in
     record {
       next = λ a want after.
-          omega (arith, (wanted_place heap c.args.wanted a want).1, c.if-at-lt-REGION.true);
+          omega (arith, (wanted_index heap c.args.wanted a want).1, c.if-at-lt-REGION.true);
       sound = sound heap;
     }
 
-pub returns-then-place-regions : goal.returns-then-place-regions
-returns-then-place-regions c =
+pub returns-then-index-regions : goal.returns-then-index-regions
+returns-then-index-regions c =
     let heap = opened c.self.inside c.self.view_is c.self.invariant in
     record {
       next = λ a want after.
-          let p = wanted_place heap c.args.wanted a want in
-          absurd (let known = c.place_of-place.ensures in
-          omega (arith, p.1, p.2, after, known, c.if-place-regions.true, c.len-regions.ensures));
+          let p = wanted_index heap c.args.wanted a want in
+          absurd (let known = c.index_of-index.ensures in
+          omega (arith, p.1, p.2, after, known, c.if-index-regions.true, c.len-regions.ensures));
       sound = sound heap;
     }
 
-place : (c : After-index) → IsPlace c.self.inside.areas.items (c.args.at.0 / REGION) c.place_of-place.result
+index : (c : After-index) → IsIndex c.self.inside.areas.items (c.args.at.0 / REGION) c.index_of-index.result
     c.index.result.now
-place c = place_read c.self.inside.areas.items (c.args.at.0 / REGION) c.place_of-place.result
-    c.index.result.now (omega (arith, c.place_of-place.ensures, c.if-at-lt-REGION.false))
-    (omega (arith, c.if-place-regions.false, c.len-regions.ensures)) c.index.ensures
+index c = index_read c.self.inside.areas.items (c.args.at.0 / REGION) c.index_of-index.result
+    c.index.result.now (omega (arith, c.index_of-index.ensures, c.if-at-lt-REGION.false))
+    (omega (arith, c.if-index-regions.false, c.len-regions.ensures)) c.index.ensures
 
 pub wanted_after-requires-clause-area : goal.wanted_after-requires-clause-area
 wanted_after-requires-clause-area c =
-    c.self.invariant.0.each _ _ (place ((goal.at.wanted_after-requires-clause-area c).After-index)).here
+    c.self.invariant.0.each _ _ (index ((goal.at.wanted_after-requires-clause-area c).After-index)).here
 
 pub address_in-requires-clause-offset : goal.address_in-requires-clause-offset
 address_in-requires-clause-offset c =
-    let p = place ((goal.at.address_in-requires-clause-offset c).After-index) in
+    let p = index ((goal.at.address_in-requires-clause-offset c).After-index) in
     wants_low c.args.wanted c.index.result.now c.in-Some.offset (c.self.invariant.0.each _ _ p.here)
     c.in-Some.ensures.0
 
@@ -44,7 +44,7 @@ returns-in-Some c =
     let heap = opened c.self.inside c.self.view_is c.self.invariant in
     record {
       next = given_some heap c.args.wanted (c.offset_of.result + 1) c.in-Some.offset (c.args.at.0 + 1) 0
-          c.address_in.result (place ((goal.at.returns-in-Some c).After-index)) c.in-Some.ensures
+          c.address_in.result (index ((goal.at.returns-in-Some c).After-index)) c.in-Some.ensures
           c.address_in.ensures (omega (arith, c.offset_of.ensures));
       sound = sound heap;
     }
@@ -54,7 +54,7 @@ returns-in-None c =
     let heap = opened c.self.inside c.self.view_is c.self.invariant in
     record {
       next = given_none heap c.args.wanted (c.offset_of.result + 1) (c.args.at.0 + 1) _
-          (place ((goal.at.returns-in-None c).After-index)) c.in-None.ensures (omega (arith, c.offset_of.ensures))
+          (index ((goal.at.returns-in-None c).After-index)) c.in-None.ensures (omega (arith, c.offset_of.ensures))
           refl;
       sound = sound heap;
     }

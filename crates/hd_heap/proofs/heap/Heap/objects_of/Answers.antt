@@ -4,14 +4,14 @@ use Rattle.hd_heap.proofs.heap.Heap.objects_of.Goals as goal
 
 pub index-requires : goal.index-requires
 index-requires c =
-    let i = held_index (opened c.self.inside c.self.view_is c.self.invariant) c.requires c.place_of.ensures in
+    let i = held_index (opened c.self.inside c.self.view_is c.self.invariant) c.requires c.index_of.ensures in
     omega (arith, i.1)
 
 pub invariant_of-result : goal.invariant_of-result
 invariant_of-result c =
     let heap = opened c.self.inside c.self.view_is c.self.invariant in
     subst (λ (h : Heap). IsWalkIn h c.args.region 0 c.deref.result.now) (sym c.of.ensures)
-    (walk_begins heap (held_read heap c.requires c.place_of.ensures c.index.ensures) c.deref.result.now
+    (walk_begins heap (held_read heap c.requires c.index_of.ensures c.index.ensures) c.deref.result.now
     c.deref.ensures)
 
 pub returns : goal.returns

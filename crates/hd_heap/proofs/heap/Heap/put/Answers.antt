@@ -1,18 +1,18 @@
 use Rattle.hd_heap.proofs.Basics.{HEADER, REGION, Region, ap, arith, deque_capacity, length-replicate, new_object, new_region_object, or_parts, region_at, region_generation, region_of, set, size_of, sym, with_put, ℕ, ◌*◌, ◌+◌, ◌∙◌, ◌≡◌}
-use Rattle.hd_heap.proofs.{RegionReads.closed, RegionReads.opened, RegionReads.held_index, RegionReads.held_read, RegionReads.IsHeap, RegionChanges.object_put, RegionChanges.place_free, RegionChanges.new_placed, RegionChanges.put_fits}
+use Rattle.hd_heap.proofs.{RegionReads.closed, RegionReads.opened, RegionReads.held_index, RegionReads.held_read, RegionReads.IsHeap, RegionChanges.object_put, RegionChanges.index_free, RegionChanges.new_placed, RegionChanges.put_fits}
 use Rattle.hd_heap.proofs.heap.Heap.put.Goals.{After-put-offset}
 use Rattle.hd_heap.proofs.heap.Heap.put.Goals as goal
 
 pub index_mut-requires : goal.index_mut-requires
 index_mut-requires c =
     let i = held_index (opened c.self.inside c.self.view_is c.self.invariant) c.requires.held
-    c.place_of.ensures in
+    c.index_of.ensures in
     omega (arith, i.1)
 
 pub put-offset-requires : goal.put-offset-requires
 put-offset-requires c =
     let at = held_read (opened c.self.inside c.self.view_is c.self.invariant) c.requires.held
-    c.place_of.ensures c.index_mut.ensures.value in
+    c.index_of.ensures c.index_mut.ensures.value in
     record {
       area = at.area;
       held = at.held;
@@ -35,18 +35,18 @@ overflow_add-self-3 c =
 pub address_in-requires-clause-region : goal.address_in-requires-clause-region
 address_in-requires-clause-region c =
     let heap = opened c.self.inside c.self.view_is c.self.invariant in
-    let index = held_index heap c.requires.held c.place_of.ensures in
-    omega (arith, c.place_of.ensures, index.0, index.1, heap.kept.few)
+    let index = held_index heap c.requires.held c.index_of.ensures in
+    omega (arith, c.index_of.ensures, index.0, index.1, heap.kept.few)
 
-put : (c : After-put-offset) → IsHeap (set c.self.inside.areas.items c.place_of.result c.put-offset.new.self)
-    c.self.inside.spare.items c.self.inside.limit (deque_capacity c.self.inside.spare)
+put : (c : After-put-offset) → IsHeap (set c.self.inside.areas.items c.index_of.result c.put-offset.new.self)
+    c.self.inside.free.items c.self.inside.limit (deque_capacity c.self.inside.free)
     (c.self.inside.used + (c.args.fields + HEADER), c.self.inside.count + 1, c.self.inside.held)
     (c.self.inside.current, c.self.inside.carding, c.noted-self-inside.result)
     (with_put c.args.self.now c.args.region (region_generation c.args.self.now c.args.region)
     (new_object c.args.id c.args.fields c.args.registered))
 put c =
     let heap = opened c.self.inside c.self.view_is c.self.invariant in
-    let at = held_read heap c.requires.held c.place_of.ensures c.index_mut.ensures.value in
+    let at = held_read heap c.requires.held c.index_of.ensures c.index_mut.ensures.value in
     let o = new_region_object c.args.id.0 c.args.fields c.args.registered in
     let size : c.args.fields + HEADER ≡ size_of o =
     ap (λ n. n + HEADER) (sym (length-replicate c.args.fields (let z : ℕ = 0 in z))) in
@@ -63,15 +63,15 @@ pub returns : goal.returns
 unfolding region_of
 returns c =
     let heap = opened c.self.inside c.self.view_is c.self.invariant in
-    let at = held_read heap c.requires.held c.place_of.ensures c.index_mut.ensures.value in
+    let at = held_read heap c.requires.held c.index_of.ensures c.index_mut.ensures.value in
     let fill = ap (λ (x : Region). x.fill) at.region in
     let offset = c.put-offset.ensures.offset in
-    let place : c.address_in.result.0 ≡ c.args.region * REGION +
+    let address : c.address_in.result.0 ≡ c.args.region * REGION +
     (region_at c.args.self.now c.args.region).fill =
     omega (arith, c.address_in.ensures, offset, fill) in
     record {
-      place = place;
-      region = omega (arith, place, fill, c.requires.room);
-      was_free = place_free heap c.address_in.result at (omega (arith, c.requires.room, fill)) place;
+      address = address;
+      region = omega (arith, address, fill, c.requires.room);
+      was_free = index_free heap c.address_in.result at (omega (arith, c.requires.room, fill)) address;
       put = (put ((goal.at.returns c).After-put-offset)).view;
     }

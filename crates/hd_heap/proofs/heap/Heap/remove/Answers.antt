@@ -1,42 +1,42 @@
 use Rattle.hd_heap.proofs.Basics.{Heap, IsRemoved, arith, subst, sym}
-use Rattle.hd_heap.proofs.{RegionReads.closed, RegionReads.opened, RegionReads.index_of, RegionReads.found_read, RegionChanges.object_removed, RegionChanges.removed_cards, RegionChanges.counted}
+use Rattle.hd_heap.proofs.{RegionReads.closed, RegionReads.opened, RegionReads.index_within, RegionReads.found_read, RegionChanges.object_removed, RegionChanges.removed_cards, RegionChanges.counted}
 use Rattle.hd_heap.proofs.heap.Heap.remove.Goals as goal
 
 pub index_mut-requires : goal.index_mut-requires
 index_mut-requires c =
-    let i = index_of (opened c.self.inside c.self.view_is c.self.invariant) c.args.at c.requires
-    c.place_of.ensures in
+    let i = index_within (opened c.self.inside c.self.view_is c.self.invariant) c.args.at c.requires
+    c.index_of.ensures in
     omega (arith, i)
 
 pub remove-cells-requires : goal.remove-cells-requires
 remove-cells-requires c =
     let f = found_read (opened c.self.inside c.self.view_is c.self.invariant) c.args.at c.requires
-    c.place_of.ensures c.index_mut.ensures.value in
+    c.index_of.ensures c.index_mut.ensures.value in
     rw c.offset_of.ensures (record { area = f.located.area; object = f.object })
 
 pub overflow_sub-self : goal.overflow_sub-self
 overflow_sub-self c =
     let heap = opened c.self.inside c.self.view_is c.self.invariant in
-    let f = found_read heap c.args.at c.requires c.place_of.ensures c.index_mut.ensures.value in
+    let f = found_read heap c.args.at c.requires c.index_of.ensures c.index_mut.ensures.value in
     (counted heap c.args.at f (rw c.offset_of.ensures at c.remove-cells.ensures.taken)).0
 
 pub overflow_sub-self-2 : goal.overflow_sub-self-2
 overflow_sub-self-2 c =
     let heap = opened c.self.inside c.self.view_is c.self.invariant in
-    let f = found_read heap c.args.at c.requires c.place_of.ensures c.index_mut.ensures.value in
+    let f = found_read heap c.args.at c.requires c.index_of.ensures c.index_mut.ensures.value in
     (counted heap c.args.at f (rw c.offset_of.ensures at c.remove-cells.ensures.taken)).1
 
 pub invariant_of-self : goal.invariant_of-self
 invariant_of-self c =
     let heap = opened c.self.inside c.self.view_is c.self.invariant in
-    let f = found_read heap c.args.at c.requires c.place_of.ensures c.index_mut.ensures.value in
+    let f = found_read heap c.args.at c.requires c.index_of.ensures c.index_mut.ensures.value in
     let taken = rw c.offset_of.ensures at c.remove-cells.ensures.taken in
     closed (object_removed heap c.args.at f c.remove-cells.ensures.area taken)
 
 pub returns : goal.returns
 returns c =
     let heap = opened c.self.inside c.self.view_is c.self.invariant in
-    let f = found_read heap c.args.at c.requires c.place_of.ensures c.index_mut.ensures.value in
+    let f = found_read heap c.args.at c.requires c.index_of.ensures c.index_mut.ensures.value in
     let taken = rw c.offset_of.ensures at c.remove-cells.ensures.taken in
     subst (λ (x : Heap). IsRemoved c.args.self.now x c.args.at)
     (sym (object_removed heap c.args.at f c.remove-cells.ensures.area taken).view)

@@ -6,4 +6,4 @@ abbrev pub invariant-loop-self : goal.invariant-loop-self
 invariant-loop-self l = IsLonger l.initial.self l.self l.count
 
 abbrev pub decreases-loop-self : goal.decreases-loop-self
-decreases-loop-self l = l.count - length l.self.spare
+decreases-loop-self l = l.count - length l.self.free

@@ -5,19 +5,19 @@ use Rattle.hd_heap.proofs.heap.Heap.set_generation.Goals as goal
 pub index_mut-requires : goal.index_mut-requires
 index_mut-requires c =
     let i = held_index (opened c.self.inside c.self.view_is c.self.invariant) c.requires.held
-    c.place_of.ensures in
+    c.index_of.ensures in
     omega (arith, i.1)
 
 pub invariant_of-self : goal.invariant_of-self
 invariant_of-self c =
     let heap = opened c.self.inside c.self.view_is c.self.invariant in
     closed (generation_changed heap c.args.generation
-    (held_read heap c.requires.held c.place_of.ensures c.index_mut.ensures.value) c.requires.generation
+    (held_read heap c.requires.held c.index_of.ensures c.index_mut.ensures.value) c.requires.generation
     c.still_current-self-inside.ensures)
 
 pub returns : goal.returns
 returns c =
     let heap = opened c.self.inside c.self.view_is c.self.invariant in
     (generation_changed heap c.args.generation
-    (held_read heap c.requires.held c.place_of.ensures c.index_mut.ensures.value) c.requires.generation
+    (held_read heap c.requires.held c.index_of.ensures c.index_mut.ensures.value) c.requires.generation
     c.still_current-self-inside.ensures).view

@@ -1,18 +1,18 @@
 use Rattle.hd_heap.proofs.Basics.{Bool, HasPart, Placed, REGION, ap, arith, contents, deque_capacity, false, object_at, or_parts, placed_at, region_with_part, registers, set, subst, sym, with_object, with_part, ◌%◌, ◌||◌, ◌∙◌, ◌≡◌}
-use Rattle.hd_heap.proofs.{RegionReads.closed, RegionReads.opened, RegionReads.index_of, RegionReads.found_read, RegionReads.IsHeap, RegionReads.noted, RegionWrites.object_written, RegionWrites.part_placed, RegionWrites.part_within, HeapNotes.noted_written, HeapNotes.part_noted}
+use Rattle.hd_heap.proofs.{RegionReads.closed, RegionReads.opened, RegionReads.index_within, RegionReads.found_read, RegionReads.IsHeap, RegionReads.noted, RegionWrites.object_written, RegionWrites.part_placed, RegionWrites.part_within, HeapNotes.noted_written, HeapNotes.part_noted}
 use Rattle.hd_heap.proofs.heap.Heap.write.Goals.{After-write}
 use Rattle.hd_heap.proofs.heap.Heap.write.Goals as goal
 
 pub index_mut-requires : goal.index_mut-requires
 index_mut-requires c =
-    let i = index_of (opened c.self.inside c.self.view_is c.self.invariant) c.args.at c.requires.object
-    c.place_of.ensures in
+    let i = index_within (opened c.self.inside c.self.view_is c.self.invariant) c.args.at c.requires.object
+    c.index_of.ensures in
     omega (arith, i)
 
 pub write-requires : goal.write-requires
 write-requires c =
     let f = found_read (opened c.self.inside c.self.view_is c.self.invariant) c.args.at c.requires.object
-    c.place_of.ensures c.index_mut.ensures.value in
+    c.index_of.ensures c.index_mut.ensures.value in
     rw c.offset_of.ensures (record {
       area = f.located.area;
       object = f.object;
@@ -20,14 +20,14 @@ write-requires c =
           (subst (λ (p : Placed). HasPart p.fields c.args.part) f.placed c.requires.within);
     })
 
-written : (c : After-write) → IsHeap (set c.self.inside.areas.items c.place_of.result c.write.new.self)
-    c.self.inside.spare.items c.self.inside.limit (deque_capacity c.self.inside.spare)
+written : (c : After-write) → IsHeap (set c.self.inside.areas.items c.index_of.result c.write.new.self)
+    c.self.inside.free.items c.self.inside.limit (deque_capacity c.self.inside.free)
     (c.self.inside.used, c.self.inside.count, c.self.inside.held)
     (c.self.inside.current, c.self.inside.carding, c.noted-self-inside.result)
     (with_object c.args.self.now c.args.at (with_part (placed_at c.args.self.now c.args.at) c.args.part))
 written c =
     let heap = opened c.self.inside c.self.view_is c.self.invariant in
-    let f = found_read heap c.args.at c.requires.object c.place_of.ensures c.index_mut.ensures.value in
+    let f = found_read heap c.args.at c.requires.object c.index_of.ensures c.index_mut.ensures.value in
     let old = object_at (contents c.index_mut.result.now) (c.args.at.0 % REGION) in
     let lower : c.noted-self-inside.result ≡ false → (c.self.inside.registering || registers c.args.part) ≡ false =
     λ off. ap (λ (b : Bool). c.self.inside.registering || b) (sym c.registers.ensures)

@@ -3,7 +3,7 @@ use Rattle.std.specs.Prelude.{OnErr}
 use Rattle.hd_model.specs.State.{Numbers}
 use Rattle.hd_slots.specs.Change.{MayNote, Offers, change_in, noted}
 use Rattle.hd_store.specs.{Calls.StaysWithin, Store.Machine}
-use Rattle.hd_host.specs.{Calls.FailsBy, Calls.RanOutOfMemory, Changes.changed_by, Faults.fault_of, Steps.HasStepped, Steps.pointed, View.HostView, View.IsAsItWas}
+use Rattle.hd_host.specs.{Calls.FailsBy, Calls.RanOutOfMemory, Changes.changed_by, Steps.HasStepped, Steps.pointed, View.HostView, View.IsAsItWas, Inside.fault_of}
 use Rattle.hd_host.proofs.{CallPool.may_be_offered, CallPool.may_be_noted, CallHost.host_after, CallHost.has_stepped, CallHost.refused_by, CallHost.ran_out, CallHost.view_of, CallHost.without_change, Registers.numbers_after}
 use Rattle.hd_host.proofs.host.Host.call.Goals.{After-offer-offered}
 use Rattle.hd_host.proofs.host.Host.call.Goals as goal

@@ -1,4 +1,4 @@
-use Rattle.hd_host.specs.Calls.{takes_queued}
+use Rattle.hd_host.specs.Inside.{takes_queued}
 use Rattle.hd_host.proofs.host.Host.final_next.Goals as goal
 
 pub ask_plainly-reply-requires-clause-plain : goal.ask_plainly-reply-requires-clause-plain

@@ -1,4 +1,4 @@
-use Rattle.hd_host.specs.Calls.{clears}
+use Rattle.hd_host.specs.Inside.{clears}
 use Rattle.hd_host.proofs.host.Host.local_clear.Goals as goal
 
 pub ask_plainly-requires-clause-plain : goal.ask_plainly-requires-clause-plain

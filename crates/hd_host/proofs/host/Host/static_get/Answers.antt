@@ -1,4 +1,4 @@
-use Rattle.hd_host.specs.Calls.{gets_static}
+use Rattle.hd_host.specs.Inside.{gets_static}
 use Rattle.hd_host.proofs.host.Host.static_get.Goals as goal
 
 pub ask_plainly-reply-requires-clause-plain : goal.ask_plainly-reply-requires-clause-plain

@@ -1,4 +1,4 @@
-use Rattle.hd_host.specs.Calls.{puts_static}
+use Rattle.hd_host.specs.Inside.{puts_static}
 use Rattle.hd_host.proofs.host.Host.static_set.Goals as goal
 
 pub ask_plainly-requires-clause-plain : goal.ask_plainly-requires-clause-plain

@@ -1,5 +1,5 @@
 use Rattle.std.proofs.Common.{arith}
-use Rattle.hd_host.specs.{Calls.trims as may_trim}
+use Rattle.hd_host.specs.Inside.{trims as may_trim}
 use Rattle.hd_host.proofs.{Trimmed.trims, WholeHost.whole}
 use Rattle.hd_host.proofs.host.Host.trim.Goals as goal
 

@@ -7,10 +7,10 @@ use Rattle.hd_mark.proofs.marks.Marks.over.Goals as goal
 pub invariant_of-result : goal.invariant_of-result
 invariant_of-result c =
     let all = c.requires.extent.objects in
-    let fresh : Addr → Bool = λ a. not (contains (set_of c.in_ok-places.places.places.items
+    let fresh : Addr → Bool = λ a. not (contains (set_of c.in_ok-indexes.indexes.indexes.items
     c.in_ok-marks.marks.words.items) a.0) in
     record {
-      places = c.in_ok-places.ensures;
+      indexes = c.in_ok-indexes.ensures;
       marks_long = c.in_ok-marks.ensures.long;
       pins_long = c.in_ok-pins.ensures.long;
       number = c.args.extent.objects;

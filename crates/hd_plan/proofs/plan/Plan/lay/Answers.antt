@@ -1,5 +1,5 @@
 use Rattle.hd_plan.proofs.Basics.{Basis, Counts, HasCondemned, HasNoEmptyCondemned, Heap, IsClosed, IsCondemned, IsField, IsSettled, IsSound, PlanOf, ap, length, objects_of, room_at, stays_in, subst, sym, true, vec_capacity, ℕ, ◌∙◌, ◌≡◌, ◌≤◌}
-use Rattle.hd_plan.specs.LaySteps.{HasLayRoom, IsLaidTo}
+use Rattle.hd_plan.specs.Inside.{HasLayRoom, IsLaidTo}
 use Rattle.hd_model.specs.declared.limits.TheConstants.{REGIONS}
 use Rattle.hd_plan.proofs.LaidPlan.{IsLaidFrom, laid_from}
 use Rattle.hd_plan.proofs.plan.Plan.lay.Goals.{After-lay_regions}
@@ -11,8 +11,8 @@ lay_regions-requires-clause-room g c =
     let same : c.self.inside.heap.value ≡ c.args.heap.now = ap (λ (p : PlanOf). p.basis.heap) c.self.view_is
     ∙ c.requires.heap in
     subst (λ (h : Heap). HasLayRoom h c.self.inside.condemned (vec_capacity c.self.inside.moves)
-    (vec_capacity c.self.inside.regions) (length c.self.inside.places.firsts.items)
-    (length c.self.inside.places.cells.items)) same c.self.invariant.room
+    (vec_capacity c.self.inside.regions) (length c.self.inside.forwards.firsts.items)
+    (length c.self.inside.forwards.cells.items)) same c.self.invariant.room
 
 pub lay_regions-requires-clause-condemned : goal.lay_regions-requires-clause-condemned
 lay_regions-requires-clause-condemned g c =
@@ -40,8 +40,8 @@ from g c =
     sym c.requires.heap ∙ ap (λ (b : Basis). b.heap) basis in
     laid_from (subst IsSound same c.lay_regions.ensures.sound)
     (subst (λ (h : Heap). IsLaidTo h n promoted (g.M.Marker.pinned c.args.marker.now)
-    c.lay_regions.new.moves.items c.lay_regions.new.regions.items c.lay_regions.new.places.firsts.items
-    c.lay_regions.new.places.cells.items (room_at h c.lay_regions.new.moves.items
+    c.lay_regions.new.moves.items c.lay_regions.new.regions.items c.lay_regions.new.forwards.firsts.items
+    c.lay_regions.new.forwards.cells.items (room_at h c.lay_regions.new.moves.items
     (length c.lay_regions.new.moves.items)).cursors REGIONS) same c.lay_regions.ensures.laid)
     (subst (λ (b : Basis). IsSettled (objects_of b) b.condemned promoted) (c.requires.marker ∙ basis)
     (g.met.M.Marker.settles c.args.marker.now c.requires.settled))

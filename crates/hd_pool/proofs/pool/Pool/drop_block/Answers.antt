@@ -1,5 +1,5 @@
 use Rattle.hd_pool.proofs.Basics.{Some, ap, arith, difference, kind_at, numbers_of, remove, sym, ◌∙◌, ◌≡◌}
-use Rattle.hd_pool.proofs.PoolCalls.{dropped, along, in_list, low, has_room, has_place, read_kind, read_some, seen_left, with_left}
+use Rattle.hd_pool.proofs.PoolCalls.{dropped, along, in_list, low, has_room, has_index, read_kind, read_some, seen_left, with_left}
 use Rattle.hd_pool.proofs.pool.Pool.drop_block.Goals as goal
 
 pub index-requires : goal.index-requires
@@ -20,13 +20,13 @@ pub clear-requires : goal.clear-requires
 clear-requires c =
     omega (arith, has_room c.self.invariant c.self.view_is c.args.block c.requires.added)
 
-pub place-requires : goal.place-requires
-place-requires c = low c.self.invariant c.self.view_is c.args.block c.requires.added
+pub index_of-requires : goal.index_of-requires
+index_of-requires c = low c.self.invariant c.self.view_is c.args.block c.requires.added
 
 pub remove-requires : goal.remove-requires
 remove-requires c =
-    has_place c.self.invariant c.self.view_is c.args.block c.requires.added
-    c.unwrap-kind.result c.place.ensures
+    has_index c.self.invariant c.self.view_is c.args.block c.requires.added
+    c.unwrap-kind.result c.index_of.ensures
 
 pub invariant_of-self : goal.invariant_of-self
 invariant_of-self c =
@@ -36,7 +36,7 @@ invariant_of-self c =
     ∙ c.unwrap-kind.ensures in
     with_left kinds c.args.block (cc)
     (along c.clear.ensures (c.remove.ensures ∙ ap (λ n. record c.self.inside.ready
-    { members = remove c.self.inside.ready.members n }) c.place.ensures)
+    { members = remove c.self.inside.ready.members n }) c.index_of.ensures)
     (dropped c.self.invariant c.args.block of_kind))
 
 pub returns : goal.returns

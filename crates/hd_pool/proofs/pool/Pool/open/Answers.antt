@@ -1,4 +1,4 @@
-use Rattle.hd_pool.proofs.Basics.{Held, None, ROWS, ap, arith, by_place-empty, empty, get_or, get_or-replicate_None, kind_at, length, replicate, rules, sym, ℕ, ◌*◌, ◌+◌, ◌-◌, ◌∙◌, ◌≡◌}
+use Rattle.hd_pool.proofs.Basics.{Held, None, ROWS, ap, arith, by_index-empty, empty, get_or, get_or-replicate_None, kind_at, length, replicate, rules, sym, ℕ, ◌*◌, ◌+◌, ◌-◌, ◌∙◌, ◌≡◌}
 use Rattle.hd_pool.proofs.PoolCalls.{opened_empty}
 use Rattle.hd_pool.proofs.pool.Pool.open.Goals.{After-vec}
 use Rattle.hd_pool.proofs.pool.Pool.open.Goals as goal
@@ -26,6 +26,6 @@ returns-in-Ok c =
     let blocks : length c.in-Ok.kinds.items - 1 ≡ c.args.blocks = omega (arith, long c) in
     λ i. record {
       blocks = blocks i;
-      kinds = by_place-empty c.in-Ok.kinds.items (none c) i;
+      kinds = by_index-empty c.in-Ok.kinds.items (none c) i;
       free = ap (λ (s : Held). s.members) c.in_ok-free.ensures i;
     }

@@ -12,17 +12,17 @@ returns-in_err-at-clause-none c = (
 pub least_between-requires-2 : goal.least_between-requires-2
 least_between-requires-2 c =
     take_room c.self.invariant c.self.view_is c.args.kind c.number-first.ensures.value
-    c.in_ok-at.ensures.found c.place.ensures
+    c.in_ok-at.ensures.found c.index_of.ensures
 
 pub unwrap-slot-requires : goal.unwrap-slot-requires
 unwrap-slot-requires c =
     take_some c.self.invariant c.self.view_is c.args.kind c.number-first.ensures.value
-    c.in_ok-at.ensures.found c.place.ensures c.least_between-2.result c.least_between-2.ensures.none
+    c.in_ok-at.ensures.found c.index_of.ensures c.least_between-2.result c.least_between-2.ensures.none
 
 pub invariant_of-self : goal.invariant_of-self
 invariant_of-self c =
     take_last c.self.invariant c.self.view_is c.args.kind c.number-first.ensures.value
-    c.in_ok-at.ensures.found c.place.ensures
+    c.in_ok-at.ensures.found c.index_of.ensures
     c.least_between-2.result c.unwrap-slot.ensures c.least_between-2.ensures.found
     (c.remove.ensures ∙ ap
     (λ n. record c.self.inside.free { members = remove c.self.inside.free.members n }) (omega arith))
@@ -31,7 +31,7 @@ invariant_of-self c =
 pub invariant_of-self-else-is_none : goal.invariant_of-self-else-is_none
 invariant_of-self-else-is_none c =
     take_more c.self.invariant c.self.view_is c.args.kind c.number-first.ensures.value
-    c.in_ok-at.ensures.found c.place.ensures
+    c.in_ok-at.ensures.found c.index_of.ensures
     c.least_between-2.result c.unwrap-slot.ensures c.least_between-2.ensures.found
     (c.remove.ensures ∙ ap
     (λ n. record c.self.inside.free { members = remove c.self.inside.free.members n }) (omega arith))
@@ -40,13 +40,13 @@ invariant_of-self-else-is_none c =
 pub returns-then-is_none-clause-least : goal.returns-then-is_none-clause-least
 returns-then-is_none-clause-least c =
     take_least c.self.invariant c.self.view_is c.args.kind c.number-first.ensures.value
-    c.in_ok-at.ensures.found c.place.ensures
+    c.in_ok-at.ensures.found c.index_of.ensures
     c.least_between-2.result c.unwrap-slot.ensures c.least_between-2.ensures.found
 
 pub returns-else-is_none-clause-least : goal.returns-else-is_none-clause-least
 returns-else-is_none-clause-least c =
     take_least c.self.invariant c.self.view_is c.args.kind c.number-first.ensures.value
-    c.in_ok-at.ensures.found c.place.ensures
+    c.in_ok-at.ensures.found c.index_of.ensures
     c.least_between-2.result c.unwrap-slot.ensures c.least_between-2.ensures.found
 
 pub returns-then-is_none-clause-none : goal.returns-then-is_none-clause-none

@@ -1,7 +1,7 @@
 use Rattle.std.proofs.Common.{◌≡◌, ◌++◌, ◌∷◌, ◌==◌, [], List, Some, cond, length, nat_eq, sym, ap, ◌∙◌, subst, arith}
 use Rattle.std.specs.HashMap.{get}
 use Rattle.hd_root.specs.declared.dependents.Link.{Link}
-use Rattle.hd_root.specs.Links.{AreChained}
+use Rattle.hd_root.specs.Inside.{AreChained}
 use Rattle.hd_root.proofs.LinkLists.{chained_put}
 use Rattle.hd_root.proofs.dependents.Dependents.put.Goals as goal
 

@@ -4,7 +4,7 @@ use Rattle.std.proofs.lemmas.Result.{IfOk-weaker}
 use Rattle.hd_model.specs.Heap.{has_object, object_at}
 use Rattle.hd_model.specs.Scene.{fields_at}
 use Rattle.hd_root.specs.Links.{Attaches}
-use Rattle.hd_root.specs.Search.{EdgeBy, HasListed, IsNode, address, in_any_order, nodes_in}
+use Rattle.hd_root.specs.{Search.EdgeBy, Search.IsNode, Search.address, Search.in_any_order, Inside.HasListed, Inside.nodes_in}
 use Rattle.hd_root.proofs.ChainRoom.{small_address}
 use Rattle.hd_root.proofs.TargetLists.{targets_are}
 use Rattle.hd_walk.specs.Walk.{AreTargets}

@@ -9,7 +9,7 @@ invariant_of-result c = (
   subst (λ xs. IsBlocks c.args.number 0 xs (map (λ (v : Vec ℕ Global). v.items) c.in-Ok.chains.items))
       (sym c.in_ok-table.ensures)
       (subst (λ cs. IsBlocks c.args.number 0
-      (replicate (c.args.number + 1) (record { kind = block.Unused; place = 0; extras = None })) cs)
+      (replicate (c.args.number + 1) (record { kind = block.Unused; index = 0; extras = None })) cs)
       (sym c.in-Ok.ensures.chains) (blocks-none c.args.number c.requires)),
   c.in-Ok.ensures.rooms,
 )
@@ -19,7 +19,7 @@ returns-clause-none c =
     ap (λ xs. uses_in c.args.number xs (map (λ (v : Vec ℕ Global). v.items) c.in-Ok.chains.items))
     c.in_ok-table.ensures
     ∙ ap (uses_in c.args.number
-    (replicate (c.args.number + 1) (record { kind = block.Unused; place = 0; extras = None })))
+    (replicate (c.args.number + 1) (record { kind = block.Unused; index = 0; extras = None })))
     c.in-Ok.ensures.chains ∙ view-none c.args.number
 
 pub returns-clause-table : goal.returns-clause-table

@@ -26,7 +26,7 @@ pub invariant_of-self : goal.invariant_of-self
 invariant_of-self c =
     seg_at (row_back _ c.args.slot.0 (cell.Target c.args.row.target) (cell.Extra c.args.row.extra)
     c.write_row.ensures c.deref_mut.ensures.value
-    c.extra_place-place.ensures c.self.inside.cells.ok.0)
+    c.extra_index-index.ensures c.self.inside.cells.ok.0)
     (put-seg c.self.invariant c.args.slot.0 c.self.view_is c.args.row c.requires.vacant c.requires.fitting
     c.index_mut.result.now c.bit.result
     (get_or_read c.self.inside.masks.items (c.args.slot.0 / ROWS) c.index_mut.result.now
@@ -39,5 +39,5 @@ returns c =
     ap (table_in c.self.inside.blocks)
     (row_back _ c.args.slot.0 (cell.Target c.args.row.target) (cell.Extra c.args.row.extra)
     c.write_row.ensures c.deref_mut.ensures.value
-    c.extra_place-place.ensures c.self.inside.cells.ok.0)
+    c.extra_index-index.ensures c.self.inside.cells.ok.0)
     ∙ put-view c.self.invariant c.args.slot.0 c.self.view_is c.args.row c.requires.vacant c.requires.fitting

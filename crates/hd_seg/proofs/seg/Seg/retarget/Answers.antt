@@ -1,7 +1,7 @@
 use Rattle.hd_seg.proofs.Basics.{Addr, Some, ap, arith, get_or_default, subst, sym, ◌∙◌, ◌≡◌}
 use Rattle.hd_seg.proofs.RowCalls.{aim-seg, aim-view, live_cell, live_slot}
 use Rattle.std.proofs.Common.{rules}
-use Rattle.hd_seg.specs.Cells.{IsSeg, table_in}
+use Rattle.hd_seg.specs.{Inside.IsSeg, Cells.table_in}
 use Rattle.hd_seg.specs.declared.cells.Cell.TheVariants as cell
 use Rattle.hd_seg.specs.declared.seg.Seg.TheInside.{Inside}
 use Rattle.hd_seg.proofs.seg.Seg.retarget.Goals.{Joined-index_mut, in-Target-Some, in-Target+in-None-1, in-Empty-1}

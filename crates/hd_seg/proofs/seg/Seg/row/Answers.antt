@@ -22,8 +22,8 @@ returns-in-Target-clause-value c =
     row_read c.self.invariant c.args.slot.0 c.self.view_is c.in-Target.target c.extra_in-extra.result
     (sym (c.in-Target.ensures ∙ ap (λ xs. cell_at xs c.args.slot.0) c.deref.ensures.value))
     (c.extra_in-extra.ensures
-    ∙ ap (λ xs. extra_held (cell_in xs c.extra_place.result)) c.deref-in-Target.ensures.value
-    ∙ ap (λ o. extra_held (cell_in c.self.inside.cells.items o)) c.extra_place.ensures)
+    ∙ ap (λ xs. extra_held (cell_in xs c.extra_index.result)) c.deref-in-Target.ensures.value
+    ∙ ap (λ o. extra_held (cell_in c.self.inside.cells.items o)) c.extra_index.ensures)
 
 pub returns-in-Target-clause-table : goal.returns-in-Target-clause-table
 returns-in-Target-clause-table c =

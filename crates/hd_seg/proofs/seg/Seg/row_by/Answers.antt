@@ -14,19 +14,19 @@ returns-then-not-paired-clause-value c =
       extra = sym (plain_extra h.kind h.extra unpaired fitting) i;
     }
 
-pub extra_place_of-place-requires-clause-low : goal.extra_place_of-place-requires-clause-low
-extra_place_of-place-requires-clause-low c =
+pub extra_index_of-index-requires-clause-low : goal.extra_index_of-index-requires-clause-low
+extra_index_of-index-requires-clause-low c =
     live_low c.self.invariant c.args.slot.0 c.self.view_is c.requires.live
 
-pub extra_place_of-place-requires-clause-high : goal.extra_place_of-place-requires-clause-high
-extra_place_of-place-requires-clause-high c =
+pub extra_index_of-index-requires-clause-high : goal.extra_index_of-index-requires-clause-high
+extra_index_of-index-requires-clause-high c =
     live_high c.self.invariant c.args.slot.0 c.self.view_is c.requires.live
 
 pub returns-clause-value : goal.returns-clause-value
 returns-clause-value c = λ i. record {
   target = c.target-target.ensures.value i;
   extra = (c.extra_in-extra.ensures
-      ∙ ap (λ xs. extra_held (cell_in xs c.extra_place_of-place.result)) c.deref.ensures.value
-      ∙ ap (λ o. extra_held (cell_in c.self.inside.cells.items o)) c.extra_place_of-place.ensures
+      ∙ ap (λ xs. extra_held (cell_in xs c.extra_index_of-index.result)) c.deref.ensures.value
+      ∙ ap (λ o. extra_held (cell_in c.self.inside.cells.items o)) c.extra_index_of-index.ensures
       ∙ extra_now c.self.invariant c.args.slot.0 c.self.view_is c.requires.live) i;
 }

@@ -20,7 +20,7 @@ overflow_sub-self c = omega (arith, take_live c.self.invariant c.args.slot.0 c.s
 pub invariant_of-self : goal.invariant_of-self
 invariant_of-self c =
     seg_at (row_back _ c.args.slot.0 cell.Empty cell.Empty c.write_row.ensures c.deref_mut.ensures.value
-    c.extra_place-place.ensures c.self.inside.cells.ok.0)
+    c.extra_index-index.ensures c.self.inside.cells.ok.0)
     (take-seg c.self.invariant c.args.slot.0 c.self.view_is c.requires c.index_mut.result.now c.bit.result
     (get_or_read c.self.inside.masks.items (c.args.slot.0 / ROWS) c.index_mut.result.now
     (live_mask c.self.invariant c.args.slot.0 c.self.view_is c.requires) c.index_mut.ensures.value 0)
@@ -30,5 +30,5 @@ pub returns : goal.returns
 returns c =
     ap (table_in c.self.inside.blocks)
     (row_back _ c.args.slot.0 cell.Empty cell.Empty c.write_row.ensures c.deref_mut.ensures.value
-    c.extra_place-place.ensures c.self.inside.cells.ok.0)
+    c.extra_index-index.ensures c.self.inside.cells.ok.0)
     ∙ take-view c.self.invariant c.args.slot.0 c.self.view_is c.requires

@@ -2,7 +2,7 @@ use Rattle.std.proofs.Common.{List, ap, count_by, nat_eq, sum_by, ◌∙◌}
 use Rattle.std.specs.HashSet.{contains}
 use Rattle.hd_seen.specs.declared.SeenHandle.{SeenHandle}
 use Rattle.hd_seen.specs.declared.SeenObject.{SeenObject}
-use Rattle.hd_show.specs.Heaps.{cells_seen_in, is_marked, seen_in}
+use Rattle.hd_show.specs.Inside.{cells_seen_in, is_marked, seen_in}
 use Rattle.hd_show.specs.Pins.{is_pinned_by}
 use Rattle.hd_show.proofs.RegionSteps.{region_counts}
 use Rattle.hd_show.proofs.sums.RegionSums.of.Goals as goal

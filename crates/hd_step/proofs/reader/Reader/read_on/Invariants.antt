@@ -1,6 +1,6 @@
 use Rattle.std.proofs.Common.{◌≡◌, false, position, None}
 use Rattle.hd_model.specs.Grammar.{is_line_end}
-use Rattle.hd_step.specs.Hand.{Filled}
+use Rattle.hd_step.specs.Inside.{Filled}
 use Rattle.hd_step.proofs.reader.Reader.read_on.Given as goal
 
 -- what was read is at hand, and none of it ends a line

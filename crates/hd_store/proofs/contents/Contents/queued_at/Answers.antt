@@ -1,5 +1,5 @@
 use Rattle.hd_store.proofs.StoreWords.{parts}
-use Rattle.hd_store.proofs.QueuePlaces.{queued-is, queued-known}
+use Rattle.hd_store.proofs.QueueIndexes.{queued-is, queued-known}
 use Rattle.hd_store.proofs.contents.Contents.queued_at.Goals as goal
 
 pub returns-clause-value : goal.returns-clause-value

@@ -1,5 +1,5 @@
 use Rattle.hd_store.proofs.StoreWords.{IsNamed, ap, field_of, length, named_in, object_named, parts, subst, sym, ◌<◌, ◌∙◌}
-use Rattle.hd_store.proofs.NamedAddresses.{in_heap, count-is, field-is, field-named}
+use Rattle.hd_store.proofs.HeapCallReadings.{in_heap, count-is, field-is, field-named}
 use Rattle.hd_store.proofs.parts.ContentsParts.field.Goals as goal
 
 pub load-requires-clause-object : goal.load-requires-clause-object

@@ -1,5 +1,5 @@
 use Rattle.hd_store.proofs.StoreWords.{IfSome, IsNamed, Machine, ap, has_object, length, name_in, named_in, object_named, parts, placed_at, slice_set, subst, sym, true, with_object, ◌<◌, ◌∙◌, ◌≡◌}
-use Rattle.hd_store.proofs.NamedAddresses.{in_heap, count-is, named_objects}
+use Rattle.hd_store.proofs.HeapCallReadings.{in_heap, count-is, named_objects}
 use Rattle.hd_store.proofs.StoreWrite.{Writes, stored-write, written}
 use Rattle.hd_store.proofs.Barrier.{field_new, writes_field, reads_field}
 use Rattle.hd_store.proofs.parts.ContentsParts.set_field.Goals.{After-from, After-store}
@@ -61,5 +61,5 @@ returns c =
             fields = slice_set (object_named c.args.self.now c.args.at).fields i
                 (named_in c.args.self.now.names c.args.v);
           });
-      heap = Rattle.hd_store.specs.Store.without_spare c.store.new.self;
+      heap = Rattle.hd_store.specs.Store.without_free c.store.new.self;
     }) c.from.ensures

@@ -1,6 +1,6 @@
 use Rattle.hd_store.specs.Store.{seen_by}
 use Rattle.hd_store.proofs.StoreWords.{ap, parts, placed_at, refl}
-use Rattle.hd_store.proofs.{NamedAddresses.in_heap, StoreWrite.written-beside}
+use Rattle.hd_store.proofs.{HeapCallReadings.in_heap, StoreWrite.written-beside}
 use Rattle.hd_store.proofs.parts.ContentsParts.set_registered.Goals as goal
 
 pub set_registered-requires : goal.set_registered-requires

@@ -45,7 +45,7 @@ returns-clause-done g c =
       offer = ran.offer;
       growth = ran.growth;
       addresses = record {
-        returned = λ h place x. returns-stored m k e ran.effect before after x place h;
+        returned = λ h address x. returns-stored m k e ran.effect before after x address h;
         pinned = keeps-pinned m k e ran.effect before after;
         others = λ plain x a. keeps-address m k e ran.effect before after x a (inl plain);
       };

@@ -1,15 +1,29 @@
-use Rattle.std.proofs.Common.{rules, ◌≡◌, ◌∙◌, ◌++◌, ◌∷◌, [], sym, subst, List, map, nat_eq}
+use Rattle.std.proofs.Common.{rules, ◌≡◌, ◌∙◌, ◌++◌, ◌∷◌, [], sym, ap, subst, List, nat_eq}
 use Rattle.std.specs.HashSet.{contains}
-use Rattle.hd_walk.specs.declared.trail.Entry.{Entry}
-use Rattle.hd_walk.specs.Trail.{IsTrail, found_of}
-use Rattle.hd_walk.proofs.TrailAdds.{entry_more, not_true}
+use Rattle.hd_walk.specs.{Inside.IsTrail, Trail.before_of, Trail.found_by, Trail.with_found}
+use Rattle.hd_walk.proofs.TrailAdds.{next_by, test_by, trail_more}
 use Rattle.hd_walk.proofs.trail.Trail.add.Goals as goal
 
-pub invariant_of-self-then-branch : goal.invariant_of-self-then-branch
-invariant_of-self-then-branch c =
-    let entry : Entry = record { at = c.args.at; mark = c.args.mark } in
-    let items : c.push_reserved.new.self.items ≡ c.self.inside.entries.items ++ entry ∷ [] = search rules in
-    let out = not_true _ (sym c.in_ok-insert.ensures.added ∙ c.if-branch.true) in
-    subst (λ xs. IsTrail (map found_of xs) (contains nat_eq c.insert.new.self)) (sym items)
-    (entry_more c.self.inside.entries.items entry c.self.invariant
-    (sym (c.self.invariant.nodes c.args.at) ∙ out) c.in_ok-insert.ensures.updates.0)
+pub invariant_of-self-in-Ok-true : goal.invariant_of-self-in-Ok-true
+invariant_of-self-in-Ok-true c =
+    let nodes = c.self.inside.nodes.keys in
+    let marks = c.self.inside.marks.items in
+    let kept : c.push_reserved.new.self.items ≡ marks ++ c.args.mark ∷ [] = search rules in
+    let keys : c.insert.new.self.keys ≡ nodes ++ c.args.at ∷ [] = search rules in
+    let out = test_by nodes marks c.args.at c.in-Ok-true.field-0 c.self.invariant c.in-Ok-true.ensures.added
+    c.in-Ok-true.field-0-test in
+    subst (λ ms. IsTrail c.insert.new.self.keys ms (contains nat_eq c.insert.new.self)) (sym kept)
+    (subst (λ ks. IsTrail ks (marks ++ c.args.mark ∷ []) (contains nat_eq c.insert.new.self)) (sym keys)
+    (trail_more nodes marks c.args.at c.args.mark c.self.invariant out c.in-Ok-true.ensures.updates.0))
+
+pub returns-in-Ok-true : goal.returns-in-Ok-true
+returns-in-Ok-true c =
+    let nodes = c.self.inside.nodes.keys in
+    let marks = c.self.inside.marks.items in
+    let kept : c.push_reserved.new.self.items ≡ marks ++ c.args.mark ∷ [] = search rules in
+    let keys : c.insert.new.self.keys ≡ nodes ++ c.args.at ∷ [] = search rules in
+    let out = test_by nodes marks c.args.at c.in-Ok-true.field-0 c.self.invariant c.in-Ok-true.ensures.added
+    c.in-Ok-true.field-0-test in
+    (λ i. found_by (keys i) (kept i))
+    ∙ next_by nodes marks c.args.at c.args.mark c.self.invariant.marked out
+    ∙ ap (λ found. with_found found c.args.at (before_of c.args.mark)) (c.self.view_is ∙ c.make_room.ensures)

@@ -1,7 +1,7 @@
-use Rattle.hd_store.proofs.StoreWords.{Err, FinMap, IsOffer, Machine, Ok, OnErr, Result, TakesSteps, [], ap, arith, length, nat_cmp, subst, sym, with_places, ℕ, ◌++◌, ◌+◌, ◌<◌, ◌^◌, ◌∙◌, ◌∷◌, ◌≡◌}
-use Rattle.hd_world.specs.{Placed.IsTrueRun, Placed.Placed, Applied.Applied, World.WorldView}
-use Rattle.hd_store.proofs.OfferPlaces.{steps_placed, offer_placed, growth_placed}
-use Rattle.hd_world.proofs.JournalApply.{within_of, at_places, placed_on, run_on, step_on, ages_on}
+use Rattle.hd_store.proofs.StoreWords.{Err, FinMap, IsOffer, Machine, Ok, OnErr, Result, TakesSteps, [], ap, arith, length, nat_cmp, subst, sym, with_pinned, ℕ, ◌++◌, ◌+◌, ◌<◌, ◌^◌, ◌∙◌, ◌∷◌, ◌≡◌}
+use Rattle.hd_world.specs.{TrueRuns.IsTrueRun, TrueRuns.Placed, Applied.Applied, World.WorldView}
+use Rattle.hd_store.proofs.OfferAddresses.{steps_placed, offer_placed, growth_placed}
+use Rattle.hd_world.proofs.JournalApply.{within_of, at_pinned, placed_on, run_on, step_on, ages_on}
 use Rattle.hd_model.specs.Journal.{Recorded}
 use Rattle.hd_world.proofs.world.World.apply.Goals as goal
 
@@ -37,7 +37,7 @@ invariant_of-self g c =
     subst (λ m. IsTrueRun m entries c.self.inside.placed.0)
     (sym c.in_err-entry.ensures.unchanged) c.self.invariant in
     let at : (q : Placed c.apply.new.self entries) → IsTrueRun c.apply.new.self entries q.0 =
-    λ q. at_places c.apply.new.self entries c.self.inside.placed.0 q.0
+    λ q. at_pinned c.apply.new.self entries c.self.inside.placed.0 q.0
     (λ r. IsTrueRun c.apply.new.self entries r) before q.1 before in
     search at
 
@@ -45,7 +45,7 @@ invariant_of-self g c =
 abbrev seen : Machine → Recorded → FinMap nat_cmp ℕ → WorldView
 seen m j p = record {
   numbers = m.numbers;
-  state = with_places m.state p;
+  state = with_pinned m.state p;
   ages = m.ages;
   heap = m.heap;
   table = m.table;
@@ -66,7 +66,7 @@ returns-in_err-entry-clause-unchanged g c =
     subst (λ x. IsTrueRun x j.entries p) (sym c.in_err-entry.ensures.unchanged) c.self.invariant in
     let at : (q : Placed m j.entries) → OnErr c.from_residual.result (seen m j q.0 ≡ c.args.self.now) =
     λ q. on_err c.from_residual.result (seen m j q.0 ≡ c.args.self.now)
-    (at_places m j.entries p q.0 (λ r. seen m j r ≡ c.args.self.now) before q.1
+    (at_pinned m j.entries p q.0 (λ r. seen m j r ≡ c.args.self.now) before q.1
     (ap (λ x. seen x j p) c.in_err-entry.ensures.unchanged ∙ c.self.view_is)) in
     search at
 

@@ -3,17 +3,17 @@ use Rattle.hd_world.proofs.world.World.collections.Goals.{Joined-is_collect, the
 use Rattle.hd_world.proofs.world.World.collections.Goals as goal
 
 -- the entry that is read is the one at its index
-at_place : (xs : List Entry) (i : ℕ) (e : Entry) → slice_get xs i ≡ Some e → get_or xs i e ≡ e
-at_place [] i e is = refl
-at_place (x ∷ xs) zero e is = cc
-at_place (x ∷ xs) (suc i) e is = at_place xs i e is
+at_address : (xs : List Entry) (i : ℕ) (e : Entry) → slice_get xs i ≡ Some e → get_or xs i e ≡ e
+at_address [] i e is = refl
+at_address (x ∷ xs) zero e is = cc
+at_address (x ∷ xs) (suc i) e is = at_address xs i e is
 
 -- one more entry counts if it is a collection
 more : (xs : List Entry) (i : ℕ) (e : Entry) → i < length xs → slice_get xs i ≡ Some e
     → collections_of (take (i + 1) xs) ≡ collections_of (take i xs) + cond (is_collect e.cmd) 1 0
 more xs i e within is =
     sum_by_more (λ (x : Entry). cond (is_collect x.cmd) 1 0) xs i e within
-    ∙ ap (λ (x : Entry). collections_of (take i xs) + cond (is_collect x.cmd) 1 0) (at_place xs i e is)
+    ∙ ap (λ (x : Entry). collections_of (take i xs) + cond (is_collect x.cmd) 1 0) (at_address xs i e is)
 
 step : (c : Joined-is_collect) → collections_of (take (c.loop-i.i + 1) c.self.inside.journal.entries)
     ≡ collections_of (take c.loop-i.i c.self.inside.journal.entries) + cond c.is_collect.result 1 0

@@ -12,9 +12,9 @@ returns-clause-run c =
 pub returns-clause-sound : goal.returns-clause-sound
 returns-clause-sound c = subst IsOfJournal c.self.view_is (record {
   aged = c.self.invariant.run;
-  heap = of-heap c.self.inside.store c.self.inside.placed.0 c.objects-objects.ensures.heap
+  heap = of-heap c.self.inside.store c.self.inside.placed.0 c.contents-contents.ensures.heap
       c.self.invariant.addresses;
-  table = of-table c.self.inside.store c.self.inside.placed.0 c.objects-objects.ensures.heap;
+  table = of-table c.self.inside.store c.self.inside.placed.0 c.contents-contents.ensures.heap;
 })
 
 pub returns-clause-limits : goal.returns-clause-limits

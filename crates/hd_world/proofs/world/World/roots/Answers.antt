@@ -9,5 +9,5 @@ named_roots-requires g c =
 
 pub returns-clause-few : goal.returns-clause-few
 returns-clause-few g c =
-    few-roots c.self.inside.store.state c.live-live.result c.named_roots.result c.live-live.ensures
+    few-roots c.contents-store.result.now.state c.live-live.result c.named_roots.result c.live-live.ensures
     c.live-live.type_inv c.named_roots.ensures

@@ -1,4 +1,4 @@
--- `end` lets go of what a closed one has, which is nothing.
+-- `end` releases what a closed one has, which is nothing.
 use Rattle.std.proofs.Common.{List, [], ◌∷◌, ◌++◌, refl, sym, subst}
 use mir.Val.{Val, vunit}
 use base.Logic.{SProp, ent, id⊢}

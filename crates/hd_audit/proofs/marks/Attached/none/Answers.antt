@@ -1,5 +1,0 @@
-use Rattle.hd_audit.proofs.AttachedLists.{none_listed}
-use Rattle.hd_audit.proofs.marks.Attached.none.Goals as goal
-
-pub returns : goal.returns
-returns c = none_listed c.new.result c.new.ensures

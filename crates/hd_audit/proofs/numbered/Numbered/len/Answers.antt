@@ -1,9 +1,0 @@
-use Rattle.std.proofs.Common.{ap, sym, ◌∙◌}
-use Rattle.std.specs.FinMap as map
-use Rattle.hd_audit.proofs.NumberedMaps.{len_seen}
-use Rattle.hd_audit.proofs.numbered.Numbered.len.Goals as goal
-
-pub returns-clause-value : goal.returns-clause-value
-returns-clause-value g c =
-    c.len.ensures.len ∙ sym (len_seen c.self.inside.tree.entries c.self.invariant)
-    ∙ ap (λ m. map.len m) c.self.view_is

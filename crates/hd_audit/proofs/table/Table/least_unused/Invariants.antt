@@ -1,6 +1,0 @@
-use Rattle.std.proofs.Common.{IsSome, ℕ, ◌<◌, ◌≤◌}
-use Rattle.std.specs.FinMap.{get}
-use Rattle.hd_audit.proofs.table.Table.least_unused.Given as goal
-
-abbrev pub invariant-loop-block : goal.invariant-loop-block
-invariant-loop-block l = (b : ℕ) → l.from ≤ b → b < l.block → IsSome (get l.self.uses b)

@@ -1,0 +1,7 @@
+//! Laws of the machine that no crate cites, in a user's words.
+#![tactic(auto)]
+
+pub mod anchor_laws;
+pub mod collection_laws;
+pub mod laws;
+pub mod weak_laws;

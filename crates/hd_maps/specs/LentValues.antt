@@ -1,0 +1,14 @@
+-- What a map by number ends as, where a `&mut` to one of its values is returned.
+use Rattle.std.specs.Prelude.{ℕ, Option, ◌≡◌, IsSome}
+use Rattle.std.specs.FinMap.{FinMap}
+use Rattle.std.specs.Ordering.{nat_cmp}
+use Rattle.std.specs.Borrow.{LendsSo, Fml, RattleType, MutBor}
+use Rattle.hd_maps.specs.contracts.numbered.Numbered.{the_row}
+use Rattle.std.specs.FinMap as fin
+
+-- once the borrow r ends, the key has the last value written through r; without one nothing is changed
+abbrev pub lends_value : (V : RattleType) → MutBor (FinMap nat_cmp V.Denot) → ℕ → Option (MutBor V.Denot)
+    → Fml
+lends_value V s key r =
+    LendsSo (the_row V) V s r (λ n w. IsSome (fin.get s.now key) → n ≡ fin.insert s.now key w)
+    (λ n. n ≡ s.now)

@@ -1,0 +1,9 @@
+pub mod View
+pub mod Fields
+pub mod NextKeys
+pub mod LentValues
+pub mod StoredObjects
+pub mod TableViews
+pub mod WeakSlots
+pub mod PinnedObjects
+pub mod Inside

@@ -1,5 +1,0 @@
-use Rattle.hd_model.proofs.AnchorLaws.{rooted_objects_stay}
-use Rattle.hd_model.proofs.anchor_laws.rooted_objects_stay.Goals as goal
-
-pub returns : goal.returns
-returns c = rooted_objects_stay

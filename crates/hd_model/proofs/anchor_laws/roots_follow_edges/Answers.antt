@@ -1,5 +1,0 @@
-use Rattle.hd_model.proofs.RootChains.{roots_follow_edges}
-use Rattle.hd_model.proofs.anchor_laws.roots_follow_edges.Goals as goal
-
-pub returns : goal.returns
-returns c = roots_follow_edges

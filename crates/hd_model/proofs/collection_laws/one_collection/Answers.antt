@@ -1,5 +1,0 @@
-use Rattle.hd_model.proofs.Collections.{one_collection}
-use Rattle.hd_model.proofs.collection_laws.one_collection.Goals as goal
-
-pub returns : goal.returns
-returns c = one_collection

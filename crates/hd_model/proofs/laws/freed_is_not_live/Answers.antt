@@ -1,5 +1,0 @@
-use Rattle.hd_model.proofs.HandleParts.{freed_is_not_live}
-use Rattle.hd_model.proofs.laws.freed_is_not_live.Goals as goal
-
-pub returns : goal.returns
-returns c = freed_is_not_live

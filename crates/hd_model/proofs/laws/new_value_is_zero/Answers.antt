@@ -1,5 +1,0 @@
-use Rattle.hd_model.proofs.StateReadBack.{new_value_is_zero}
-use Rattle.hd_model.proofs.laws.new_value_is_zero.Goals as goal
-
-pub returns : goal.returns
-returns c = new_value_is_zero

@@ -1,5 +1,0 @@
-use Rattle.hd_model.proofs.OneState.{one_state_after}
-use Rattle.hd_model.proofs.laws.one_state_after.Goals as goal
-
-pub returns : goal.returns
-returns c = one_state_after

@@ -1,5 +1,0 @@
-use Rattle.hd_model.proofs.PlacesApart.{pinned_objects_do_not_overlap}
-use Rattle.hd_model.proofs.laws.pinned_objects_do_not_overlap.Goals as goal
-
-pub returns : goal.returns
-returns c = pinned_objects_do_not_overlap

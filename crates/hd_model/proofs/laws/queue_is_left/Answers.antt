@@ -1,5 +1,0 @@
-use Rattle.hd_model.proofs.QueueTurns.{queue_is_left}
-use Rattle.hd_model.proofs.laws.queue_is_left.Goals as goal
-
-pub returns : goal.returns
-returns c = queue_is_left

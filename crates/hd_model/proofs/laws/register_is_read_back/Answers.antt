@@ -1,5 +1,0 @@
-use Rattle.hd_model.proofs.StateReadBack.{register_is_read_back}
-use Rattle.hd_model.proofs.laws.register_is_read_back.Goals as goal
-
-pub returns : goal.returns
-returns c = register_is_read_back

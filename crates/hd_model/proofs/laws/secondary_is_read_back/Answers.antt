@@ -1,5 +1,0 @@
-use Rattle.hd_model.proofs.HandleParts.{secondary_is_read_back}
-use Rattle.hd_model.proofs.laws.secondary_is_read_back.Goals as goal
-
-pub returns : goal.returns
-returns c = secondary_is_read_back

@@ -1,5 +1,0 @@
-use Rattle.hd_model.proofs.StateReadBack.{value_is_read_back}
-use Rattle.hd_model.proofs.laws.value_is_read_back.Goals as goal
-
-pub returns : goal.returns
-returns c = value_is_read_back

@@ -1,5 +1,0 @@
-use Rattle.hd_model.proofs.AttachedValues.{add_is_refused_where_attached}
-use Rattle.hd_model.proofs.weak_laws.add_is_refused_where_attached.Goals as goal
-
-pub returns : goal.returns
-returns c = add_is_refused_where_attached

@@ -1,5 +1,0 @@
-use Rattle.hd_model.proofs.EntryKeys.{entries_follow_keys}
-use Rattle.hd_model.proofs.weak_laws.entries_follow_keys.Goals as goal
-
-pub returns : goal.returns
-returns c = entries_follow_keys

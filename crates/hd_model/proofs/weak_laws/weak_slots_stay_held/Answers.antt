@@ -1,5 +1,0 @@
-use Rattle.hd_model.proofs.WeakSlotUse.{weak_slots_stay_held}
-use Rattle.hd_model.proofs.weak_laws.weak_slots_stay_held.Goals as goal
-
-pub returns : goal.returns
-returns c = weak_slots_stay_held

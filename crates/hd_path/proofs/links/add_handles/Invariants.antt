@@ -1,6 +1,0 @@
-use Rattle.std.proofs.Common.{map, take, ◌++◌, ◌≡◌}
-use Rattle.hd_path.specs.Links.{handle_link}
-use Rattle.hd_path.proofs.links.add_handles.Given as goal
-
-abbrev pub invariant-loop-handle : goal.invariant-loop-handle
-invariant-loop-handle l = l.links.items ≡ l.fn.links.items ++ map handle_link (take l.handle-index l.handles)

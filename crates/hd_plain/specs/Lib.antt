@@ -1,0 +1,11 @@
+pub mod Commands
+pub mod MachineViews
+pub mod Parts
+pub mod Choice
+pub mod ChosenSteps
+pub mod OneEntry
+pub mod Attaching
+pub mod Marked
+pub mod Edges
+pub mod Collecting
+pub mod Inside

@@ -1,0 +1,85 @@
+-- What private clauses alone cite.
+use Rattle.std.specs.Prelude.{◌≡◌, ℕ, ◌+◌, ◌<◌, ◌≤◌, List, [], ◌∷◌, length, sum_by, slice_index, slice_index_or, slice_set, Some, None, ◌*◌, ◌/◌, true, cond, Option, is_some}
+use Rattle.std.specs.{FinMap.len, FinMap.get, Int.bit_at}
+use Rattle.hd_model.specs.{declared.data.Kind.Kind, Kinds.kind_number, Kinds.is_paired, declared.data.Addr.Addr}
+use Rattle.hd_model.specs.declared.limits.TheConstants.{BLOCKS, KINDS, ROWS}
+use Rattle.hd_model.specs.State.{handles_of, Handle, extra_data}
+use Rattle.hd_model.specs.Table.{IsTable, fits, has_handles}
+use Rattle.hd_seg.specs.{declared.block.Block.Block, Mapped.mapped, declared.cells.Cell.Cell}
+use Rattle.hd_seg.specs.Blocks.{block_at, use_at, extras_at, Uses}
+use Rattle.hd_seg.specs.Cells.{cell_at, cell_in, extra_index, row_in}
+use Rattle.hd_seg.specs.declared.cells.Cell.TheVariants as cell
+
+-- ---- the blocks of a table as the program keeps them. Each block has its index in the chain of its kind, so that
+-- the block after it is found without a search.
+
+-- some block from a number on is unused
+pub record HasUnused (table : List Block) (from : ℕ) : Type 0 where
+  pub number : ℕ
+  pub low : from ≤ number
+  pub high : number < length table
+  pub unused : use_at table number ≡ None
+
+-- block b has handles of a kind, and a chain index
+pub record IsListed (number : ℕ) (table : List Block) (k : Kind) (b at : ℕ) : Type 0 where
+  pub low : 1 ≤ b
+  pub high : b ≤ number
+  pub use_is : use_at table b ≡ Some (handles_of k)
+  pub index_is : (block_at table b).index ≡ at
+
+-- the chains have exactly the blocks of handles, each at its chain index
+pub record IsLinked (number : ℕ) (table : List Block) (chains : List (List ℕ)) : Type 0 where
+  pub kinds : length chains ≡ KINDS
+  pub within : (k : Kind) (b : ℕ) → 1 ≤ b → b ≤ number → use_at table b ≡ Some (handles_of k)
+      → (block_at table b).index < length (slice_index_or chains (kind_number k) [])
+  pub indexed : (k : Kind) (b : ℕ) → 1 ≤ b → b ≤ number → use_at table b ≡ Some (handles_of k)
+      → slice_index (slice_index_or chains (kind_number k) []) (block_at table b).index ≡ b
+  pub listed : (k : Kind) (i : ℕ) → i < length (slice_index_or chains (kind_number k) [])
+      → IsListed number table k (slice_index (slice_index_or chains (kind_number k) []) i) i
+
+-- what is always true of the blocks; an unused block has no data block
+pub record IsBlocks (number given : ℕ) (table : List Block) (chains : List (List ℕ)) : Type 0 where
+  pub limit : number ≤ BLOCKS
+  pub size : length table ≡ number + 1
+  pub counted : given ≡ len (mapped 1 number (use_at table))
+  pub spare : sum_by length chains ≤ given
+  pub linked : IsLinked number table chains
+  pub plain : (b : ℕ) → use_at table b ≡ None → extras_at table b ≡ None
+
+-- the blocks after those of a list got chain indices, the first of them index i
+abbrev pub numbered : ℕ → List ℕ → List Block → List Block
+numbered i [] table = table
+numbered i (b ∷ bs) table = numbered (i + 1) bs (slice_set table b (record (block_at table b) { index = i }))
+
+-- ---- where the rows of a table are stored: a block has 64 cells. The cell of a slot has its target, and the cell
+-- at the same row index of the data block has its extra.
+
+-- the cells after a write to one that may be absent
+abbrev pub with_cell : List Cell → Option ℕ → Cell → List Cell
+with_cell cells None c = cells
+with_cell cells (Some q) c = slice_set cells q c
+
+-- a block of handles has a data block exactly where its kind has extras, and no two have the same
+pub record IsPaired (u : Uses) : Type 0 where
+  pub paired : (b : ℕ) (k : Kind) → get u.table.uses b ≡ Some (handles_of k)
+      → is_some (get u.extras b) ≡ is_paired k
+  pub used : (b d : ℕ) → get u.extras b ≡ Some d → get u.table.uses d ≡ Some extra_data
+  pub within : (b d : ℕ) → get u.extras b ≡ Some d → d ≤ u.table.blocks
+  pub apart : (a b d : ℕ) → get u.extras a ≡ Some d → get u.extras b ≡ Some d → a ≡ b
+
+-- what is always true of a table: a live row has a bit of its block's mask and a fitting extra, cells without
+-- a live row are empty, and only blocks of handles store targets
+pub record IsSeg (u : Uses) (cells : List Cell) (masks : List ℕ) (live : ℕ) : Type 0 where
+  pub table : IsTable u.table
+  pub room : length cells ≡ ROWS * (u.table.blocks + 1)
+  pub words : length masks ≡ u.table.blocks + 1
+  pub counted : live ≡ len (mapped ROWS (ROWS * u.table.blocks) (row_in u cells))
+  pub bits : (b i : ℕ) → b ≤ u.table.blocks → i < ROWS → bit_at (slice_index masks b) i
+      ≡ cond (is_some (row_in u cells (ROWS * b + i))) 1 0
+  pub fitting : (slot : ℕ) (h : Handle Addr) → row_in u cells slot ≡ Some h → fits h.kind h.extra ≡ true
+  pub vacant : (q : ℕ) → row_in u cells q ≡ None → (get u.table.uses (q / ROWS) ≡ Some extra_data → ⊥)
+      → cell_at cells q ≡ cell.Empty
+  pub targets : (q : ℕ) (t : Option Addr) → cell_at cells q ≡ cell.Target t
+      → has_handles (get u.table.uses (q / ROWS)) ≡ true
+  pub cleared : (q : ℕ) → row_in u cells q ≡ None → cell_in cells (extra_index u q) ≡ cell.Empty
+  pub paired : IsPaired u

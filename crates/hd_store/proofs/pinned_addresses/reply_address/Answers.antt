@@ -1,0 +1,19 @@
+use Rattle.hd_store.proofs.StoreWords.{Done, KeepsPinned, None, Zero, entry_by, subst, sym, ◌∙◌}
+use Rattle.hd_store.proofs.AddressSteps.{addr-replies, addr-refused}
+use Rattle.hd_model.specs.declared.command.Cmd.TheVariants as cmd
+use Rattle.hd_model.specs.declared.data.Reply.TheVariants as reply
+use Rattle.hd_store.proofs.pinned_addresses.reply_address.Goals as goal
+
+pub returns-in-Err : goal.returns-in-Err
+returns-in-Err c =
+    addr-refused c.args.store.now c.args.caller c.args.h c.requires.caller c.requires.register
+    c.in-Err.refusal c.in-Err.ensures.value
+
+pub returns-in-Ok : goal.returns-in-Ok
+returns-in-Ok c =
+    let m = c.args.store.now in
+    subst (λ (d : Done). KeepsPinned m (entry_by c.args.caller (cmd.AddrOf c.args.h) d) m)
+    (sym (c.of.ensures
+    ∙ (λ i. record { reply = reply.Place (c.address.ensures.value i); slot = None; grown = Zero })))
+    (addr-replies m c.args.caller c.args.h c.requires.caller c.requires.register c.in-Ok.at
+    c.address.ensures.address c.in-Ok.ensures.value)
