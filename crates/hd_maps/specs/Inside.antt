@@ -1,6 +1,6 @@
 -- What private clauses alone cite.
 use Rattle.std.specs.Prelude.{ℕ, Option, Some, ◌≡◌, None, ◌+◌, ◌<◌, ◌≤◌, ◌^◌, IsSome}
-use Rattle.std.specs.FinMap.{FinMap, get, keys}
+use Rattle.std.specs.FinMap.{FinMap, get}
 use Rattle.std.specs.Ordering.{nat_cmp}
 use Rattle.hd_model.specs.declared.data.Id.{Id}
 use Rattle.hd_model.specs.State.{WeakEntry, Object, size_of}

@@ -1,6 +1,6 @@
 -- What private clauses alone cite.
 use Rattle.std.specs.Prelude.{ℕ, List, map, Option, Some, ◌≡◌, ◌==◌, cond, [], ◌∷◌, ◌++◌, None, ◌+◌, ◌<◌, ◌≤◌, Bool, true, false, length, ◌&&◌, nat_le, not, ◌≢◌, ◌^◌, is_none, Ok, ◌*◌, option_map, ◌⊎◌, Contains, nat_lt}
-use Rattle.std.specs.FinMap.{FinMap, get, insert, remove, entries, keys}
+use Rattle.std.specs.FinMap.{FinMap, get, insert, remove, keys}
 use Rattle.std.specs.Ordering.{nat_cmp}
 use Rattle.std.specs.Option.{option_map_or}
 use Rattle.hd_model.specs.Anchors.{AnchorOf}

@@ -1,5 +1,5 @@
 // The lines of a journal.
-ghost use Rattle.std.specs.Prelude.{◌≡◌, ◌+◌, ◌^◌, ◌<◌, ◌≤◌, [], ◌++◌, decimal, length, slice_index, slice_set, All, OnOk, OnErr};
+ghost use Rattle.std.specs.Prelude.{◌≡◌, ◌+◌, ◌^◌, ◌<◌, ◌≤◌, ◌++◌, length, slice_index, slice_set, All, OnOk, OnErr};
 ghost use Rattle.std.specs.List.{concat};
 ghost use Rattle.hd_io.specs.Sink.{Took, WriteBrokeOff};
 ghost use Rattle.hd_model.specs.Text.{entry_text, lines_of};
@@ -72,7 +72,7 @@ fn set_entry(line: &mut Line, entry: Entry, number: u32)
     ensures { line.new ≡ entry_text entry number }
 {
     line.clear();
-    push_caller(line, entry.caller);
+    line.push_count(entry.caller);
     line.push_str(" ");
     line.push_number(number);
     if let Reply::Done = entry.reply {
@@ -89,7 +89,7 @@ fn set_full(full: &mut Line, entry: Entry, number: u32)
     ensures { full.new ≡ full_line entry number }
 {
     full.clear();
-    push_caller(full, entry.caller);
+    full.push_count(entry.caller);
     full.push_str(" ");
     full.push_number(number);
     full.push_str(" ");
@@ -133,20 +133,6 @@ fn push_growth(line: &mut Line, grown: Grown)
             line.push_str(" -");
             line.push_number(block);
         }
-    }
-}
-
-// Appends the number of a caller, which is mostly one digit.
-#[tactic(auto, using(std::proofs::lemmas::Fmt::decimal_digit))]
-fn push_caller(line: &mut Line, caller: u32)
-    requires { line.old ≡ [] }
-    ensures text { line.new ≡ decimal caller }
-    ensures short { length line.new ≤ 10 }
-{
-    if caller < 10 {
-        line.push_digit(caller as u8);
-    } else {
-        line.push_number(caller);
     }
 }
 

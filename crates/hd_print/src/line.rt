@@ -1,5 +1,5 @@
 // A line of text that takes no memory.
-ghost use Rattle.std.specs.Prelude.{◌≡◌, ◌==◌, ◌+◌, ◌<◌, ◌≤◌, [], ◌∷◌, ◌++◌, length};
+ghost use Rattle.std.specs.Prelude.{◌≡◌, ◌==◌, ◌+◌, ◌<◌, ◌≤◌, [], ◌∷◌, ◌++◌, decimal, length};
 
 use itoa::{Buffer, Integer};
 use std::marker::Model;
@@ -74,8 +74,8 @@ impl Line {
         self.len = end;
     }
 
-    /// Appends one digit, for which there is room.
-    pub(crate) fn push_digit(&mut self, digit: u8)
+    // Appends one digit, for which there is room.
+    fn push_digit(&mut self, digit: u8)
         requires digit { digit < 10 }
         requires room { length self.old + 1 ≤ Line.CAPACITY }
         ensures { self.new ≡ self.old ++ (48 + digit) ∷ [] }
@@ -93,5 +93,19 @@ impl Line {
     {
         let mut buffer = Buffer::new();
         self.push_str(buffer.format(number));
+    }
+
+    /// Appends a number in decimal, for which there is room, and which is mostly one digit.
+    #[tactic(auto, using(std::proofs::lemmas::Fmt::decimal_digit))]
+    pub(crate) fn push_count(&mut self, count: u32)
+        requires { length self.old + 10 ≤ Line.CAPACITY }
+        ensures text { self.new ≡ self.old ++ decimal count }
+        ensures short { length self.new ≤ length self.old + 10 }
+    {
+        if count < 10 {
+            self.push_digit(count as u8);
+        } else {
+            self.push_number(count);
+        }
     }
 }

@@ -19,7 +19,7 @@ pub(crate) fn push_identity(line: &mut Line, id: Id)
 {
     let caller = (id.0 >> 32) as u32;
     let serial = (id.0 & 0xffff_ffff) as u32;
-    line.push_number(caller);
+    line.push_count(caller);
     line.push_str(".");
     line.push_number(serial);
 }
@@ -31,17 +31,17 @@ fn push_report(line: &mut Line, report: Report)
     ensures short { length line.new ≤ length line.old + LONGEST_REPLY }
 {
     line.push_str("kept ");
-    line.push_number(report.kept);
+    line.push_count(report.kept);
     line.push_str(" removed ");
-    line.push_number(report.removed);
+    line.push_count(report.removed);
     line.push_str(" short ");
-    line.push_number(report.short);
+    line.push_count(report.short);
     line.push_str(" long ");
-    line.push_number(report.long);
+    line.push_count(report.long);
     line.push_str(" dep ");
-    line.push_number(report.dep);
+    line.push_count(report.dep);
     line.push_str(" revived ");
-    line.push_number(report.revived);
+    line.push_count(report.revived);
 }
 
 // Appends why a command was refused.

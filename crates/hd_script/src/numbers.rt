@@ -27,6 +27,7 @@ pub fn number(word: &[u8], most: u64) -> Option<u64>
 }
 
 /// The same for a number that fits a byte.
+#[inline(always)]
 pub(crate) fn small(word: &[u8], most: u8) -> Option<u8>
     ensures value { result ≡ number_of most word.now }
     ensures bound { IfSome result (λ n. n ≤ most) }
@@ -39,6 +40,7 @@ pub(crate) fn small(word: &[u8], most: u8) -> Option<u8>
 }
 
 // The number that one digit writes.
+#[inline(always)]
 #[tactic(auto, unfolding(hd_model::specs::Grammar::number_of, hd_model::specs::Grammar::value_of))]
 fn digit(byte: u8, most: u8) -> Option<u8>
     ensures value { result ≡ number_of most (byte ∷ []) }
@@ -52,6 +54,7 @@ fn digit(byte: u8, most: u8) -> Option<u8>
 }
 
 // The register that a word denotes, by its letter.
+#[inline(always)]
 #[tactic(auto, unfolding(hd_model::specs::Grammar::register_in))]
 fn register(word: &[u8], letter: u8) -> Option<u8>
     ensures value { result ≡ register_in letter word.now }
@@ -66,6 +69,7 @@ fn register(word: &[u8], letter: u8) -> Option<u8>
 }
 
 /// The object register that a word denotes.
+#[inline(always)]
 pub fn object(word: &[u8]) -> Option<u8>
     ensures value { result ≡ object_register_in word.now }
     ensures bound { IfSome result (λ n. n < REGISTERS) }
@@ -74,6 +78,7 @@ pub fn object(word: &[u8]) -> Option<u8>
 }
 
 /// The handle register that a word denotes.
+#[inline(always)]
 pub fn handle(word: &[u8]) -> Option<u8>
     ensures value { result ≡ handle_register_in word.now }
     ensures bound { IfSome result (λ n. n < REGISTERS) }
