@@ -218,6 +218,6 @@ IsFirstIn h r from answer =
     MatchOption answer ((a : Addr) → has_object h a ≡ true → region_of a ≡ r → a.0 < r * REGION + from)
     (λ o. IsFirstObject h r from o)
 
--- a region in use, as it is told
-abbrev pub region_told : RegionInfo → Region
-region_told r = record { generation = r.generation; fill = r.fill }
+-- a region in use, as it is reported
+abbrev pub region_reported : RegionInfo → Region
+region_reported r = record { generation = r.generation; fill = r.fill }

@@ -3,7 +3,7 @@ ghost use Rattle.std.specs.Prelude.{◌≡◌, ◌+◌, ◌*◌, ◌<◌, true, 
 ghost use Rattle.std.specs.FinMap.{get};
 ghost use Rattle.hd_model.specs.Heap.{is_in_use, is_set, region_generation};
 ghost use Rattle.hd_heap.specs.declared.area.TheConstants.{CARDS};
-ghost use Rattle.hd_heap.specs.Calls.{IsExtent, IsFirstIn, IsRegionWalk, region_told};
+ghost use Rattle.hd_heap.specs.Calls.{IsExtent, IsFirstIn, IsRegionWalk, region_reported};
 ghost use Rattle.hd_heap.specs.Walks.{end_in};
 ghost use Rattle.hd_heap.specs.Sound.{IsSound};
 
@@ -89,7 +89,7 @@ impl Heap {
 
     /// A region in use, by its number; none where there is none in use of that number.
     pub fn region(&self, region: u32) -> Option<RegionInfo>
-        ensures { option_map region_told result ≡ get self.now.regions region }
+        ensures { option_map region_reported result ≡ get self.now.regions region }
     {
         // Read first for the proof: it gives the invariant where the call returns early.
         let regions = self.areas.len();

@@ -203,7 +203,7 @@ words_after c = (row_of c).operands ++ (row_of c).others
 
 -- ---- forms
 
--- what the word of an operand says. A kind is told by its word.
+-- what the word of an operand says. A kind is known by its word.
 abbrev pub ValueOf : Operand → Type 0
 ValueOf Object = ℕ
 ValueOf Handle = ℕ

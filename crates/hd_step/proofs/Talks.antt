@@ -51,7 +51,7 @@ pub record IsTalking (n : Numbers) (h : Hand) (w : MachineView) (p : Progress)
 
 -- ---- the first line
 
--- behind the first line end nothing tells where it is
+-- behind the first line end nothing shows where it is
 ahead : (xs ys : List ℕ) → end_or_len xs < length xs → end_or_len (xs ++ ys) ≡ end_or_len xs
 ahead [] ys within = absurd (omega (arith, within))
 ahead (x ∷ xs) ys within = by (is_line_end x) (ahead xs ys) within
