@@ -1,7 +1,6 @@
 -- What is promised of a state that is shown.
 use Rattle.std.proofs.Common.{Err, List, Ok, Option, Result, [], ◌∙◌, arith, lit<, refl, subst, sym, ℕ, ◌≡◌}
 use Rattle.std.specs.Prelude.{IfErr, IfOk, MatchResult}
-use Rattle.std.specs.Result.{IsErr, IsErrAnd}
 use mathlib.Core.Logic.{inl, inr}
 use Rattle.hd_io.specs.Counts.{Rose}
 use Rattle.hd_io.specs.Sink.{SinkView, Took, WriteBrokeOff}
@@ -101,30 +100,23 @@ module _ (Shows : WorldView → List ℕ → Type 0) (b : Bounds) (line : Option
 
 module _ {b : Bounds} {line : Option ℕ} {old new : SourceView} {w : WorldView}
     (ran : RanTo b line old new w) where
-  -- memory ran out after the script was run
-  pub ran_out : StopsBy line old new NoMemory
-  ran_out = record { bytes = ran.bytes; gave = ran.read.all.gave; count = ran.read.within }
-
-  pub not_seen : {T : Type 0} (r : Result T Fault) (f : Fault) → IsErr r × IsErrAnd r (λ e. e ≡ f)
-      → f ≡ NoMemory → IfErr r (StopsBy line old new)
-  not_seen (Ok seen) f is none = tt
-  not_seen (Err e) f is none = subst (StopsBy line old new) (sym (is.1 ∙ none)) ran_out
-
   -- the state of the world is one of a run
   pub well_formed : IsWellFormed w.numbers w.state
   well_formed = let n = numbers_for b ran.lists in
       subst (λ n. IsWellFormed n w.state) (sym ran.ran.numbers)
       (run_is_well_formed n w.journal w.state (run_from_solo n w.journal w.state ran.ran.run))
 
-  pub pictured : {p : Picture} → p ≡ picture_in w → IsPictureOf p w.state
-  pictured sees = record {
-    numbers = w.numbers;
-    ages = w.ages;
-    heap = w.heap;
-    table = w.table;
-    well_formed = well_formed;
-    shows = sees;
-  }
+-- what was seen of a world is a picture of its state
+pub pictured : {p : Picture} (w : WorldView) → IsWellFormed w.numbers w.state → p ≡ picture_in w
+    → IsPictureOf p w.state
+pictured w formed sees = record {
+  numbers = w.numbers;
+  ages = w.ages;
+  heap = w.heap;
+  table = w.table;
+  well_formed = formed;
+  shows = sees;
+}
 
 -- chains that are appended to an empty text are the text
 pub whole_chains : (s : State) (ids : List Id) (text : List ℕ) → WritesPaths s ids [] text

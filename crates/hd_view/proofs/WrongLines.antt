@@ -120,8 +120,8 @@ reason_is j k dues cause written wrong_is before rest_is due holds is = record {
 }
 
 -- the verdict, and why behind it
-pub written_by : (k : Known) (dues passed : List Due) (cause : Cause) (count line : ℕ) (verdict written : List ℕ)
-    → line ≡ count + 1 → verdict ≡ wrong_text line → passed ≡ dues
-    → written ≡ verdict ++ why_text k passed cause → written ≡ wrong_text (count + 1) ++ why_text k dues cause
-written_by k dues passed cause count line verdict written at verdict_is same is =
-    is ∙ (λ i. (verdict_is ∙ ap wrong_text at) i ++ why_text k (same i) cause)
+pub written_by : (k : Known) (dues passed : List Due) (cause : Cause) (count line : ℕ) (written : List ℕ)
+    → line ≡ count + 1 → passed ≡ dues → written ≡ wrong_text line ++ why_text k passed cause
+    → written ≡ wrong_text (count + 1) ++ why_text k dues cause
+written_by k dues passed cause count line written at same is =
+    is ∙ (λ i. wrong_text (at i) ++ why_text k (same i) cause)

@@ -22,7 +22,7 @@ use hd_model::limits::ROWS;
 use hd_model::{Entry, Grown, Kind, Reply, Slot};
 
 /// Why a line is not right.
-#[derive(Clone, Copy, Debug, PartialEq, Eq)]
+#[derive(Clone, Copy)]
 pub(crate) enum Cause {
     /// The text ends before it.
     Missing,
@@ -57,7 +57,7 @@ pub(crate) enum Cause {
 }
 
 /// Why a line with this slot, or without one, is not right.
-#[derive(Clone, Copy, Debug, PartialEq, Eq)]
+#[derive(Clone, Copy)]
 pub(crate) enum SlotCause {
     Missing,
     Needless,
@@ -74,7 +74,7 @@ pub(crate) enum SlotCause {
 }
 
 /// Why a line with these blocks, or without any, is not right.
-#[derive(Clone, Copy, Debug, PartialEq, Eq)]
+#[derive(Clone, Copy)]
 pub(crate) enum BlockCause {
     Missing,
     Needless,

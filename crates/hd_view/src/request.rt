@@ -98,15 +98,31 @@ fn limits_of(matches: &ArgMatches) -> Limits {
 
 // The command.
 fn command<'a>(alloc: Global) -> Result<Command<'a>, AllocError> {
-    Command::new(alloc, "hdv")
+    let hdv = Command::new(alloc, "hdv")
         .version("0.2.0")
         .about("Shows a run of hdt: reads a script, or an audit's input, from standard input")
-        .subcommand_required(true)
-        .subcommand(why_command(alloc)?)?
-        .subcommand(show_command(alloc)?)?
-        .subcommand(path_command(alloc)?)?
-        .subcommand(graph_command(alloc)?)?
-        .subcommand(step_command(alloc)?)
+        .subcommand_required(true);
+    let hdv = with_subcommand(hdv, why_command(alloc))?;
+    let hdv = with_subcommand(hdv, show_command(alloc))?;
+    with_drawings_and_dialogue(alloc, hdv)
+}
+
+// The same with those that draw and the dialogue.
+fn with_drawings_and_dialogue<'a>(
+    alloc: Global,
+    hdv: Command<'a>,
+) -> Result<Command<'a>, AllocError> {
+    let hdv = with_subcommand(hdv, path_command(alloc))?;
+    let hdv = with_subcommand(hdv, graph_command(alloc))?;
+    with_subcommand(hdv, step_command(alloc))
+}
+
+// A command with one more under it, where there was memory for that one.
+fn with_subcommand<'a>(
+    command: Command<'a>,
+    one: Result<Command<'a>, AllocError>,
+) -> Result<Command<'a>, AllocError> {
+    command.subcommand(one?)
 }
 
 fn why_command<'a>(alloc: Global) -> Result<Command<'a>, AllocError> {

@@ -6,7 +6,7 @@ use hd_model::Memory;
 use std::alloc::Global;
 
 /// All numbers from one to another.
-#[derive(Clone, Copy, Debug, PartialEq, Eq)]
+#[derive(Clone, Copy)]
 pub(crate) struct Range {
     pub(crate) first: u32,
     pub(crate) last: u32,

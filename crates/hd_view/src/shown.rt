@@ -1,11 +1,8 @@
 // The state to which a script leads, shown as a text.
 ghost use Rattle.std.specs.Prelude.{◌≡◌, None, IfErr, IfOk, MatchResult};
-ghost use Rattle.hd_seen.specs.Seen.{view_seen};
-ghost use Rattle.hd_snapshot.specs.Laws.{IsParted};
+ghost use Rattle.hd_model.specs.WellFormed.{IsWellFormed};
 ghost use Rattle.hd_run.specs.Report.{IsReported, fault_status};
-ghost use Rattle.hd_run.specs.declared.fault.Fault.TheVariants.{NoMemory};
 ghost use Rattle.hd_view.specs.{Script.RanTo, Inside.StopsBy};
-ghost use Rattle.hd_talk.specs.Machine.{picture_in};
 ghost use Rattle.hd_view.specs.Shown.{AreChains, AreTables, IsGraph, ShowPromise};
 ghost use Rattle.hd_world.specs.World.{WorldView};
 
@@ -15,7 +12,6 @@ use hd_io::{Failed, Sink, Source, write_all};
 use hd_model::{Id, Memory};
 use hd_path::push_paths;
 use hd_run::{Fault, Limits};
-use hd_seen::Snapshot;
 use hd_show::show_text;
 use hd_talk::seen_in;
 use hd_world::World;
@@ -103,11 +99,18 @@ fn tables_of<S: Source, E: Sink>(
     ensures stopped { IfErr result (StopsBy line (S.seen source.old) (S.seen source.new)) }
 {
     let world = world_of(alloc, limits, line, source, errors)?;
-    let seen = look_at(alloc, &world)?;
-    match show_text(alloc, &seen) {
+    match tables(alloc, &world) {
         Ok(text) => Ok(text),
         Err(Memory) => Err(Fault::NoMemory),
     }
+}
+
+// The tables of a world.
+fn tables(alloc: Global, world: &World) -> Result<Vec<u8>, Memory>
+    ensures { IfOk result (λ text. AreTables world.now text.items) }
+{
+    let seen = seen_in(alloc, world)?;
+    show_text(alloc, &seen)
 }
 
 // The chains.
@@ -124,12 +127,21 @@ fn chains_of<S: Source, E: Sink>(
     ensures stopped { IfErr result (StopsBy None (S.seen source.old) (S.seen source.new)) }
 {
     let world = world_of(alloc, limits, None, source, errors)?;
-    let seen = look_at(alloc, &world)?;
-    let mut text = Vec::new(alloc);
-    match push_paths(alloc, &mut text, &seen, ids) {
-        Ok(()) => Ok(text),
+    match chains(alloc, &world, ids) {
+        Ok(text) => Ok(text),
         Err(Memory) => Err(Fault::NoMemory),
     }
+}
+
+// The chains in a world.
+fn chains(alloc: Global, world: &World, ids: &[Id]) -> Result<Vec<u8>, Memory>
+    requires { IsWellFormed world.now.numbers world.now.state }
+    ensures { IfOk result (λ text. AreChains ids.now world.now text.items) }
+{
+    let seen = seen_in(alloc, world)?;
+    let mut text = Vec::new(alloc);
+    push_paths(alloc, &mut text, &seen, ids)?;
+    Ok(text)
 }
 
 // The graph.
@@ -146,22 +158,19 @@ fn graph_of<S: Source, E: Sink>(
     ensures stopped { IfErr result (StopsBy None (S.seen source.old) (S.seen source.new)) }
 {
     let world = world_of(alloc, limits, None, source, errors)?;
-    let seen = look_at(alloc, &world)?;
-    let mut text = Vec::new(alloc);
-    match push_graph(alloc, &mut text, &seen, clusters) {
-        Ok(()) => Ok(text),
+    match graph(alloc, &world, clusters) {
+        Ok(text) => Ok(text),
         Err(Memory) => Err(Fault::NoMemory),
     }
 }
 
-// What is seen of a world.
-fn look_at(alloc: Global, world: &World) -> Result<Snapshot, Fault>
-    ensures seen { IfOk result (λ seen. view_seen seen ≡ picture_in world.now) }
-    ensures parted { IfOk result (λ _. IsParted (picture_in world.now)) }
-    ensures memory { IfErr result (λ fault. fault ≡ NoMemory) }
+// The graph of a world.
+fn graph(alloc: Global, world: &World, clusters: Clusters) -> Result<Vec<u8>, Memory>
+    requires { IsWellFormed world.now.numbers world.now.state }
+    ensures { IfOk result (λ text. IsGraph clusters world.now text.items) }
 {
-    match seen_in(alloc, world) {
-        Ok(seen) => Ok(seen),
-        Err(Memory) => Err(Fault::NoMemory),
-    }
+    let seen = seen_in(alloc, world)?;
+    let mut text = Vec::new(alloc);
+    push_graph(alloc, &mut text, &seen, clusters)?;
+    Ok(text)
 }

@@ -1,18 +1,20 @@
 // Why a printed text is that of no run.
-ghost use Rattle.std.specs.Prelude.{◌≡◌, ◌+◌, ◌≤◌, length, IfOk, OnErr, OnOk};
+ghost use Rattle.std.specs.Prelude.{◌≡◌, ◌+◌, ◌++◌, ◌≤◌, drop, length, IfOk, OnErr, OnOk};
 ghost use Rattle.hd_io.specs.Sink.{Took, WriteBrokeOff};
 ghost use Rattle.hd_model.specs.declared.limits.TheConstants.{MOST_BYTES};
+ghost use Rattle.hd_model.specs.RunTexts.{cut_lines};
 ghost use Rattle.hd_run.specs.{Audit.wrong_text, Bounds.numbers_for};
-ghost use Rattle.hd_view.specs.Inside.{IsTextOf};
+ghost use Rattle.hd_view.specs.Inside.{AreValid, IsKnownOf, IsTextOf};
 ghost use Rattle.hd_view.specs.{Findings.found_text, Findings.FindsIn, Findings.FoundCause, Inside.IsFoundOf, Inside.IsReasonOf};
 ghost use Rattle.hd_view.specs.{Inside.IsWrongOf, Findings.Reports};
 ghost use Rattle.hd_view.specs.Why.{WhyPromise};
+ghost use Rattle.hd_view.specs.WhyText.{why_text};
 
-use crate::accepted::{Judgement, all_due};
-use crate::cause::cause_of;
+use crate::accepted::{Due, Judgement, all_due};
+use crate::cause::{Cause, cause_of};
 use crate::finding::Finding;
 use crate::why_text::push_why;
-use hd_audit::{Verdict, audit};
+use hd_audit::{Before, Verdict, audit};
 use hd_io::{Failed, Sink, Source, read_all, write_all};
 use hd_model::Memory;
 use hd_model::limits::MOST_BYTES;
@@ -120,10 +122,37 @@ fn reason(judgement: &Judgement, line: u32) -> Result<Text, Memory>
     ensures { IfOk result (IsReasonOf judgement.now) }
 {
     let before = judgement.before()?;
-    let dues = all_due(judgement, &before)?;
-    let cause = cause_of(&before, &dues);
-    let mut text = verdict_text(judgement.alloc, line)?;
-    push_why(&mut text, &before, &dues, cause)?;
+    reason_after(judgement, &before, line)
+}
+
+// The same, by what is known after the lines that are right.
+fn reason_after(judgement: &Judgement, before: &Before, line: u32) -> Result<Text, Memory>
+    requires text { IsTextOf judgement.now }
+    requires line { line ≡ judgement.now.count + 1 }
+    requires wrong { IsWrongOf judgement.now }
+    requires known { IsKnownOf judgement.now before.now }
+    requires rest { cut_lines before.now.rest
+        ≡ drop judgement.now.count (cut_lines judgement.now.text.now) }
+    ensures { IfOk result (IsReasonOf judgement.now) }
+{
+    let dues = all_due(judgement, before)?;
+    let cause = cause_of(before, &dues);
+    reason_text(judgement.alloc, line, before, &dues, cause)
+}
+
+// The text of a verdict, with the cause.
+fn reason_text(
+    alloc: Global,
+    line: u32,
+    before: &Before,
+    dues: &[Due],
+    cause: Cause,
+) -> Result<Text, Memory>
+    requires { AreValid dues.now }
+    ensures { IfOk result (λ text. text ≡ wrong_text line ++ why_text before.now dues.now cause) }
+{
+    let mut text = verdict_text(alloc, line)?;
+    push_why(&mut text, before, dues, cause)?;
     Ok(text)
 }
 
