@@ -14,6 +14,7 @@ impl Change {
     ghost use Rattle.hd_host.specs.Changes.{changed_by};
 
     // What the last call that was done did, after one with this entry.
+    #[inline(always)]
     pub(crate) fn after(self, entry: Entry) -> Change
         ensures { result ≡ changed_by self entry }
     {

@@ -36,6 +36,7 @@ pub enum Fault {
 impl Fault {
     // The fault of a refusal of the machine. Each handle that is used by value is in a register, so
     // none is empty.
+    #[inline(always)]
     pub(crate) fn of(refusal: Refusal) -> Fault
         ensures { result ≡ fault_of refusal }
     {
@@ -53,6 +54,7 @@ impl Fault {
 }
 
 // The entry of a command that was done, or the fault of its refusal.
+#[inline(always)]
 pub(crate) fn unrefused(entry: Entry) -> Result<Entry, Fault>
     ensures { MatchResult result (λ e. (e ≡ entry) × (is_refused entry.reply ≡ false))
         (λ fault. (why : Refusal) × (entry.reply ≡ reply.Refused why) × (fault ≡ fault_of why)) }

@@ -22,6 +22,7 @@ use hd_store::ExtraInfo;
 impl Host {
     /// Makes a handle whose target is what the local references, or null (GCHandle.Alloc). It gets
     /// the least free slot of its kind, and the table grows only where there is none.
+    #[inline(always)]
     pub fn handle_new(&mut self, context: u32, make: Make, target: u8) -> Result<Handle, Fault>
         requires context { context < self.old.machine.numbers.callers }
         requires make { IsValidMake make }
@@ -45,6 +46,7 @@ impl Host {
 
     /// Frees a handle (GCHandle.Free). It is stale from now on. The handle of a slot that was freed
     /// 2^48 - 1 times before stays, and may be set to null.
+    #[inline(always)]
     pub fn handle_free(&mut self, handle: Handle) -> Result<(), Fault>
         ensures does { MatchResult result (λ _. FreesHandle self.old handle self.new)
             (λ fault. FailsOf self.old 0 handle (cmd.HFree 0) fault × IsAsItWas self.old self.new) }
@@ -84,6 +86,7 @@ impl Host {
 
     /// The target becomes what the local references. A dependent handle may get null alone, and
     /// then its secondary is null too.
+    #[inline(always)]
     pub fn handle_set(&mut self, context: u32, handle: Handle, src: u8) -> Result<(), Fault>
         requires context { context < self.old.machine.numbers.callers }
         requires local { src < REGISTERS }
@@ -175,6 +178,7 @@ impl Host {
     }
 
     // The handle in a live slot.
+    #[inline(always)]
     pub(crate) fn handle_in(&self, slot: Slot) -> Handle
         requires { IsSome (handle_at self.now.machine.state slot) }
         ensures { result ≡ handle_of self.now slot }
@@ -183,6 +187,7 @@ impl Host {
     }
 
     // Whether a handle is live, and its slot has the last stamp.
+    #[inline(always)]
     fn has_last_stamp(&self, handle: Handle) -> bool
         ensures last { result ≡ true → (slot : Slot) × IsOf self.now handle slot
             × (stamp_of self.now slot ≡ end_stamp) }

@@ -107,6 +107,7 @@ impl Host {
     }
 
     // The slot of a handle, if its stamp is the slot's. Whether the slot is live is not looked at.
+    #[inline(always)]
     pub(crate) fn slot_of(&self, handle: Handle) -> Option<Slot>
         ensures { MatchOption result (IsStale self.now handle)
             (λ slot. (handle ≡ handle_of self.now slot) × (slot.0 < 2 ^ 16)) }
@@ -136,6 +137,7 @@ impl Host {
 
     // Does a command of a context, with a slot in its first handle register while it is done. What
     // is offered to it is the pool's.
+    #[inline(always)]
     fn call(&mut self, context: u32, slot: Option<Slot>, cmd: Cmd) -> Result<Entry, Memory>
         requires { MayAsk self.old context slot cmd }
         ensures stepped { IfOk result
@@ -157,6 +159,7 @@ impl Host {
     }
 
     // The same, with the fault of a refusal.
+    #[inline(always)]
     pub(crate) fn ask_within(&mut self, context: u32, cmd: Cmd) -> Result<Entry, Fault>
         requires { MayAsk self.old context None cmd }
         ensures does { MatchResult result (λ e. HasDone self.old context None cmd e self.new)
@@ -170,6 +173,7 @@ impl Host {
     }
 
     // The same, for a command that neither makes an object nor raises a count.
+    #[inline(always)]
     pub(crate) fn ask(&mut self, context: u32, cmd: Cmd) -> Result<Entry, Fault>
         requires known { context < self.old.machine.numbers.callers }
         requires valid { IsValid cmd }
@@ -183,6 +187,7 @@ impl Host {
     }
 
     // Does a command on the handle in the first register, with the slot of a handle there.
+    #[inline(always)]
     pub(crate) fn ask_of_within(
         &mut self,
         context: u32,
@@ -210,6 +215,7 @@ impl Host {
     }
 
     // The same, for a command that does not raise a count.
+    #[inline(always)]
     pub(crate) fn ask_of(&mut self, context: u32, handle: Handle, cmd: Cmd) -> Result<Entry, Fault>
         requires known { context < self.old.machine.numbers.callers }
         requires valid { IsValid cmd }

@@ -55,6 +55,7 @@ impl Host {
     }
 
     /// Local `dst` gets what field `i` of the object references, which is returned.
+    #[inline(always)]
     pub fn field_get(
         &mut self,
         context: u32,
@@ -79,6 +80,7 @@ impl Host {
     }
 
     /// Field `i` of the object gets what local `src` references. A null `src` stores null.
+    #[inline(always)]
     pub fn field_set(&mut self, context: u32, object: u8, i: u8, src: u8) -> Result<(), Fault>
         requires context { context < self.old.machine.numbers.callers }
         requires locals { (object < REGISTERS) × (src < REGISTERS) }
@@ -98,6 +100,7 @@ impl Host {
     }
 
     /// The value of the object.
+    #[inline(always)]
     pub fn value_get(&mut self, context: u32, object: u8) -> Result<u64, Fault>
         requires context { context < self.old.machine.numbers.callers }
         requires local { object < REGISTERS }
@@ -109,6 +112,7 @@ impl Host {
     }
 
     /// The value of the object becomes `value`.
+    #[inline(always)]
     pub fn value_set(&mut self, context: u32, object: u8, value: u64) -> Result<(), Fault>
         requires context { context < self.old.machine.numbers.callers }
         requires local { object < REGISTERS }
@@ -127,6 +131,7 @@ impl Host {
     }
 
     /// The generation of the object (GC.GetGeneration).
+    #[inline(always)]
     pub fn generation(&mut self, context: u32, object: u8) -> Result<u8, Fault>
         requires context { context < self.old.machine.numbers.callers }
         requires local { object < REGISTERS }
@@ -162,6 +167,7 @@ impl Host {
     }
 
     /// Local `dst` gets what local `src` references.
+    #[inline(always)]
     pub fn local_copy(&mut self, context: u32, dst: u8, src: u8)
         requires context { context < self.old.machine.numbers.callers }
         requires locals { (dst < REGISTERS) × (src < REGISTERS) }
@@ -172,6 +178,7 @@ impl Host {
     }
 
     /// Local `dst` becomes null.
+    #[inline(always)]
     pub fn local_clear(&mut self, context: u32, dst: u8)
         requires context { context < self.old.machine.numbers.callers }
         requires local { dst < REGISTERS }
@@ -182,6 +189,7 @@ impl Host {
     }
 
     /// Static `k` gets what local `src` references. All contexts have the 16 statics.
+    #[inline(always)]
     pub fn static_set(&mut self, context: u32, k: u8, src: u8)
         requires context { context < self.old.machine.numbers.callers }
         requires statics { (k < REGISTERS) × (src < REGISTERS) }
@@ -192,6 +200,7 @@ impl Host {
     }
 
     /// Local `dst` gets what static `k` references, which is returned.
+    #[inline(always)]
     pub fn static_get(&mut self, context: u32, dst: u8, k: u8) -> Option<Id>
         requires context { context < self.old.machine.numbers.callers }
         requires statics { (dst < REGISTERS) × (k < REGISTERS) }
@@ -204,6 +213,7 @@ impl Host {
     }
 
     // Does a command that the machine never refuses, and that takes no memory.
+    #[inline(always)]
     pub(crate) fn ask_plainly(&mut self, context: u32, cmd: Cmd) -> Reply
         requires context { context < self.old.machine.numbers.callers }
         requires plain { IsNeverRefused cmd }

@@ -66,6 +66,7 @@ impl Host {
     }
 
     /// What a handle is.
+    #[inline(always)]
     pub fn handle_info(&self, handle: Handle) -> Result<HandleInfo<Id>, Fault>
         ensures { MatchResult result
             (λ info. (slot : Slot) × IsOf self.now handle slot

@@ -19,6 +19,7 @@ macro_rules! of_form {
 }
 
 // The reply of a load: the object, or null.
+#[inline(always)]
 pub(crate) fn load_reply(answer: Reply) -> Option<Id>
     requires { is_load answer ≡ true }
     ensures { load_reply result ≡ answer }
@@ -27,6 +28,7 @@ pub(crate) fn load_reply(answer: Reply) -> Option<Id>
 }
 
 // The reply of a `new`.
+#[inline(always)]
 pub(crate) fn made(answer: Reply) -> Id
     requires { is_object answer ≡ true }
     ensures { reply.Object result ≡ answer }
@@ -35,6 +37,7 @@ pub(crate) fn made(answer: Reply) -> Id
 }
 
 // The reply of a read, of a count, and of `trim`.
+#[inline(always)]
 pub(crate) fn value(answer: Reply) -> u64
     requires { is_value answer ≡ true }
     ensures { reply.Value result ≡ answer }
@@ -43,6 +46,7 @@ pub(crate) fn value(answer: Reply) -> u64
 }
 
 // The reply of `gen`.
+#[inline(always)]
 pub(crate) fn generation(answer: Reply) -> u8
     requires { is_generation answer ≡ true }
     ensures { reply.Generation result ≡ answer }

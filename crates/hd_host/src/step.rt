@@ -10,6 +10,7 @@ use hd_slots::{Change, change_of};
 use hd_store::Store;
 
 /// What a command does to the free slots of a store, where a `cadd` takes a slot or needs none.
+#[inline(always)]
 pub(crate) fn change_in(store: &Store, context: u32, cmd: Cmd) -> Change
     requires context { context < store.now.numbers.callers }
     requires valid { IsValid cmd }
@@ -24,6 +25,7 @@ pub(crate) fn change_in(store: &Store, context: u32, cmd: Cmd) -> Change
 
 /// Does a command of a context, whose first handle register has the slot while the command is done.
 /// Where it has none, and where the command is refused, the store has no slot in it afterwards.
+#[inline(always)]
 pub(crate) fn step(
     store: &mut Store,
     context: u32,

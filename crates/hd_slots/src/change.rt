@@ -21,6 +21,7 @@ pub enum Change {
 }
 
 /// What a command does to the free slots, by its class.
+#[inline(always)]
 pub fn change_of(cmd: Cmd) -> Change
     ensures { result ≡ change_of cmd }
 {
@@ -43,6 +44,7 @@ pub fn change_of(cmd: Cmd) -> Change
 /// What is offered to a command: to one that takes a slot the least free one of its kind, which the
 /// pool has no more, and to `trim` the first slot of the least block of its kind whose slots are
 /// all free.
+#[inline(always)]
 pub fn offer(pool: &mut Pool, change: Change) -> Option<Slot>
     ensures { Offers pool.old pool.new change result }
 {
@@ -55,6 +57,7 @@ pub fn offer(pool: &mut Pool, change: Change) -> Option<Slot>
 
 /// Takes note of an entry that took what was offered: a block by which the table grew is added, and
 /// its first slot taken; a freed slot is put back; a block that was given back is dropped.
+#[inline(always)]
 pub fn note(pool: &mut Pool, change: Change, entry: &Entry)
     requires { MayNote pool.old change entry.now.slot entry.now.grown }
     ensures { pool.new ≡ noted pool.old change entry.now.slot entry.now.grown }

@@ -14,6 +14,7 @@ use std::sync::ledger::Ledger;
 // Does a command of a caller that neither reads nor changes a pinned address, nor looks at the weak
 // table. Its entry and the state after it are a step of the machine. An offered slot or block is
 // taken. Without one a new handle makes the table grow, or finds it full.
+#[inline(always)]
 fn carry_out(
     store: &mut Contents,
     caller: u32,
@@ -68,6 +69,7 @@ fn carry_out(
 
 /// Does a command of a caller. From any pinned addresses that are those of their objects, its entry
 /// is a step of the machine to others that are.
+#[inline(always)]
 pub(crate) fn run<L: Ledger>(
     store: &mut Contents,
     caller: u32,

@@ -18,6 +18,7 @@ use hd_model::{Addr, Grown, Kind, Make, Memory, Refusal, Reply, Slot};
 use hd_seg::Full;
 
 /// `new rD F`. A full heap is reported before memory is taken.
+#[inline(always)]
 pub(crate) fn new_object(
     store: &mut Contents,
     caller: u32,
@@ -78,6 +79,7 @@ fn slot_of_new_block(store: &mut Contents, kind: Kind) -> Result<(Slot, Grown), 
 }
 
 /// The slot of a new handle: the offered one or, without one, the first of a new block.
+#[inline(always)]
 pub(crate) fn slot_given(
     store: &mut Contents,
     kind: Kind,
@@ -101,6 +103,7 @@ pub(crate) fn slot_given(
 }
 
 // A new handle. Without a target a dependent one has no secondary either.
+#[inline(always)]
 fn made(store: &Contents, caller: u32, make: Make, t: u8) -> Handle<Addr>
     requires caller { caller < store.now.numbers.callers }
     requires register { t < REGISTERS }
@@ -125,6 +128,7 @@ fn made(store: &Contents, caller: u32, make: Make, t: u8) -> Handle<Addr>
 }
 
 // Lowers the age of a slot's clump to the generation of what is stored there. Null lowers none.
+#[inline(always)]
 fn lower_to(store: &mut Contents, slot: Slot, target: Option<Addr>)
     requires low { 1 ≤ block_of slot }
     requires high { block_of slot ≤ store.old.numbers.blocks }
@@ -142,6 +146,7 @@ fn lower_to(store: &mut Contents, slot: Slot, target: Option<Addr>)
 
 // Lowers the age of a slot's clump for a handle that is made there. A dependent one, which may get
 // any secondary, makes it 0.
+#[inline(always)]
 fn lower_for(store: &mut Contents, slot: Slot, make: Make, target: Option<Addr>)
     requires low { 1 ≤ block_of slot }
     requires high { block_of slot ≤ store.old.numbers.blocks }
@@ -157,6 +162,7 @@ fn lower_for(store: &mut Contents, slot: Slot, make: Make, target: Option<Addr>)
 }
 
 /// `hnew hD KIND rT ..`: takes the offered slot or, without one, the first slot of a new block.
+#[inline(always)]
 pub(crate) fn new_handle(
     store: &mut Contents,
     caller: u32,

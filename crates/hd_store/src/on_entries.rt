@@ -106,6 +106,7 @@ pub(crate) fn remove_entry<L: Ledger>(
 }
 
 /// Whether a `cadd` needs a slot that the weak table has yet to get.
+#[inline(always)]
 pub(crate) fn needs_slot<L: Ledger>(
     store: &Contents,
     caller: u32,

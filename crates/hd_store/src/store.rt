@@ -61,7 +61,7 @@ impl Store {
     /// block of its kind whose slots are all free, and to no other command anything. A `new` asks
     /// that its caller's last serial can rise by one, and an `hup` that the count can. Out of
     /// memory changes nothing.
-    #[inline(never)]
+    #[inline(always)]
     pub fn apply<L: Ledger>(
         &mut self,
         caller: u32,
@@ -92,6 +92,7 @@ impl Store {
     }
 
     /// Does the same where nobody asks for the steps.
+    #[inline(always)]
     pub fn apply_uncounted(
         &mut self,
         caller: u32,
@@ -107,6 +108,7 @@ impl Store {
     }
 
     // The same, with a counter that nothing reads.
+    #[inline(always)]
     fn apply_on<L: Ledger>(
         &mut self,
         caller: u32,
@@ -129,6 +131,7 @@ impl Store {
 
     /// Puts a slot, or nothing, into a handle register, as `GCHandle.FromIntPtr` makes a handle of
     /// a number. No command of a script does this, so what comes after is no run of a script.
+    #[inline(always)]
     pub fn point(&mut self, caller: u32, h: u8, slot: Option<Slot>)
         requires caller { caller < self.old.numbers.callers }
         requires register { h < REGISTERS }
@@ -164,6 +167,7 @@ impl Store {
 
     /// Whether a command needs a slot that the weak table has yet to get: so does a `cadd` that
     /// meets neither `Null` nor `Present` while no slot of the table is idle, and no other command.
+    #[inline(always)]
     pub fn needs_slot(&self, caller: u32, cmd: Cmd) -> bool
         requires caller { caller < self.now.numbers.callers }
         requires valid { IsValid cmd }
@@ -173,6 +177,7 @@ impl Store {
     }
 
     // The same, with a counter that nothing reads.
+    #[inline(always)]
     fn needs_slot_on<L: Ledger>(&self, caller: u32, cmd: Cmd, blank: Blank) -> bool
         requires caller { caller < self.now.numbers.callers }
         requires valid { IsValid cmd }

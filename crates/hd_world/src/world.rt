@@ -97,6 +97,7 @@ impl World {
     /// its kind may be offered, to a `cadd` for which `needs_slot` is true a free slot of kind
     /// dependent, to `trim` the first slot of a block of its kind whose slots are all free, and to
     /// no other command anything. Out of memory changes nothing.
+    #[inline(never)]
     pub fn apply<L: Ledger>(
         &mut self,
         caller: u32,
