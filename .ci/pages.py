@@ -6,6 +6,7 @@ import re
 import subprocess
 
 from citations import TOP, antt, contract, crates, rust, text_of
+from edits import is_edit
 
 TICKED = re.compile(r"`([^`\n]*)`")
 NAME = r"[A-Za-z_][\w'-]*"
@@ -85,7 +86,7 @@ def is_in_crate(token):
         return False
     folder = f"{TOP}/crates/{crate}"
     tests = [text_of(it) for it in glob.glob(f"{folder}/src/*.rt")]
-    return os.path.isfile(f"{folder}/must-fail/{name}.edit") or antt(crate, "specs", name) is not None \
+    return is_edit(token) or antt(crate, "specs", name) is not None \
         or any(re.search(rf"\bfn {re.escape(name)}\b", it) for it in tests)
 
 
