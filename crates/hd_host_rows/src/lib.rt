@@ -1,7 +1,0 @@
-//! Tests alone: calls of a host.
-#![tactic(auto)]
-
-#[cfg(test)]
-mod host;
-#[cfg(test)]
-mod same;
