@@ -5,7 +5,7 @@ pub use Rattle.std.proofs.Common.{Bool, List, None, Option, Some, [], ap, arith,
 pub use Rattle.std.proofs.Math.ListN.{length-replicate, length-set}
 pub use Rattle.std.proofs.lemmas.Bool.{and_parts, and_right, cases_eq, cases_lt, cond-false, cond-true, eqb-false, eqb-true, false_from_ne_true, le-ltb, lt-ltb, ltb-false, ltb-true, not-true}
 pub use Rattle.std.proofs.lemmas.List.{append-nil, append_assoc, get_or-set_other, get_or-set_same, set-get_or}
-pub use Rattle.std.proofs.lemmas.Nat.Bits.{bit_at-lt, bit_at-pow_other, bit_at-pow_same, bit_at-zero, bit_at_above, bit_at_not, bit_at_ones, bit_at_or, same_from_bits_below}
+pub use Rattle.std.proofs.lemmas.Nat.Bits.{bit_at-lt, bit_at-pow_other, bit_at-pow_same, bit_at-zero, bit_at_above, bit_at_not, bit_at_or, same_from_bits_below}
 pub use Rattle.std.specs.Int.{bit_at, bit_not, w64}
 pub use Rattle.std.specs.Prelude.{IsNone, nat_lt, ◌&&◌, ◌||◌, ◌↔◌}
 pub use Rattle.atomic_table.proofs.Lists.{at_longer, at_set, set_else}
@@ -19,7 +19,6 @@ pub use Rattle.hd_custody.specs.{Views.Acting, Views.Continues, Views.Follows, V
 pub use Rattle.hd_custody.specs.declared.view.View.{View}
 pub use Rattle.hd_custody.specs.declared.words.TheConstants.{BANK, CACHE, EXTRA_DATA, FIRST_MASK, FIRST_QUICK, WORDS}
 pub use Rattle.hd_mask.specs.Mask.{set_bits}
-pub use Rattle.hd_model.specs.Kinds.{kind_number}
 pub use Rattle.hd_model.specs.Run.{part_of}
 pub use Rattle.hd_model.specs.State.{Numbers}
 pub use Rattle.hd_model.specs.declared.data.Entry.{Entry}

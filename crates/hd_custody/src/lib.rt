@@ -30,8 +30,6 @@ mod laws;
 mod plays;
 mod rule;
 mod steps;
-#[cfg(test)]
-mod tests;
 mod types;
 mod view;
 mod waiting;

@@ -14,7 +14,7 @@ use std::sync::atomic::{AtomicU64, Ordering};
 // nanoseconds where nobody has the gate; a turn of the gate one or two microseconds, since its
 // cache lines go over, so fewer turns are faster, and a caller comes back rarely at first. Each
 // number was chosen by measuring with four, two and one processors: see benches/README.md.
-pub(crate) const LOOKS: u32 = 4000;
+const LOOKS: u32 = 4000;
 
 // The first of these looks, after which the pauses double. Then the caller asks.
 const PATIENT_LOOKS: u32 = 38;
@@ -44,7 +44,7 @@ impl WaitWords {
         }
     }
 
-    pub(crate) fn is_asked(&self) -> bool {
+    fn is_asked(&self) -> bool {
         self.asked.load(Ordering::SeqCst) != 0
     }
 

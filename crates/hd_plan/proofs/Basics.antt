@@ -9,14 +9,13 @@ pub use Rattle.std.proofs.lemmas.List.Sums.{length-filter, sum_by-cons, sum_by_p
 pub use Rattle.std.specs.FinMap.{FinMap, entries, entries_sorted, find, get, get-entries, insert, is_sorted, len, remove, values}
 pub use Rattle.std.specs.Ordering.{eq_by_cmp, is_lt, nat_cmp}
 pub use Rattle.std.specs.Prelude.{AllPairs, Contains, IsSome, count_by, filter, is_some, max, nat_eq, nat_le, nat_lt, option_map, slice_index, slice_index_or, sum_by, unwrap_or, ◌↔◌}
-pub use Rattle.hd_heap.proofs.HeapValues.{fields_placed, get_other, get_same, has_with_object, same_address}
+pub use Rattle.hd_heap.proofs.HeapValues.{fields_placed, get_other, get_same, same_address}
 pub use Rattle.hd_heap.proofs.RegionReads.{has-get}
-pub use Rattle.hd_heap.specs.Calls.{HasCondemned, IsExtent, IsFirstIn, IsFirstObject, IsMade, IsNext, IsRemoved, IsWalk, NamesBelow, empty_heap, forwarded, is_after, is_condemned, is_old_carded, stored, with_card, with_field, with_fresh, with_generation, with_moved, with_object, with_put, without_region}
+pub use Rattle.hd_heap.specs.Calls.{HasCondemned, IsExtent, IsFirstIn, IsFirstObject, IsNext, IsRemoved, IsWalk, NamesBelow, forwarded, is_after, is_condemned, is_old_carded, with_card, with_fresh, with_generation, with_moved, with_object, without_region}
 pub use Rattle.hd_heap.specs.Runs.{IsRun, MayRun, goes_with}
 pub use Rattle.hd_heap.specs.Sound.{IsSound}
 pub use Rattle.hd_heap.specs.declared.condemned.Extent.{Extent}
 pub use Rattle.hd_heap.specs.declared.condemned.ObjectHeader.{ObjectHeader}
-pub use Rattle.hd_mark.specs.Marks.{IsSettledMarks, promoted_in}
 pub use Rattle.hd_model.proofs.MapEntries.{both, counts_keys, found_first, found_later, less}
 pub use Rattle.hd_model.proofs.MemberWeights.{lighter}
 pub use Rattle.hd_model.proofs.Members.{first_in, later_in, mapped_from, mapped_in, member_at, member_cases, member_same, not_in_none, pairs_cons, pairs_first, pairs_none, pairs_passing, pairs_rest, passing_from, passing_in}

@@ -17,6 +17,5 @@ pub mod RegionList
 pub mod PackedRegions
 pub mod CondemnedAmounts
 pub mod LaidPlan
-pub mod RegionsInUse
 pub mod CommitClears
 pub mod RegionLay

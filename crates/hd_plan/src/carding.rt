@@ -135,8 +135,8 @@ fn next_in_card(heap: &Heap, at: Addr) -> Option<Addr>
     }
 }
 
-/// Whether an object has a field to one of a younger generation.
-pub(crate) fn names_younger(heap: &Heap, at: Addr) -> bool
+// Whether an object has a field to one of a younger generation.
+fn names_younger(heap: &Heap, at: Addr) -> bool
     requires object { has_object heap.now at ≡ true }
     requires fields { HasClosedFields (object_at heap.now) }
     ensures { (result ≡ true) ↔ NamesYounger heap.now at }

@@ -2,8 +2,6 @@
 #![tactic(auto)]
 
 mod carding;
-#[cfg(test)]
-mod commit_tests;
 mod commits;
 mod copying;
 mod cursors;
@@ -14,8 +12,6 @@ mod moves;
 mod plan;
 mod releasing;
 mod rewriting;
-#[cfg(test)]
-mod tests;
 
 pub use commits::commit;
 pub use moves::{Condemned, Fate, Move};
