@@ -1,25 +1,9 @@
--- What private clauses alone cite.
-use Rattle.std.specs.Prelude.{◌≡◌, ◌≢◌, ℕ, ◌<◌, ◌≤◌, true, List, Some, None, slice_index_or, Bool, false}
+-- What private clauses alone cite: what the checks of a state find before a collection.
+use Rattle.std.specs.Prelude.{◌≡◌, ◌≢◌, ℕ, ◌<◌, ◌≤◌, true, List, Some, None, slice_index_or}
 use Rattle.hd_model.specs.{declared.data.Addr.Addr, Scene.fields_at, Scene.generation_at, Ages.age_of}
-use Rattle.hd_model.specs.State.{Handle, secondary_of, Extra}
+use Rattle.hd_model.specs.State.{Handle, secondary_of}
 use Rattle.hd_model.specs.Heap.{Heap, has_object, object_at, id_at}
-use Rattle.hd_model.specs.Table.{Table, row_at, fits}
-use Rattle.hd_seg.specs.{declared.row.Row.Row, declared.row.BlockKind.BlockKind}
-use Rattle.hd_commands.specs.Handles.{extra_of}
-use Rattle.hd_seg.specs.declared.row.BlockKind.TheVariants as block
-
--- what a row references are numbers of objects
-pub record NamesBelow (size : ℕ) (row : Row) : Type 0 where
-  pub target : (x : Addr) → row.target ≡ Some x → x.0 < size
-  pub secondary : (x : Addr) → secondary_of (extra_of row.extra) ≡ Some x → x.0 < size
-
--- whether an extra fits the kind of a block
-abbrev pub fits_by : BlockKind → Extra Addr → Bool
-fits_by block.Unused e = false
-fits_by (block.Rows k) e = fits k e
-fits_by block.Extras e = false
-
--- ---- what the checks of a state find before a collection
+use Rattle.hd_model.specs.Table.{Table, row_at}
 
 -- all fields of an object are null, and all of all objects
 abbrev pub HasNullFields : Heap → Addr → Type 0
@@ -43,10 +27,3 @@ pub record IsPlain (h : Heap) (ages : List ℕ) (slot : ℕ) (row : Handle Addr)
 
 abbrev pub ArePlain : Heap → Table → List ℕ → Type 0
 ArePlain h t ages = (slot : ℕ) (row : Handle Addr) → row_at t slot ≡ Some row → IsPlain h ages slot row
-
--- ---- what a row references
-
--- the target and the secondary of a row are each null or an object
-pub record NamesIn (h : Heap) (row : Row) : Type 0 where
-  pub target : (x : Addr) → row.target ≡ Some x → has_object h x ≡ true
-  pub secondary : (x : Addr) → secondary_of (extra_of row.extra) ≡ Some x → has_object h x ≡ true

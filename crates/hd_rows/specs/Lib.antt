@@ -1,3 +1,1 @@
-pub mod Toy
-pub mod Mirror
 pub mod Inside

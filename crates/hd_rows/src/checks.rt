@@ -4,8 +4,6 @@ ghost use Rattle.hd_model.specs.declared.data.Addr.{Addr};
 ghost use Rattle.hd_model.specs.State.{Handle, secondary_of};
 ghost use Rattle.hd_commands.specs.Handles.{extra_of};
 ghost use Rattle.hd_model.specs.Heap.{has_object, object_at, id_at};
-ghost use Rattle.hd_model.specs.Names.{HasClosedFields};
-ghost use Rattle.hd_model.specs.Scene.{IsField};
 ghost use Rattle.hd_model.specs.Table.{row_at};
 ghost use Rattle.hd_rows.specs.Inside.{HasNullFields, IsBare, IsAlone, AreAlone, IsPlain, ArePlain};
 
@@ -48,36 +46,6 @@ pub(crate) fn is_bare(heap: &Heap) -> bool
     let mut after = None;
     while let Some(at) = heap.next(after) {
         if !names_nothing(heap, at) {
-            return false;
-        }
-        after = Some(at);
-    }
-    true
-}
-
-// Whether the fields of an object reference objects alone.
-fn names_objects(heap: &Heap, at: Addr) -> bool
-    requires { has_object heap.now at ≡ true }
-    ensures { result ≡ true → (y : Addr) → IsField (object_at heap.now) at y →
-        has_object heap.now y ≡ true }
-{
-    for i in 0..heap.fields(at) {
-        if let Some(y) = heap.load(at, i) {
-            if !is_object_at(heap, y) {
-                return false;
-            }
-        }
-    }
-    true
-}
-
-/// Whether all fields reference objects alone.
-pub(crate) fn is_closed(heap: &Heap) -> bool
-    ensures { result ≡ true → HasClosedFields (object_at heap.now) }
-{
-    let mut after = None;
-    while let Some(at) = heap.next(after) {
-        if !names_objects(heap, at) {
             return false;
         }
         after = Some(at);

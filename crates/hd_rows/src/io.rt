@@ -1,8 +1,8 @@
-// What no clause says: the calls succeed while memory lasts. Faults in mid-stream are reported.
+// Calls of readers and writers that fail, of which no clause says how many there are.
 use crate::same::{same, same_at};
 use hd_io::{
-    Failed, MemorySink, MemorySource, NoPace, Pace, ReadFault, Sink, Source, StdSink, StdSource,
-    StillSink, StillSource, read_all, write_all,
+    Failed, MemorySink, MemorySource, ReadFault, Sink, Source, StdSink, StdSource, read_all,
+    write_all,
 };
 use std::alloc::Global;
 use std::io;
@@ -63,25 +63,6 @@ fn writes_all<K: Sink>(rt: &impl Abort, sink: &mut K, table: &[(&[u8], Result<()
     }
 }
 
-// What a sink in memory states.
-fn states(rt: &impl Abort, sink: &MemorySink, want: Option<&[u8]>) {
-    same(rt, sink.written(), want);
-}
-
-#[test]
-fn all_is_read_up_to_the_limit(rt: HostRuntime) -> Result<(), Fail> {
-    let alloc = rt.alloc();
-    let all = Ok(b"abc".as_slice());
-    let too_long = Err(ReadFault::TooLong);
-    for (most, want) in [(4, all), (3, all), (2, too_long), (0, too_long)] {
-        let mut source = source_of(alloc, b"abc", &[])?;
-        reads_all(&rt, alloc, &mut source, most, want);
-    }
-    let mut nothing = source_of(alloc, &[], &[])?;
-    reads_all(&rt, alloc, &mut nothing, 0, Ok(&[]));
-    Ok(())
-}
-
 #[test]
 fn a_read_fails_in_mid_stream(rt: HostRuntime) -> Result<(), Fail> {
     let alloc = rt.alloc();
@@ -96,19 +77,6 @@ fn a_read_fails_in_mid_stream(rt: HostRuntime) -> Result<(), Fail> {
 }
 
 #[test]
-fn a_read_takes_what_fits(rt: HostRuntime) -> Result<(), Fail> {
-    let mut source = source_of(rt.alloc(), b"abc", &[2])?;
-    let table = [
-        (2, Ok(2), [b'a', b'b', 0, 0]),
-        (2, Err(Failed), [0; 4]),
-        (2, Ok(1), [b'c', 0, 0, 0]),
-        (2, Ok(0), [0; 4]),
-    ];
-    reads(&rt, &mut source, &table);
-    Ok(())
-}
-
-#[test]
 fn a_write_fails_in_mid_stream(rt: HostRuntime) -> Result<(), Fail> {
     let mut sink = sink_of(rt.alloc(), 6, &[2])?;
     let table: [(&[u8], Result<(), Failed>); 4] = [
@@ -118,91 +86,7 @@ fn a_write_fails_in_mid_stream(rt: HostRuntime) -> Result<(), Fail> {
         (b"", Ok(())),
     ];
     writes_all(&rt, &mut sink, &table);
-    states(&rt, &sink, Some(b"abef"));
-    Ok(())
-}
-
-#[test]
-fn what_has_no_room_is_stated_no_more(rt: HostRuntime) -> Result<(), Fail> {
-    let mut sink = sink_of(rt.alloc(), 3, &[])?;
-    let table: [(&[u8], usize, Option<&[u8]>); 3] = [
-        (b"abc", 3, Some(b"abc")),
-        (b"d", 1, None),
-        (b"e", 1, None),
-    ];
-    for (piece, count, stated) in table {
-        writes(&rt, &mut sink, &[(piece, Ok(count))]);
-        states(&rt, &sink, stated);
-    }
-    Ok(())
-}
-
-#[test]
-fn a_read_gives_at_most_what_was_set(rt: HostRuntime) -> Result<(), Fail> {
-    let alloc = rt.alloc();
-    let mut source = source_of(alloc, b"abcde", &[2])?;
-    source.set_most(2);
-    let table = [(4, Ok(2), [b'a', b'b', 0, 0]), (4, Err(Failed), [0; 4])];
-    reads(&rt, &mut source, &table);
-    source.set_most(1);
-    reads_all(&rt, alloc, &mut source, 3, Ok(b"cde"));
-    Ok(())
-}
-
-#[test]
-fn a_write_takes_at_most_what_was_set(rt: HostRuntime) -> Result<(), Fail> {
-    let mut sink = sink_of(rt.alloc(), 5, &[2])?;
-    sink.set_most(2);
-    writes(&rt, &mut sink, &[(b"abc", Ok(2)), (b"c", Err(Failed))]);
-    sink.set_most(1);
-    writes_all(&rt, &mut sink, &[(b"cd", Ok(()))]);
-    states(&rt, &sink, Some(b"abcd"));
-    // Two bytes where one has room: neither is kept.
-    sink.set_most(2);
-    writes(&rt, &mut sink, &[(b"efg", Ok(2))]);
-    states(&rt, &sink, None);
-    Ok(())
-}
-
-#[test]
-fn a_source_that_never_fails_gives_all(rt: HostRuntime) -> Result<(), Fail> {
-    let alloc = rt.alloc();
-    let mut source = StillSource::open(alloc, b"abc")?;
-    reads(&rt, &mut source, &[(2, Ok(2), [b'a', b'b', 0, 0])]);
-    reads_all(&rt, alloc, &mut source, 1, Ok(b"c"));
-    Ok(())
-}
-
-#[test]
-fn a_sink_that_never_fails_takes_all(rt: HostRuntime) -> Result<(), Fail> {
-    let mut sink = StillSink::open(rt.alloc(), 4)?;
-    writes_all(&rt, &mut sink, &[(b"abc", Ok(()))]);
-    same(&rt, sink.written(), Some(b"abc".as_slice()));
-    writes(&rt, &mut sink, &[(b"de", Ok(2))]);
-    same(&rt, sink.written(), None);
-    Ok(())
-}
-
-#[test]
-fn readers_and_writers_of_std_serve(rt: HostRuntime) -> Result<(), Fail> {
-    let alloc = rt.alloc();
-    let mut source = StdSource::over(b"abcde".as_slice());
-    for want in [b"abcde".as_slice(), b"".as_slice()] {
-        reads_all(&rt, alloc, &mut source, 5, Ok(want));
-    }
-    let mut bytes = Vec::new(alloc);
-    let mut sink = StdSink::over(&mut bytes);
-    writes_all(&rt, &mut sink, &[(b"ab", Ok(())), (b"cd", Ok(()))]);
-    same(&rt, bytes.as_slice(), b"abcd".as_slice());
-    Ok(())
-}
-
-#[test]
-fn a_writer_that_takes_no_more_is_a_fault(rt: HostRuntime) -> Result<(), Fail> {
-    let mut room = [0; 3];
-    let mut sink = StdSink::over(room.as_mut_slice());
-    writes_all(&rt, &mut sink, &[(b"abcd", Err(Failed))]);
-    same(&rt, room.as_slice(), b"abc".as_slice());
+    same(&rt, sink.written(), Some(b"abef".as_slice()));
     Ok(())
 }
 
@@ -267,19 +151,4 @@ fn a_failed_write_is_not_tried_again(rt: HostRuntime) {
     ];
     writes(&rt, &mut sink, &table);
     same(&rt, writer.calls, 3);
-}
-
-// How many commands a caller at this pace has come to.
-fn commands_begun<P: Pace>(pace: &P, commands: u64) -> u64 {
-    let mut begun = 0;
-    for step in 0..commands {
-        pace.at(1, step + 1);
-        begun = step + 1;
-    }
-    begun
-}
-
-#[test]
-fn no_pace_holds_nobody_back(rt: HostRuntime) {
-    same(&rt, commands_begun(&NoPace, 3), 3);
 }

@@ -1,0 +1,98 @@
+// Callers of `run` and `load` that are held until all have come.
+use crate::audits::read;
+use crate::row::ROOM;
+use crate::same::same;
+use hd_io::{MemorySink, Pace};
+use hd_run::{load, run};
+use hd_script::Scripts;
+use std::alloc::Global;
+use std::sync::Wait;
+use std::sync::atomic::{AtomicU64, Ordering};
+use std::test::Fail;
+use std::thread::Threads;
+
+// Holds each of some callers before its second command until all have come to their own.
+#[derive(Drop)]
+struct Meeting {
+    callers: u64,
+    came: AtomicU64,
+    missed: AtomicU64,
+}
+
+// How often a caller looks for the others.
+const TURNS: u64 = 1_000_000_000;
+
+impl Meeting {
+    fn of(callers: u64) -> Meeting {
+        Meeting {
+            callers,
+            came: AtomicU64::new(0),
+            missed: AtomicU64::new(0),
+        }
+    }
+
+    // Whether all came, and none went on without the others.
+    fn met(&self) -> bool {
+        self.came.load(Ordering::SeqCst) == self.callers && self.missed.load(Ordering::SeqCst) == 0
+    }
+}
+
+impl Pace for Meeting {
+    fn at(&self, _caller: u32, step: u64) {
+        if step != 2 {
+            return;
+        }
+        self.came.fetch_add(1, Ordering::SeqCst);
+        for _ in 0..TURNS {
+            if self.came.load(Ordering::SeqCst) == self.callers {
+                return;
+            }
+        }
+        self.missed.store(1, Ordering::SeqCst);
+    }
+}
+
+// The statuses of `run` and of `load`, without what they promise.
+fn run_status<R: Threads + Wait + Sync>(
+    rt: &R,
+    alloc: Global,
+    scripts: &Scripts,
+    sink: &mut MemorySink,
+    pace: &Meeting,
+) -> u8 {
+    run(rt, alloc, scripts, 1_000, 8, false, sink, pace).status
+}
+
+fn load_status<R: Threads + Wait + Sync>(
+    rt: &R,
+    alloc: Global,
+    sink: &mut MemorySink,
+    pace: &Meeting,
+) -> u8 {
+    load(rt, alloc, 1, sink, pace).status
+}
+
+#[test]
+fn two_callers_meet(rt: HostRuntime) -> Result<(), Fail> {
+    let alloc = rt.alloc();
+    let scripts = read(
+        &rt,
+        alloc,
+        b"new r0 0\nread r0\ncaller 1\nnew r0 0\nread r0\n",
+    )?;
+    let mut sink = MemorySink::open(alloc, ROOM, &[])?;
+    let pace = Meeting::of(2);
+    same(&rt, run_status(&rt, alloc, &scripts, &mut sink, &pace), 0);
+    assert!(rt; pace.met());
+    Ok(())
+}
+
+#[test]
+fn the_callers_of_a_load_meet(rt: HostRuntime) -> Result<(), Fail> {
+    let alloc = rt.alloc();
+    let mut sink = MemorySink::open(alloc, ROOM, &[])?;
+    let pace = Meeting::of(4);
+    same(&rt, load_status(&rt, alloc, &mut sink, &pace), 0);
+    assert!(rt; pace.met());
+    Ok(())
+}

@@ -1,0 +1,225 @@
+// Reads and writes that fail or move few bytes, the limits of a script, and long runs.
+use crate::row::{ROOM, Row, comes_to, fails, lines, status_of, streams};
+use crate::same::same;
+use hd_io::{StillSink, StillSource};
+use std::alloc::{AllocError, Global};
+use std::process::Abort;
+use std::sync::Wait;
+use std::test::Fail;
+use std::thread::Threads;
+
+/// A host that uses all kinds: a service in a static, a pinned buffer, a weak cache entry, and a
+/// listener that is finalized, with data attached to it.
+pub(crate) const HOST: &str =
+    "# host;new r0 4;sput 0 r0;new r1 16;val r1 4096;hnew h0 pinned r1;new r2 0;set r0 0 r2;\
+     hnew h1 short r2;new r3 1 fin;new r4 0;hnew h2 dep r3 r4;hnew h3 long r3;drop r0;\
+     drop r1;drop r2;drop r3;drop r4;collect 0;final r5;hdep r6 h2;drop r5;drop r6;\
+     sget r0 0;set r0 0 r15;collect 2;hget r7 h0;read r7;";
+
+// What the host writes.
+const HOST_TEXT: &str =
+    "0 1 obj 0.1;0 2 ok;0 3 obj 0.2;0 4 ok;0 5 ok;0 6 obj 0.3;0 7 ok;0 8 ok;0 9 obj 0.4;\
+     0 10 obj 0.5;0 11 ok;0 12 ok;0 13 ok;0 14 ok;0 15 ok;0 16 ok;0 17 ok;\
+     0 18 kept 5 removed 0 short 0 long 0 dep 0 revived 1;0 19 obj 0.4;0 20 obj 0.5;0 21 ok;\
+     0 22 ok;0 23 obj 0.1;0 24 ok;0 25 kept 2 removed 3 short 1 long 1 dep 1 revived 0;\
+     0 26 obj 0.2;0 27 value 4096;end handles 4 objects 2 collections 2;";
+
+// The host's lines, its last one among them: each is a write.
+const HOST_LINES: u32 = 28;
+
+// The room for the lines of the longest script, in bytes.
+const LONG_ROOM: u32 = 2_000_000;
+
+// The first lines of a text, or all where it has no more.
+fn first_lines(text: &[u8], lines: u32) -> &[u8] {
+    let mut left = lines;
+    for (at, byte) in text.iter().enumerate() {
+        if left == 0 {
+            return &text[..at];
+        }
+        if *byte == b'\n' {
+            left -= 1;
+        }
+    }
+    text
+}
+
+// Runs the host, of which one write fails: the lines before it are written.
+fn host_fails_at<R>(rt: &R, input: &[u8], text: &[u8], number: u32) -> Result<(), Fail>
+where
+    R: Abort + AllocGlobal + Threads + Wait + Sync,
+{
+    let mut ends = streams(rt.alloc(), input, &[], &[number])?;
+    let written = first_lines(text, number.saturating_sub(1));
+    comes_to(rt, &["solo"], &mut ends, 5, written)
+}
+
+#[test]
+fn each_write_of_a_run_fails_in_turn(rt: HostRuntime) -> Result<(), Fail> {
+    let (input, text) = (lines(rt.alloc(), HOST)?, lines(rt.alloc(), HOST_TEXT)?);
+    for number in 1..=HOST_LINES {
+        host_fails_at(&rt, &input, &text, number)?;
+    }
+    Ok(())
+}
+
+#[test]
+fn a_host_runs_by_single_bytes(rt: HostRuntime) -> Result<(), Fail> {
+    let (input, text) = (lines(rt.alloc(), HOST)?, lines(rt.alloc(), HOST_TEXT)?);
+    let mut ends = streams(rt.alloc(), &input, &[], &[])?;
+    ends.0.set_most(1);
+    ends.1.set_most(1);
+    comes_to(&rt, &["solo"], &mut ends, 0, &text)
+}
+
+// Rows with the reads and the writes that fail.
+const FAILING: [(Row, &[u32], &[u32]); 7] = [
+    ((&["solo"], HOST, 4, "fault read;"), &[1], &[]),
+    (
+        (
+            &["solo"],
+            "new r0 2;hnew h0 strong r0;drop r0;collect 2;hget r1 h0;",
+            4,
+            "fault read;",
+        ),
+        &[2],
+        &[],
+    ),
+    ((&["solo"], "", 5, ""), &[], &[1]),
+    (
+        (&["solo"], "new r0 0;hnew h0 strong r0;hgett r0 h0;", 5, ""),
+        &[],
+        &[1],
+    ),
+    (
+        (
+            &["roots"],
+            "new r0 0;hnew h0 strong r0;",
+            5,
+            "0 1 obj 0.1;0 2 ok;end handles 1 objects 1 collections 0;",
+        ),
+        &[],
+        &[4],
+    ),
+    ((&["audit"], "=;", 4, "fault read;"), &[1], &[]),
+    ((&["audit"], "=;", 5, ""), &[], &[1]),
+];
+
+#[test]
+fn reads_and_writes_fail(rt: HostRuntime) -> Result<(), Fail> {
+    for (row, unread, unwritten) in FAILING {
+        fails(&rt, row, unread, unwritten)?;
+    }
+    Ok(())
+}
+
+// Runs a script over ends that never fail, and compares what comes of it.
+fn is_still<R>(rt: &R, words: &[&str], input: &[u8], status: u8, text: &[u8]) -> Result<(), Fail>
+where
+    R: Abort + AllocGlobal + Threads + Wait + Sync,
+{
+    let mut source = StillSource::open(rt.alloc(), input)?;
+    let mut sink = StillSink::open(rt.alloc(), LONG_ROOM)?;
+    same(rt, status_of(rt, words, &mut source, &mut sink)?, status);
+    same(rt, sink.written(), Some(text));
+    Ok(())
+}
+
+// What a script of `count` commands writes, each of which replies that it is done, and an end.
+fn done(alloc: Global, count: u32, end: &str) -> Result<Vec<u8>, AllocError> {
+    let mut bytes = Vec::new(alloc);
+    for number in 0..count {
+        let line = format!(in alloc; "0 {} ok\n", number + 1)?;
+        bytes.extend_from_slice(line.as_bytes())?;
+    }
+    bytes.extend_from_slice(end.as_bytes())?;
+    Ok(bytes)
+}
+
+// The end of a run that leaves nothing.
+const NOTHING: &str = "end handles 0 objects 0 collections 0\n";
+
+// Scripts of a piece again and again: words, the piece, how often, the commands that are done, and
+// the end of the text; or a fault, whose text is all that is written.
+type Long = (
+    &'static [&'static str],
+    &'static str,
+    usize,
+    u32,
+    u8,
+    &'static str,
+);
+
+const LONG: [Long; 5] = [
+    (&["solo"], "drop r0\n", 100_000, 100_000, 0, NOTHING),
+    (&["solo"], "drop r0\n", 100_001, 0, 3, "fault line 100001\n"),
+    (&["solo"], "#", 8_388_608, 0, 0, NOTHING),
+    (&["solo"], "#", 8_388_609, 0, 3, "fault size\n"),
+    (
+        &["solo", "--blocks", "1"],
+        "hnew h0 strong r0\n",
+        65,
+        64,
+        0,
+        "0 65 tablefull 1\nend handles 64 objects 0 collections 0\n",
+    ),
+];
+
+// Does a long script.
+fn is_long<R>(rt: &R, long: Long) -> Result<(), Fail>
+where
+    R: Abort + AllocGlobal + Threads + Wait + Sync,
+{
+    let (words, piece, times, count, status, end) = long;
+    let input = piece.as_bytes().repeat(rt.alloc(), times)?;
+    let text = done(rt.alloc(), count, end)?;
+    is_still(rt, words, &input, status, &text)
+}
+
+#[test]
+fn ends_that_never_fail_take_the_largest_scripts(rt: HostRuntime) -> Result<(), Fail> {
+    let (input, text) = (lines(rt.alloc(), HOST)?, lines(rt.alloc(), HOST_TEXT)?);
+    is_still(&rt, &["solo"], &input, 0, &text)?;
+    for long in LONG {
+        is_long(&rt, long)?;
+    }
+    Ok(())
+}
+
+// Lines of two callers, each this number of times.
+fn twice(alloc: Global, lines: &str, times: usize) -> Result<Vec<u8>, AllocError> {
+    let mut script = b"caller 0\n".to_vec(alloc)?;
+    let piece = lines.as_bytes().repeat(alloc, times)?;
+    script.extend_from_slice(&piece)?;
+    script.extend_from_slice(b"caller 1\n")?;
+    script.extend_from_slice(&piece)?;
+    Ok(script)
+}
+
+// Callers in threads do a script, where writes of these numbers fail: the status, how many bytes
+// are written, and how they end.
+fn pair_comes_to<R>(
+    rt: &R,
+    script: &[u8],
+    unwritten: &[u32],
+    status: u8,
+    came: (usize, &str),
+) -> Result<(), Fail>
+where
+    R: Abort + AllocGlobal + Threads + Wait + Sync,
+{
+    let (mut source, mut sink) = streams(rt.alloc(), script, &[], unwritten)?;
+    same(rt, status_of(rt, &["run"], &mut source, &mut sink)?, status);
+    let written = sink.written().ok_or("overrun")?;
+    same(rt, written.len(), came.0);
+    assert!(rt; written.ends_with(came.1.as_bytes()));
+    Ok(())
+}
+
+// Lines are numbered up to 2,000 for each of the two callers, in 18,893 bytes.
+#[test]
+fn two_callers_do_all_that_is_theirs(rt: HostRuntime) -> Result<(), Fail> {
+    let script = twice(rt.alloc(), "hnew h0 strong r0\nhfree h0\n", 1_000)?;
+    pair_comes_to(&rt, &script, &[], 0, (37_824, NOTHING))?;
+    pair_comes_to(&rt, &script, &[2], 5, (7, " 1 ok\n"))
+}
