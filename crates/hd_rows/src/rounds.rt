@@ -4,7 +4,7 @@ ghost use Rattle.hd_plan.specs.Plan.{HasNoEmptyRegion};
 use crate::same::same;
 use crate::state::{State, collected, due, first_root, handle, new, open, set};
 use hd_model::limits::{CLUMPS, FIELDS};
-use hd_model::{Kind, Memory};
+use hd_model::{Kind, Memory, Slot};
 use std::alloc::Global;
 use std::process::Abort;
 use std::test::Fail;
@@ -46,20 +46,56 @@ fn steps_of(rt: &impl Abort, alloc: Global, s: &mut State, n: u8) -> Result<u32,
     Ok(2 * clumps)
 }
 
+// What is made before a collection.
+#[derive(Clone, Copy)]
+enum Made {
+    Object,
+    Handle,
+    Target,
+    Nothing,
+}
+
+// Makes an object that a register references, a handle of it, or a younger target of the handle.
+fn make(rt: &impl Abort, s: &mut State, made: Made, slot: Option<Slot>) -> Option<Slot>
+    requires full { HasNoEmptyRegion s.old.heap }
+    requires clumps { length s.old.ages ≡ CLUMPS * s.old.seg.blocks }
+    ensures full { HasNoEmptyRegion s.new.heap }
+    ensures clumps { length s.new.ages ≡ CLUMPS * s.new.seg.blocks }
+{
+    match made {
+        Made::Object => {
+            let _ = new(rt, s, 1, 2, true);
+            None
+        }
+        Made::Handle => {
+            let old = first_root(rt, s);
+            Some(handle(rt, s, Kind::Strong, old))
+        }
+        Made::Target => {
+            let young = new(rt, s, 2, 2, false);
+            if let Some(slot) = slot {
+                set(rt, s, slot, Some(young));
+            }
+            slot
+        }
+        Made::Nothing => slot,
+    }
+}
+
 #[test]
 fn handles_of_older_objects_are_not_visited(rt: HostRuntime) -> Result<(), Fail> {
-    let alloc = rt.alloc();
-    let mut s = open(alloc)?;
-    let _ = new(&rt, &mut s, 1, 2, true);
-    same(&rt, steps_of(&rt, alloc, &mut s, 0)?, 0);
-    same(&rt, steps_of(&rt, alloc, &mut s, 1)?, 0);
-    let old = first_root(&rt, &s);
-    let slot = handle(&rt, &mut s, Kind::Strong, old);
-    same(&rt, steps_of(&rt, alloc, &mut s, 0)?, 0);
-    let young = new(&rt, &mut s, 2, 2, false);
-    set(&rt, &mut s, slot, Some(young));
-    same(&rt, steps_of(&rt, alloc, &mut s, 0)?, 2);
-    same(&rt, steps_of(&rt, alloc, &mut s, 0)?, 0);
-    same(&rt, steps_of(&rt, alloc, &mut s, 1)?, 2);
+    let mut s = open(rt.alloc())?;
+    let mut slot = None;
+    for (made, n, steps) in [
+        (Made::Object, 0, 0),
+        (Made::Nothing, 1, 0),
+        (Made::Handle, 0, 0),
+        (Made::Target, 0, 2),
+        (Made::Nothing, 0, 0),
+        (Made::Nothing, 1, 2),
+    ] {
+        slot = make(&rt, &mut s, made, slot);
+        same(&rt, steps_of(&rt, rt.alloc(), &mut s, n)?, steps);
+    }
     Ok(())
 }
