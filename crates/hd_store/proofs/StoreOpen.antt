@@ -1,6 +1,7 @@
 -- A store at first: nothing is made, and each register, static and entry of the board is null or empty.
-use Rattle.hd_store.proofs.StoreWords.{Addr, Contains, Handle, Id, IsSome, IsStored, List, None, Object, Option, Parts, Placed, Region, Some, T, [], ap, arith, callers_of, cells_of, empty, empty_heap, empty_table, entries, entry_named, fields_in, from_entries, get, get-empty, id_at, is_in_use, is_none, is_some, len-empty, len-entries, length, length-replicate, map, names_of, nat_cmp, not_in_none, numbers_of, object_at, object_in, objects_by_id, one_dependent, option_map, read_object, refl, region_generation, region_of, rename_handle, replicate, rest_of, rows_by_id, rows_of, start_of, state_of, subst, sum_by, sym, true, unheld, values, weak_by_id, ℕ, ◌*◌, ◌+◌, ◌∙◌, ◌∷◌, ◌≡◌, ◌≤◌}
+use Rattle.hd_store.proofs.StoreWords.{Addr, Contains, Handle, Id, IsSome, IsStored, List, None, Object, Option, Parts, Placed, Region, Some, T, [], ap, arith, callers_of, cells_of, empty, empty_heap, empty_table, entries, entry_named, fields_in, from_entries, get, get-empty, id_at, is_in_use, is_none, is_some, len-empty, len-entries, length, length-replicate, machine_of, map, names_of, nat_cmp, not_in_none, numbers_of, object_at, object_in, objects_by_id, one_dependent, option_map, read_object, refl, region_generation, region_of, rename_handle, replicate, rest_of, rows_by_id, rows_of, start_of, state_of, subst, sum_by, sym, true, unheld, values, weak_by_id, ℕ, ◌*◌, ◌+◌, ◌∙◌, ◌∷◌, ◌≡◌, ◌≤◌}
 use Rattle.hd_store.proofs.{EntryMaps.same_numbers, EntryReadings.none_kept, EntryReadings.unheld-get, IdentityReadings.no_some, StoreNew.no_names, StoreNew.nothing_mapped, RegisterRoots.rows-first, RegisterRoots.rest-first}
+use Rattle.hd_store.specs.Inside.{IsFirst}
 use Rattle.hd_model.specs.declared.limits.TheConstants.{BLOCKS, HEAP, REGISTERS}
 
 nothing_at : {A : Type 0} (q : ℕ) (x : A) → get (empty {X = A} {R = nat_cmp}) q ≡ Some x → ⊥
@@ -94,7 +95,7 @@ module _ (limit blocks callers : ℕ) where
     same_blocks = refl;
   }
 
-  pub names-opened : names_of (empty_heap limit) ≡ empty
+  names-opened : names_of (empty_heap limit) ≡ empty
   unfolding names_of
   names-opened =
       ap (λ (es : List (ℕ × Placed)). from_entries {R = nat_cmp} (map (λ e. (e.0, e.1.id)) es)) no_entries
@@ -148,7 +149,7 @@ module _ (limit blocks callers : ℕ) where
       ∙ rest-first (callers_of opened) REGISTERS (REGISTERS * callers + REGISTERS) None
       (ap (λ n. REGISTERS * n + REGISTERS) (sym size))
 
-  pub state-opened : state_of opened ≡ start_of (numbers_of opened)
+  state-opened : state_of opened ≡ start_of (numbers_of opened)
   state-opened = λ i. record {
     objects = objects-opened i;
     handles = rows-opened i;
@@ -161,4 +162,16 @@ module _ (limit blocks callers : ℕ) where
     pinned = empty;
     blocks = empty;
     serials = ap (λ n. replicate n 0) (sym size) i;
+  }
+
+  numbers-opened : numbers_of opened ≡ record { heap = limit; blocks = blocks; callers = callers }
+  numbers-opened = λ i. record { heap = limit; blocks = blocks; callers = size i }
+
+  -- nothing is made in an opened store
+  pub first-opened : IsFirst (record { heap = limit; blocks = blocks; callers = callers }) (machine_of opened)
+  first-opened = record {
+    numbers = numbers-opened;
+    state = state-opened;
+    names = names-opened;
+    ages = refl;
   }

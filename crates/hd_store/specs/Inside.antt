@@ -1,13 +1,13 @@
 -- What private clauses alone cite.
-use Rattle.std.specs.Prelude.{List, ◌++◌, flat_map, map, Option, ◌≡◌, ℕ, ◌+◌, ◌*◌, ◌≤◌, length, sum_by, cond, Some, option_map, IsSome, ◌↔◌, Bool, true, false, ◌<◌, ◌^◌, None, ◌≢◌, IfSome}
+use Rattle.std.specs.Prelude.{List, ◌++◌, flat_map, map, replicate, Option, ◌≡◌, ℕ, ◌+◌, ◌*◌, ◌≤◌, length, sum_by, cond, Some, option_map, IsSome, ◌↔◌, Bool, true, false, ◌<◌, ◌^◌, None, ◌≢◌, IfSome}
 use Rattle.std.specs.{Option.option_to_list, Option.ForSome, Ordering.nat_cmp}
-use Rattle.std.specs.FinMap.{FinMap, get, len, values, insert, retain_keys}
+use Rattle.std.specs.FinMap.{FinMap, empty, get, len, values, insert, retain_keys}
 use Rattle.hd_model.specs.{declared.data.Addr.Addr, declared.data.Id.Id, declared.data.Kind.TheVariants.Dependent, Scene.Scene, Scene.IsWhole, Table.row_at, Table.fits, declared.data.Report.Report, Collect.CollectsState, declared.data.Slot.Slot, declared.data.Entry.Entry, declared.command.Cmd.Cmd, Touched.touched_by, Aging.aged_by, Valid.IsValid, Command.slot_of_key, Command.made_handle, declared.data.Kind.Kind, declared.data.Grown.Grown, declared.data.RootId.RootId, declared.data.Make.Make}
 use Rattle.hd_scan.specs.declared.gathering.Root.{Root}
 use Rattle.hd_model.specs.Kinds.{is_kind, is_paired, kind_of}
 use Rattle.hd_model.specs.Ages.{HasSoundAges, HasSoundCards, grown, age_of}
-use Rattle.hd_model.specs.declared.limits.TheConstants.{HEAP, BLOCKS, CLUMPS, REGISTERS}
-use Rattle.hd_model.specs.State.{Handle, secondary, BlockUse, handles_of, extra_data, State, last_serial, identity_of, register_of, WeakEntry, Numbers, given_of, block_of, secondary_of, IsFree, total_size}
+use Rattle.hd_model.specs.declared.limits.TheConstants.{HEAP, BLOCKS, CLUMPS, OLDEST, REGISTERS}
+use Rattle.hd_model.specs.State.{Handle, secondary, BlockUse, handles_of, extra_data, State, last_serial, identity_of, register_of, WeakEntry, Numbers, start_of, given_of, block_of, secondary_of, IsFree, total_size}
 use Rattle.hd_model.specs.Heap.{Heap, object_at, id_at, is_carded, used_of, HasIdentities, is_set}
 use Rattle.hd_plan.specs.{Plan.HasNoEmptyRegion, Commit.NeedsCard}
 use Rattle.hd_model.specs.PinnedAddresses.{is_pinned, with_pinned, MayReturn}
@@ -103,6 +103,13 @@ pub record IsStored (f : Parts) : Type 0 where
   pub tied : (slot : ℕ) (key : Option Id) → get f.weak.held slot ≡ Some key
       → IsTied f.heap f.table.rows slot key
   pub same_blocks : f.weak.blocks ≡ f.table.blocks
+
+-- a machine with these numbers in which nothing is made yet
+pub record IsFirst (n : Numbers) (m : Machine) : Type 0 where
+  pub numbers : m.numbers ≡ n
+  pub state : m.state ≡ start_of m.numbers
+  pub names : m.names ≡ empty
+  pub ages : m.ages ≡ replicate (CLUMPS * n.blocks) OLDEST
 
 -- ---- the pinned addresses that `addr` returned: a store keeps none, since each is the address of its object
 

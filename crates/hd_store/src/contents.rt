@@ -1,10 +1,12 @@
-ghost use Rattle.std.specs.Prelude.{◌≡◌, ◌+◌, ◌*◌, ◌<◌, ◌≤◌, length, replicate, true, None, IfOk};
+ghost use Rattle.std.specs.Prelude.{◌≡◌, ◌+◌, ◌*◌, ◌<◌, ◌≤◌, [], length, replicate, true, None, IfOk};
 ghost use Rattle.std.specs.FinMap.{len, empty};
-ghost use Rattle.hd_model.specs.State.{Numbers, start_of, given_of, last_serial, total_size};
+ghost use Rattle.hd_model.specs.State.{Numbers, given_of, last_serial, total_size};
 ghost use Rattle.hd_model.specs.Heap.{has_object, object_at};
+ghost use Rattle.hd_model.specs.Table.{empty_table};
+ghost use Rattle.hd_heap.specs.Calls.{empty_heap};
 ghost use Rattle.hd_model.specs.{Scene.IsField, declared.data.Addr.Addr};
 ghost use Rattle.hd_plan.specs.Plan.{HasNoEmptyRegion};
-ghost use Rattle.hd_store.specs.{Store.IsOverHeap, Store.without_free};
+ghost use Rattle.hd_store.specs.{Inside.IsFirst, Store.IsOverHeap, Store.without_free};
 
 use hd_ages::AgeMap;
 use hd_cwt::Cwt;
@@ -21,7 +23,6 @@ pub(crate) const INDEXES: usize = REGISTERS as usize;
 
 /// The contents of a store: the state of the machine, with the ages of the clumps. Objects are
 /// referenced by address.
-#[derive(Drop)]
 pub struct Contents {
     pub(crate) alloc: Global,
     pub(crate) heap: Heap,
@@ -49,6 +50,67 @@ impl Model for Contents {
     ghost invariant = { λ s. IsStored (parts s) };
 }
 
+// Not derived: what a derived one does is proved again wherever a store is let go.
+impl Drop for Contents {
+    fn drop(self) {
+        let Contents {
+            alloc: _,
+            heap: _heap,
+            table: _table,
+            ages: _ages,
+            weak: _weak,
+            queue: _queue,
+            roots: _roots,
+            handle_registers: _handle_registers,
+            board: _,
+            serials: _serials,
+        } = self;
+    }
+}
+
+// The parts that grow with the objects: the heap and the queue.
+#[inline(always)]
+fn open_objects(alloc: Global, limit: u32) -> Result<(Heap, Final), Memory>
+    ensures { IfOk result (λ made. (made.0 ≡ empty_heap limit)
+        × (made.1 ≡ record { queued = []; room = 0 })) }
+{
+    let heap = Heap::open(alloc, limit)?;
+    let queue = Final::open(alloc)?;
+    Ok((heap, queue))
+}
+
+// The parts whose size goes by the blocks: the table, the ages of its clumps and the weak table.
+#[inline(always)]
+fn open_tables(alloc: Global, blocks: u32) -> Result<(Seg, AgeMap, Cwt), Memory>
+    requires { blocks ≤ BLOCKS }
+    ensures { IfOk result (λ made. (made.0 ≡ empty_table blocks)
+        × (made.1 ≡ replicate (CLUMPS * blocks) OLDEST)
+        × (made.2 ≡ record { blocks = blocks; held = empty })) }
+{
+    let ages = AgeMap::open(alloc, blocks)?;
+    let table = Seg::open(alloc, blocks)?;
+    let weak = Cwt::open(alloc, blocks)?;
+    Ok((table, ages, weak))
+}
+
+// The parts whose size goes by the callers: what the object registers and statics reference, the
+// handle registers, and the serials.
+#[inline(always)]
+fn open_registers(
+    alloc: Global,
+    callers: u32,
+) -> Result<(Vec<Option<Addr>>, Vec<[Option<Slot>; INDEXES]>, Vec<u32>), Memory>
+    requires { callers ≤ CALLERS }
+    ensures { IfOk result (λ made. (made.0.items ≡ replicate (REGISTERS * callers + REGISTERS) None)
+        × (made.1.items ≡ replicate callers (replicate REGISTERS None))
+        × (made.2.items ≡ replicate callers 0)) }
+{
+    let roots = filled(alloc, None, REGISTERS * callers + REGISTERS)?;
+    let handle_registers = filled(alloc, [None; INDEXES], callers)?;
+    let serials = filled(alloc, 0, callers)?;
+    Ok((roots, handle_registers, serials))
+}
+
 impl Contents {
     /// The state in which nothing is made yet.
     pub(crate) fn open(
@@ -60,24 +122,23 @@ impl Contents {
         requires heap { heap ≤ HEAP }
         requires blocks { blocks ≤ BLOCKS }
         requires callers { callers ≤ CALLERS }
-        ensures numbers { let n : Numbers =
-            record { heap = heap; blocks = blocks; callers = callers } in
-            IfOk result (λ s. s.numbers ≡ n) }
-        ensures state { IfOk result (λ s. s.state ≡ start_of s.numbers) }
-        ensures names { IfOk result (λ s. s.names ≡ empty) }
-        ensures ages { IfOk result (λ s. s.ages ≡ replicate (CLUMPS * blocks) OLDEST) }
+        ensures { let n : Numbers = record { heap = heap; blocks = blocks; callers = callers } in
+            IfOk result (IsFirst n) }
     {
+        let (roots, handle_registers, serials) = open_registers(alloc, callers)?;
+        let (heap, queue) = open_objects(alloc, heap)?;
+        let (table, ages, weak) = open_tables(alloc, blocks)?;
         Ok(Contents {
             alloc,
-            heap: Heap::open(alloc, heap)?,
-            table: Seg::open(alloc, blocks)?,
-            ages: AgeMap::open(alloc, blocks)?,
-            weak: Cwt::open(alloc, blocks)?,
-            queue: Final::open(alloc)?,
-            roots: filled(alloc, None, REGISTERS * callers + REGISTERS)?,
-            handle_registers: filled(alloc, [None; INDEXES], callers)?,
+            heap,
+            table,
+            ages,
+            weak,
+            queue,
+            roots,
+            handle_registers,
             board: [None; INDEXES],
-            serials: filled(alloc, 0, callers)?,
+            serials,
         })
     }
 
