@@ -1,10 +1,11 @@
 // The commands on handles and the board.
-ghost use Rattle.std.specs.Prelude.{◌≡◌, ◌&&◌, ◌<◌, Ok, Some, true, false, cond, is_some, IfOk, IsSome, MatchResult, option_map};
+ghost use Rattle.std.specs.Prelude.{◌≡◌, ◌&&◌, ◌<◌, None, Ok, Some, true, false, cond, is_some, IfOk, IsSome, MatchResult, option_map};
 ghost use Rattle.hd_model.specs.declared.data.Kind.TheVariants as kind;
 ghost use Rattle.hd_model.specs.declared.data.Refusal.TheVariants as refusal;
-ghost use Rattle.hd_model.specs.State.{register_of, handle_at, handle_register_of, without_secondary};
+ghost use Rattle.hd_model.specs.State.{register_of, handle_at, handle_register_of, secondary as with_secondary, secondary_of, with_handle, without_secondary};
+ghost use Rattle.hd_model.specs.Ages.{lowered};
 ghost use Rattle.hd_model.specs.Aging.{is_refused, lowered_at, lowered_to};
-ghost use Rattle.hd_model.specs.Table.{is_secondary};
+ghost use Rattle.hd_model.specs.Table.{fits, is_secondary};
 ghost use Rattle.hd_model.specs.WellFormed.{HasHandles};
 ghost use Rattle.hd_model.specs.Command.{get_target, set_target, set_secondary, get_secondary, set_strength, raise_count, lower_count, free_handle, with_count, put_board, pick_board};
 ghost use Rattle.hd_commands.specs.Counts.{MayCountUp};
@@ -148,6 +149,26 @@ fn extra_beside<N: Copy + Drop>(extra: Extra<N>, target: Option<N>) -> Result<Ex
     }
 }
 
+// A handle with another target and no secondary is stored in its slot, with the age of the slot's
+// clump lowered.
+#[inline(always)]
+fn store_target<P: Parts>(parts: &mut P, slot: Slot, handle: Handle<P::Name>)
+    requires live { option_map (λ h. h.kind) (handle_at (P.seen parts.old).state slot)
+        ≡ Some handle.kind }
+    requires within { IsWithin (P.seen parts.old) slot }
+    requires fits { fits handle.kind (extra_of handle.extra) ≡ true }
+    requires named { IsNamed (P.seen parts.old) handle.target }
+    requires alone { secondary_of (extra_of handle.extra) ≡ None }
+    ensures { let p = P.seen parts.old in
+        let state = with_handle p.state slot (handle_named p handle) in
+        let target = named_in p handle.target in
+        let ages = lowered_to p.state p.ages (Some slot) target in
+        P.seen parts.new ≡ record p { state = state; ages = ages } }
+{
+    lower_to(parts, slot, handle.target);
+    parts.replace_handle(slot, handle);
+}
+
 /// `hset hS rT`.
 pub fn set_target<P: Parts>(parts: &mut P, caller: u32, s: u8, t: u8) -> CommandResult
     requires registers { MayUseBoth (P.seen parts.old) caller s t }
@@ -162,9 +183,9 @@ pub fn set_target<P: Parts>(parts: &mut P, caller: u32, s: u8, t: u8) -> Command
     let (slot, handle) = live_in(parts, caller, s)?;
     let target = parts.register(caller, t);
     let extra = extra_beside(handle.extra, target)?;
-    lower_to(parts, slot, target);
     let kind = handle.kind;
-    parts.replace_handle(
+    store_target(
+        parts,
         slot,
         Handle {
             kind,
@@ -173,6 +194,32 @@ pub fn set_target<P: Parts>(parts: &mut P, caller: u32, s: u8, t: u8) -> Command
         },
     );
     Ok(Done::of(Reply::Done))
+}
+
+// A dependent handle with a target gets another secondary, with the age of its clump lowered.
+#[inline(always)]
+fn store_secondary<P: Parts>(
+    parts: &mut P,
+    slot: Slot,
+    handle: Handle<P::Name>,
+    secondary: Option<P::Name>,
+)
+    requires live { let p = P.seen parts.old in
+        handle_at p.state slot ≡ Some (handle_named p handle) }
+    requires within { IsWithin (P.seen parts.old) slot }
+    requires may { MayBeStored (P.seen parts.old) slot (handle_of handle) }
+    requires dependent { is_secondary (extra_of handle.extra) ≡ true }
+    requires paired { IsSome handle.target }
+    requires named { IsNamed (P.seen parts.old) secondary }
+    ensures { let p = P.seen parts.old in
+        let extra = with_secondary (named_in p secondary) in
+        let after = record (handle_named p handle) { extra = extra } in
+        let state = with_handle p.state slot after in
+        P.seen parts.new ≡ record p { state = state; ages = lowered p.ages slot.0 0 } }
+{
+    let extra = Extra::Secondary(secondary);
+    parts.lower_age(slot, 0);
+    parts.replace_handle(slot, Handle { extra, ..handle });
 }
 
 /// `hsec hS rS`.
@@ -192,9 +239,8 @@ pub fn set_secondary<P: Parts>(parts: &mut P, caller: u32, h: u8, s: u8) -> Comm
     if handle.target.is_none() {
         return Err(Refusal::Null);
     }
-    let extra = Extra::Secondary(parts.register(caller, s));
-    parts.lower_age(slot, 0);
-    parts.replace_handle(slot, Handle { extra, ..handle });
+    let secondary = parts.register(caller, s);
+    store_secondary(parts, slot, handle, secondary);
     Ok(Done::of(Reply::Done))
 }
 
