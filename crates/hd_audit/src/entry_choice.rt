@@ -2,7 +2,7 @@
 use hd_model::{Entry, Id, Kind};
 
 /// The entries that a command of a caller may have.
-#[derive(Clone, Copy, Debug, PartialEq, Eq)]
+#[derive(Clone, Copy)]
 pub enum Entries {
     /// One, which is found by making the step.
     OfTheStep,

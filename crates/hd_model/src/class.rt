@@ -1,7 +1,7 @@
 use crate::data::{Kind, Make};
 
 /// What a command does, as far as memory, slots, ages, addresses and collections are concerned.
-#[derive(Clone, Copy, Debug, PartialEq, Eq)]
+#[derive(Clone, Copy)]
 pub enum Class {
     /// It makes an object with this many fields.
     MakesObject(u8),

@@ -7,7 +7,7 @@ use crate::data::{Kind, Make, Strength};
 
 /// A command of a script. The registers and board indexes of a valid one are below 16, its number
 /// of fields is at most 61, and its generation at most 2.
-#[derive(Clone, Copy, Debug, PartialEq, Eq)]
+#[derive(Clone, Copy)]
 pub enum Cmd {
     /// `new rD F` or `new rD F fin`: makes an object with F null fields, with `fin` registered for
     /// finalization.

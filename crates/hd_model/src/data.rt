@@ -223,7 +223,7 @@ pub enum Reply {
 
 /// One command of one caller with its reply. `slot` is the slot that was given to a handle or an
 /// entry of the weak table, an idle one too, or freed, and `grown` how the blocks in use changed.
-#[derive(Clone, Copy, Debug, PartialEq, Eq)]
+#[derive(Clone, Copy)]
 pub struct Entry {
     pub caller: u32,
     pub cmd: Cmd,
