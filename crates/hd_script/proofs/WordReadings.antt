@@ -22,6 +22,10 @@ goes_on (Some found) rest is_next has = (found.0.now, found.1.now, is_next)
 pub then_word : {ws xs ys : List (List ℕ)} {w : List ℕ} → ws ≡ w ∷ xs → xs ≡ ys → ws ≡ w ∷ ys
 then_word {w = w} e f = e ∙ ap (λ zs. w ∷ zs) f
 
+-- the same behind three words
+pub behind_three : {xs ys : List (List ℕ)} {w a b : List ℕ} → xs ≡ ys → w ∷ a ∷ b ∷ xs ≡ w ∷ a ∷ b ∷ ys
+behind_three {w = w} {a = a} {b = b} e = ap (λ zs. w ∷ a ∷ b ∷ zs) e
+
 module _ {ws : List (List ℕ)} where
   pub none : ws ≡ [] → Some blank ≡ reading_of ws
   unfolding reading_of

@@ -1,6 +1,6 @@
 -- What private clauses alone cite.
-use Rattle.std.specs.Prelude.{ℕ, Bool, false, ◌||◌, List, [], ◌∷◌, ◌≡◌, max, length, sum_by, slice_index_or}
-use Rattle.hd_model.specs.Grammar.{is_blank, is_hash, is_line_end, AreLists}
+use Rattle.std.specs.Prelude.{ℕ, Bool, false, ◌||◌, List, [], ◌∷◌, ◌≡◌, Option, drop, max, length, sum_by, slice_index_or}
+use Rattle.hd_model.specs.Grammar.{is_blank, is_hash, is_line_end, commands_by, look_up, AreLists}
 use Rattle.hd_model.specs.declared.command.Cmd.{Cmd}
 
 -- the lists are those of a script, and hold this many commands
@@ -28,3 +28,7 @@ starts_end (b ∷ bs) = is_line_end b
 abbrev pub with_word : List ℕ → List (List ℕ) → List (List ℕ)
 with_word [] words = []
 with_word (b ∷ bs) words = (b ∷ bs) ∷ words
+
+-- the command of a word and these operands, where its form is none of the first n that may have so many
+abbrev pub said_from : ℕ → List ℕ → List (List ℕ) → Option Cmd
+said_from n word operands = look_up word (drop n (commands_by operands))

@@ -1,8 +1,9 @@
 // The reading of a line: blank, a caller or a command. Each function reads one number of words.
-ghost use Rattle.std.specs.Prelude.{◌≡◌, false, IfSome, bytes_eq, option_map};
+ghost use Rattle.std.specs.Prelude.{◌≡◌, false, [], ◌∷◌, IfSome, bytes_eq, option_map};
 ghost use Rattle.hd_model.specs.Grammar as grammar;
 ghost use Rattle.hd_model.specs.Kinds.{is_paired};
 ghost use Rattle.hd_model.specs.Valid.{IsValid, IsValidMake};
+ghost use Rattle.hd_script.specs.Inside.{said_from};
 ghost use Rattle.hd_script.specs.Said.{reading_in, IsValidReading};
 ghost use Rattle.hd_script.specs.Words.{words_at, line_after};
 
@@ -46,15 +47,42 @@ fn read_words(bytes: &[u8]) -> Option<(Reading, &[u8])>
         return Some((Reading::Blank, bytes));
     };
     let (a, rest) = next_word(rest)?;
-    let Some((b, rest_b)) = next_word(rest) else {
-        return if spells(word, "caller") {
-            Some((Reading::Caller(small(a, LAST_CALLER)?), rest))
-        } else {
-            Some((Reading::Command(two_words(word, a)?), rest))
-        };
-    };
-    let Some((c, rest_c)) = next_word(rest_b) else {
-        return Some((Reading::Command(three_words(word, a, b)?), rest_b));
+    match next_word(rest) {
+        Some((b, rest_b)) => at_least_three_words(word, a, b, rest_b),
+        None => caller_or_command(word, a, rest),
+    }
+}
+
+// The reading of two words: whose commands follow, or a command; and the bytes behind them.
+#[inline(always)]
+fn caller_or_command<'a>(word: &[u8], a: &[u8], rest: &'a [u8]) -> Option<(Reading, &'a [u8])>
+    ensures exact { option_map reading_in result
+        ≡ grammar.reading_of (word.now ∷ a.now ∷ []) }
+    ensures valid { IfSome result (λ read. IsValidReading read.0) }
+    ensures line { IfSome result (λ read. line_after read.1.now ≡ line_after rest.now) }
+{
+    if spells(word, "caller") {
+        Some((Reading::Caller(small(a, LAST_CALLER)?), rest))
+    } else {
+        Some((Reading::Command(two_words(word, a)?), rest))
+    }
+}
+
+// The reading of three words and those after them, and the bytes from behind the last word.
+#[inline(always)]
+fn at_least_three_words<'a>(
+    word: &[u8],
+    a: &[u8],
+    b: &[u8],
+    rest: &'a [u8],
+) -> Option<(Reading, &'a [u8])>
+    ensures exact { option_map reading_in result
+        ≡ grammar.reading_of (word.now ∷ a.now ∷ b.now ∷ words_at rest.now) }
+    ensures valid { IfSome result (λ read. IsValidReading read.0) }
+    ensures line { IfSome result (λ read. line_after read.1.now ≡ line_after rest.now) }
+{
+    let Some((c, rest_c)) = next_word(rest) else {
+        return Some((Reading::Command(three_words(word, a, b)?), rest));
     };
     let Some((d, rest_d)) = next_word(rest_c) else {
         return Some((Reading::Command(four_words(word, a, b, c)?), rest_c));
@@ -65,13 +93,13 @@ fn read_words(bytes: &[u8]) -> Option<(Reading, &[u8])>
     Some((Reading::Command(five_words(word, a, b, c, d)?), rest_d))
 }
 
-// The first of these texts that a word is says what is read; another word has no reading.
+// The first of these texts that a word is says what is read; what another word says comes last.
 macro_rules! by_word {
-    ($word:expr; $($text:literal => $read:expr,)+) => {{
+    ($word:expr; $($text:literal => $read:expr,)+ else $others:expr) => {{
         $(if spells($word, $text) {
             return Some($read);
         })+
-        None
+        $others
     }};
 }
 
@@ -87,15 +115,38 @@ fn two_words(word: &[u8], a: &[u8]) -> Option<Cmd>
         "gen" => Cmd::Gen { s: object(a)? },
         "suppress" => Cmd::Suppress { s: object(a)? },
         "reregister" => Cmd::Reregister { s: object(a)? },
+        else two_words_on_the_heap(word, a)
+    )
+}
+
+// A command of two words about the queue, a collection, what keeps an object, or an entry.
+#[inline(always)]
+fn two_words_on_the_heap(word: &[u8], a: &[u8]) -> Option<Cmd>
+    ensures exact { result ≡ said_from 5 word.now (a.now ∷ []) }
+    ensures valid { IfSome result IsValid }
+{
+    by_word!(word;
         "final" => Cmd::Final { d: object(a)? },
         "collect" => Cmd::Collect { n: small(a, OLDEST)? },
         "gcroot" => Cmd::GcRoot { s: object(a)? },
         "cremove" => Cmd::CRemove { k: object(a)? },
+        else two_words_on_handles(word, a)
+    )
+}
+
+// A command of two words about a handle or a kind of handle.
+#[inline(always)]
+fn two_words_on_handles(word: &[u8], a: &[u8]) -> Option<Cmd>
+    ensures exact { result ≡ said_from 9 word.now (a.now ∷ []) }
+    ensures valid { IfSome result IsValid }
+{
+    by_word!(word;
         "hfree" => Cmd::HFree { s: handle(a)? },
         "addr" => Cmd::AddrOf { s: handle(a)? },
         "hup" => Cmd::HUp { s: handle(a)? },
         "hdown" => Cmd::HDown { s: handle(a)? },
         "trim" => Cmd::Trim { kind: trimmed_kind(a)? },
+        else None
     )
 }
 
@@ -109,17 +160,51 @@ fn three_words(word: &[u8], a: &[u8], b: &[u8]) -> Option<Cmd>
         "new" => Cmd::New { d: object(a)?, fields: small(b, MOST_FIELDS)?, fin: false },
         "val" => Cmd::Val { o: object(a)?, n: number(b, u64::MAX)? },
         "copy" => Cmd::Copy { d: object(a)?, s: object(b)? },
+        else three_words_on_tables(word, a, b)
+    )
+}
+
+// A command of three words about a static or an entry of the weak table.
+#[inline(always)]
+fn three_words_on_tables(word: &[u8], a: &[u8], b: &[u8]) -> Option<Cmd>
+    ensures exact { result ≡ said_from 3 word.now (a.now ∷ b.now ∷ []) }
+    ensures valid { IfSome result IsValid }
+{
+    by_word!(word;
         "sput" => Cmd::SPut { k: small(a, LAST_REGISTER)?, s: object(b)? },
         "sget" => Cmd::SGet { d: object(a)?, k: small(b, LAST_REGISTER)? },
         "cadd" => Cmd::CAdd { k: object(a)?, v: object(b)? },
         "cfind" => Cmd::CFind { d: object(a)?, k: object(b)? },
+        else three_words_on_targets(word, a, b)
+    )
+}
+
+// A command of three words about a handle's target or secondary.
+#[inline(always)]
+fn three_words_on_targets(word: &[u8], a: &[u8], b: &[u8]) -> Option<Cmd>
+    ensures exact { result ≡ said_from 7 word.now (a.now ∷ b.now ∷ []) }
+    ensures valid { IfSome result IsValid }
+{
+    by_word!(word;
         "hget" => Cmd::HGet { d: object(a)?, s: handle(b)? },
         "hset" => Cmd::HSet { s: handle(a)?, t: object(b)? },
         "hsec" => Cmd::HSec { h: handle(a)?, s: object(b)? },
         "hdep" => Cmd::HDep { d: object(a)?, s: handle(b)? },
+        else three_words_on_handles(word, a, b)
+    )
+}
+
+// A command of three words about a variable handle or the board.
+#[inline(always)]
+fn three_words_on_handles(word: &[u8], a: &[u8], b: &[u8]) -> Option<Cmd>
+    ensures exact { result ≡ said_from 11 word.now (a.now ∷ b.now ∷ []) }
+    ensures valid { IfSome result IsValid }
+{
+    by_word!(word;
         "hvar" => Cmd::HVar { s: handle(a)?, strength: strength(b)? },
         "hput" => Cmd::HPut { k: small(a, LAST_REGISTER)?, s: handle(b)? },
         "hpick" => Cmd::HPick { d: handle(a)?, k: small(b, LAST_REGISTER)? },
+        else None
     )
 }
 
@@ -131,9 +216,21 @@ fn four_words(word: &[u8], a: &[u8], b: &[u8], c: &[u8]) -> Option<Cmd>
 {
     by_word!(word;
         "hnew" => Cmd::HNew { d: handle(a)?, make: make(b)?, t: object(c)? },
+        else four_words_on_objects(word, a, b, c)
+    )
+}
+
+// A command of four words about an object.
+#[inline(always)]
+fn four_words_on_objects(word: &[u8], a: &[u8], b: &[u8], c: &[u8]) -> Option<Cmd>
+    ensures exact { result ≡ said_from 0 word.now (a.now ∷ b.now ∷ c.now ∷ []) }
+    ensures valid { IfSome result IsValid }
+{
+    by_word!(word;
         "new" => Cmd::New { d: object(a)?, fields: small(b, MOST_FIELDS)?, fin: fin(c)? },
         "set" => Cmd::Set { o: object(a)?, i: small(b, 255)?, v: object(c)? },
         "get" => Cmd::Get { d: object(a)?, o: object(b)?, i: small(c, 255)? },
+        else None
     )
 }
 
@@ -159,6 +256,7 @@ fn hnew(a: &[u8], kind: &[u8], c: &[u8], d: &[u8]) -> Option<Cmd>
     by_word!(kind;
         "var" => Cmd::HNew { d: handle(a)?, t: object(c)?, make: Make::Variable(strength(d)?) },
         "dep" => Cmd::HNew { d: handle(a)?, t: object(c)?, make: Make::Dependent(object(d)?) },
+        else None
     )
 }
 
@@ -172,6 +270,7 @@ pub fn strength(word: &[u8]) -> Option<Strength>
         "long" => Strength::Long,
         "strong" => Strength::Strong,
         "pinned" => Strength::Pinned,
+        else None
     )
 }
 
@@ -187,6 +286,7 @@ pub fn make(word: &[u8]) -> Option<Make>
         "strong" => Make::Strong,
         "pinned" => Make::Pinned,
         "ref" => Make::Counted,
+        else None
     )
 }
 
@@ -201,6 +301,7 @@ pub fn trimmed_kind(word: &[u8]) -> Option<Kind>
         "long" => Kind::Long,
         "strong" => Kind::Strong,
         "pinned" => Kind::Pinned,
+        else None
     )
 }
 
@@ -209,7 +310,7 @@ pub fn trimmed_kind(word: &[u8]) -> Option<Kind>
 pub fn fin(word: &[u8]) -> Option<bool>
     ensures { result ≡ grammar.fin_of word.now }
 {
-    by_word!(word; "fin" => true,)
+    by_word!(word; "fin" => true, else None)
 }
 
 /// Whether a word is this text.
