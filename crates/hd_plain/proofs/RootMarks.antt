@@ -99,6 +99,8 @@ module _ (n : ℕ) (s : State) (ids : List ℕ) (ids_are : ids ≡ keys s.object
           λ h. leads_inside (EdgeOf s) (is_marked q) c.closed (c.keeps h.0 (roots.joins h.0.0 h.1.0)) h.1.1,
         )
 
+  -- and where that is marked
+  module _ (q : Marked) (reached : (x : Id) → Decides (is_marked q x) (IsReached (scene_of s) n x)) where
     abbrev Woken : ℕ → Type 0
     Woken = IsAmong (map (resurrected_at n (is_marked q) s.objects) ids)
 
@@ -107,12 +109,12 @@ module _ (n : ℕ) (s : State) (ids : List ℕ) (ids_are : ids ≡ keys s.object
         let (k, rest) = mapped_from (resurrected_at n (is_marked q) s.objects) ids (Some x) h in
         let both = target_from (is_woken n (is_marked q) s.objects k) (Some (id_of k)) x rest.1 in
         let same : id_of k ≡ x = same_Some (id_of k) x both.1 in
-        (woken_is n s (is_marked q) reach_decided x).0
+        (woken_is n s (is_marked q) reached x).0
         (subst (λ (z : Id). is_woken n (is_marked q) s.objects z.0 ≡ true) same both.0)
 
     woken_to : (x : Id) → IsToBeFinalized (scene_of s) n x → Woken x.0
     woken_to x v =
-        let woken = (woken_is n s (is_marked q) reach_decided x).1 v in
+        let woken = (woken_is n s (is_marked q) reached x).1 v in
         subst (λ o. Contains (map (resurrected_at n (is_marked q) s.objects) ids) o)
         (cond-true (is_woken n (is_marked q) s.objects x.0) (Some x) None woken)
         (mapped_in (resurrected_at n (is_marked q) s.objects) ids x.0
@@ -121,7 +123,7 @@ module _ (n : ℕ) (s : State) (ids : List ℕ) (ids_are : ids ≡ keys s.object
     module _ {r k : Marked} (added : Gains Woken q r) (again : Closes (EdgeOf s) r k) where
       start_marked : (x : Id) → IsReached (scene_of s) n x ⊎ IsToBeFinalized (scene_of s) n x
           → is_marked r x ≡ true
-      start_marked x (inl reached) = added.keeps x ((reach_decided x).1 reached)
+      start_marked x (inl was) = added.keeps x ((reached x).1 was)
       start_marked x (inr v) = added.joins x.0 (woken_to x v)
 
       -- and what is marked then is what is kept
@@ -131,7 +133,7 @@ module _ (n : ℕ) (s : State) (ids : List ℕ) (ids_are : ids ≡ keys s.object
             λ h. let (y, rest) = c.only x h in (
               y,
               (
-                ⊎_elim (λ old. inl ((reach_decided y).0 old)) (λ new. inr (woken_from y new))
+                ⊎_elim (λ old. inl ((reached y).0 old)) (λ new. inr (woken_from y new))
                     (added.only y rest.0),
                 rest.1,
               ),

@@ -15,7 +15,7 @@ use Rattle.hd_model.specs.declared.data.Report.{Report}
 use Rattle.hd_model.specs.Collect.{CollectsState}
 use Rattle.hd_model.specs.Command.{Outcome, reply_root, refuses, reply_with}
 use Rattle.hd_model.specs.State.{State, register_of}
-use Rattle.hd_model.specs.Step.{IsOutcome, Step, TakesWay, replies_root, collects, way_of}
+use Rattle.hd_model.specs.Step.{IsOutcome, Step, TakesWay, Way, adds_entry, collects, decided, gives_back, makes_handle, makes_object, replies_address, replies_root, way_of}
 use Rattle.hd_model.specs.Anchors.{ReturnsRoot}
 use Rattle.hd_model.proofs.Collections.{one_collection}
 use Rattle.hd_model.proofs.AnchorChains.{one_root}
@@ -24,6 +24,7 @@ use Rattle.hd_plain.specs.declared.choice.Choice.{Choice}
 use Rattle.hd_plain.specs.MachineViews.{MachineView}
 use Rattle.hd_plain.specs.Commands.{ComesToRoot, MayStep}
 use Rattle.hd_plain.specs.ChosenSteps.{IsNoStep, IsTheStep, WayComesTo}
+use Rattle.hd_plain.specs.Inside.{DecidedBy}
 use Rattle.hd_commands.specs.Done.{entry_by}
 use Rattle.hd_commands.specs.Done.{done_of}
 
@@ -96,6 +97,27 @@ module _ (caller : ℕ) (choice : Choice) (old new : MachineView) where
         outcome_entry e after c (reply_root old.state caller r comes.found) (done_of result) by of
         (subst (λ w. IsOutcome e w after) mine is.outcome) comes.comes.0;
   }
+
+  -- a command whose outcome the state decides goes its way
+  pub decided_goes : (way : Way) (result : Result Done Refusal) → DecidedBy way old new result
+      → WayComesTo caller way choice old new (Some result)
+  decided_goes (decided wanted) result did = λ c. record {
+    does = record {
+      reply = ap (λ (m : Done). m.reply) did.0;
+      slot = ap (λ (m : Done). m.slot) did.0;
+      grown = ap (λ (m : Done). m.grown) did.0;
+      after = did.2;
+    };
+    numbers = did.1;
+    only = λ e after is by of chosen. outcome_entry e after c wanted (done_of result) by of is did.0;
+  }
+  decided_goes (makes_object d fields fin) result did = absurd did
+  decided_goes (makes_handle d make t) result did = absurd did
+  decided_goes (collects n) result did = absurd did
+  decided_goes (replies_address h) result did = absurd did
+  decided_goes (gives_back kind) result did = absurd did
+  decided_goes (adds_entry v key) result did = absurd did
+  decided_goes (replies_root r) result did = absurd did
 
 -- a command by its way is a step
 module _ (old new : MachineView) (c : Cmd) (choice : Choice) (may : MayStep old choice.caller c) where

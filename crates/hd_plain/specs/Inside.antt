@@ -1,9 +1,11 @@
 -- What private clauses alone cite.
-use Rattle.std.specs.Prelude.{ℕ, List, map, Option, Some, ◌≡◌, ◌==◌, cond, [], ◌∷◌, ◌++◌, None, ◌+◌, ◌<◌, ◌≤◌, Bool, true, false, length, ◌&&◌, nat_le, not, ◌≢◌, ◌^◌, is_none, Ok, ◌*◌, option_map, ◌⊎◌, Contains, nat_lt}
+use Rattle.std.specs.Prelude.{ℕ, List, map, Option, Some, ◌≡◌, ◌==◌, cond, [], ◌∷◌, ◌++◌, None, ◌+◌, ◌<◌, ◌≤◌, Bool, true, false, length, ◌&&◌, nat_le, not, ◌≢◌, ◌^◌, is_none, Ok, Result, ◌*◌, option_map, ◌⊎◌, Contains, nat_lt, replicate, Decides}
 use Rattle.std.specs.FinMap.{FinMap, get, insert, remove, keys}
 use Rattle.std.specs.Ordering.{nat_cmp}
 use Rattle.std.specs.Option.{option_map_or}
-use Rattle.hd_model.specs.Anchors.{AnchorOf}
+use Rattle.hd_model.specs.Anchors.{AnchorOf, EdgeOf}
+use Rattle.hd_model.specs.Reach.{IsReached, IsRoot}
+use Rattle.hd_model.specs.Scene.{scene_of}
 use Rattle.hd_model.specs.declared.data.Id.{Id}
 use Rattle.hd_model.specs.declared.command.Cmd.{Cmd}
 use Rattle.hd_model.specs.declared.data.Kind.{Kind}
@@ -16,11 +18,14 @@ use Rattle.hd_model.specs.declared.data.Report.{Report}
 use Rattle.hd_model.specs.State.{State, Handle, secondary_of, WeakEntry, Object, secondary, use_of, object_by_id, with_object, weak_handle}
 use Rattle.hd_model.specs.Role.{role, Role, holds, short, long, attaches}
 use Rattle.hd_model.specs.Collect.{is_attaching, loses, survivor}
-use Rattle.hd_model.specs.declared.limits.TheConstants.{BLOCKS, ROWS}
+use Rattle.hd_model.specs.declared.limits.TheConstants.{BLOCKS, REGISTERS, ROWS}
+use Rattle.hd_plain.specs.declared.machine.Seats.{Seats}
 use Rattle.hd_commands.specs.declared.done.Done.{Done}
 use Rattle.hd_model.specs.declared.data.Grown.TheVariants.{Zero, One, Two, Back}
 use Rattle.hd_model.specs.Command.{Outcome}
-use Rattle.hd_model.specs.Step.{pinned_by}
+use Rattle.hd_model.specs.Step.{pinned_by, Way, decided, makes_object, makes_handle, collects, replies_address, gives_back, adds_entry, replies_root}
+use Rattle.hd_model.specs.declared.data.Refusal.{Refusal}
+use Rattle.hd_commands.specs.Done.{done_of}
 use Rattle.hd_plain.specs.declared.marks.Attached.{Attached}
 use Rattle.hd_plain.specs.Attaching.{secondaries}
 use Rattle.hd_plain.specs.declared.collecting.Fates.{Fates}
@@ -201,6 +206,13 @@ without_one p pinned k = cond (p (id_of k)) pinned (remove pinned k)
 
 -- ---- what a command returns, and how it leaves the machine
 
+-- so many callers have nothing in any register, and have made no object
+pub record AreEmpty (callers : ℕ) (s : Seats) : Type 0 where
+  pub callers_are : s.callers ≡ callers
+  pub registers : s.registers.items ≡ replicate callers (replicate REGISTERS None)
+  pub handle_registers : s.handle_registers.items ≡ replicate callers (replicate REGISTERS None)
+  pub serials : s.serials.items ≡ replicate callers 0
+
 -- a command that is never refused came to an outcome
 abbrev pub Does : Outcome → MachineView → MachineView → Done → Type 0
 Does wanted old new made = ComesTo wanted old new (Ok made)
@@ -227,6 +239,34 @@ class_is_plain class.Plain = true
 
 abbrev pub is_plain : Cmd → Bool
 is_plain c = class_is_plain (class_of c) && is_none (touched_by c).takes_out
+
+-- whether a command of the class changes what a handle references, or frees it
+abbrev pub class_rewrites : Class → Bool
+class_rewrites (class.MakesObject fields) = false
+class_rewrites (class.TakesSlot make t) = false
+class_rewrites (class.StoresTarget h t) = true
+class_rewrites (class.StoresSecondary h) = true
+class_rewrites class.Frees = true
+class_rewrites (class.GivesBack kind) = false
+class_rewrites (class.Collects n) = false
+class_rewrites (class.RepliesAddress h) = false
+class_rewrites (class.AddsEntry k v) = false
+class_rewrites (class.LooksUp k) = false
+class_rewrites (class.Searches s) = false
+class_rewrites class.Plain = false
+
+-- a command whose outcome the state decides came to it
+abbrev pub DecidedBy : Way → MachineView → MachineView → Result Done Refusal → Type 0
+DecidedBy (decided wanted) old new result =
+    (done_of result ≡ record { reply = wanted.reply; slot = wanted.slot; grown = Zero })
+    × (new.numbers ≡ old.numbers) × (new.state ≡ wanted.after)
+DecidedBy (makes_object d fields fin) old new result = ⊥
+DecidedBy (makes_handle d make t) old new result = ⊥
+DecidedBy (collects n) old new result = ⊥
+DecidedBy (replies_address h) old new result = ⊥
+DecidedBy (gives_back kind) old new result = ⊥
+DecidedBy (adds_entry v key) old new result = ⊥
+DecidedBy (replies_root r) old new result = ⊥
 
 -- what the table needs to grow
 abbrev pub Grows : MachineView → Kind → Grown → Type 0
@@ -324,6 +364,16 @@ attaching_at held slot = option_map (λ (e : WeakEntry Id). weak_handle (Some e)
 -- nothing is marked
 abbrev pub no_marks : Marked
 no_marks = record { marked = fin.empty; left = [] }
+
+-- an identity as that of a root of a collection of n
+abbrev pub IsRootId : ℕ → State → ℕ → Type 0
+IsRootId n s y = IsRoot (scene_of s) n (id_of y)
+
+-- what is marked is what a collection of n reaches, and no edge of it is left to follow
+pub record HasReached (n : ℕ) (s : State) (m : Marked) : Type 0 where
+  pub reached : (x : Id) → Decides (is_marked m x) (IsReached (scene_of s) n x)
+  pub awaits : Awaits (EdgeOf s) m
+  pub none_left : m.left ≡ []
 
 -- ---- what a collection goes over, and what its passes leave and count
 

@@ -6,12 +6,14 @@ ghost use Rattle.hd_model.specs.declared.data.Id.{Id as Name};
 ghost use Rattle.hd_model.specs.declared.limits.TheConstants.{OLDEST};
 ghost use Rattle.hd_model.specs.{Collect.CollectsState, Collect.loses, PinnedAddresses.is_pinned};
 ghost use Rattle.hd_model.specs.{Reach.IsKept, Reach.IsReached, Scene.scene_of, WellFormed.IsWellFormed};
+ghost use Rattle.hd_plain.specs.Attaching.{ListsAttached};
+ghost use Rattle.hd_plain.specs.Inside.{Gains, HasReached, IsRootId};
 ghost use Rattle.hd_plain.specs.Inside.{is_marked, with_rows, with_targets, no_marks, older_at, pinned_at, resurrected_at, AreFew, HavePassed, IsWalk, report_of, cleared_one, cleared_to, counted, emptied, no_fates, no_losses, one_if, pass, settled_one, settled_to, swept_one, swept_to, wakes, without_one};
 ghost use Rattle.hd_maps.specs.StoredObjects.{IsYoungest};
 ghost use Rattle.hd_commands.specs.Handles.{handle_of, role_as};
 
 use crate::machine::Machine;
-use crate::marks::{Marks, mark_anchors};
+use crate::marks::{Attached, Marks, mark_anchors};
 use hd_commands::{Extra, Role};
 use hd_maps::{Edit, Handle, Object, Objects, PinnedAddresses, Table, Weak, raised};
 use hd_model::{Id, Memory, Report};
@@ -186,14 +188,57 @@ impl Machine {
             → Decides (is_marked d.kept x) (IsKept (scene_of self.now.state) n x)) }
     {
         let mut reached = Marks::open(self.alloc);
-        self.mark_registers(&mut reached)?;
-        self.mark_older(n, &walk.ids, &mut reached)?;
-        let attached = mark_anchors(self, &walk.slots, &walk.entries, &mut reached)?;
-        reached.close(self, &attached)?;
-        let mut kept = reached.copy(self.alloc)?;
-        self.mark_resurrected(n, &walk.ids, &reached, &mut kept)?;
-        kept.close(self, &attached)?;
+        let attached = self.mark_reached(n, walk, &mut reached)?;
+        let kept = self.kept_beside(n, walk, &reached, &attached)?;
         Ok(Decided { reached, kept })
+    }
+
+    // Marks what a collection of n reaches, and returns what is attached.
+    #[inline(always)]
+    fn mark_reached(&self, n: u8, walk: &Walk, reached: &mut Marks) -> Result<Attached, Memory>
+        requires formed { IsWellFormed self.now.numbers self.now.state }
+        requires walk { IsWalk self.now.state walk.now }
+        requires none { reached.old ≡ no_marks }
+        ensures reached { IfOk result (λ _. HasReached n self.now.state reached.new) }
+        ensures listed { IfOk result (ListsAttached self.now.state) }
+    {
+        let attached = self.mark_roots(n, walk, reached)?;
+        reached.close(self, &attached)?;
+        Ok(attached)
+    }
+
+    // Marks the roots of a collection of n, and returns what is attached.
+    #[inline(always)]
+    fn mark_roots(&self, n: u8, walk: &Walk, marks: &mut Marks) -> Result<Attached, Memory>
+        requires formed { IsWellFormed self.now.numbers self.now.state }
+        requires walk { IsWalk self.now.state walk.now }
+        ensures gains { IfOk result (λ _. Gains (IsRootId n self.now.state) marks.old marks.new) }
+        ensures listed { IfOk result (ListsAttached self.now.state) }
+    {
+        self.mark_registers(marks)?;
+        self.mark_older(n, &walk.ids, marks)?;
+        mark_anchors(self, &walk.slots, &walk.entries, marks)
+    }
+
+    // What a collection of n keeps: what it reaches, and what is resurrected.
+    #[inline(always)]
+    fn kept_beside(
+        &self,
+        n: u8,
+        walk: &Walk,
+        reached: &Marks,
+        attached: &Attached,
+    ) -> Result<Marks, Memory>
+        requires walk { IsWalk self.now.state walk.now }
+        requires reached { HasReached n self.now.state reached.now }
+        requires listed { ListsAttached self.now.state attached.now }
+        ensures { IfOk result (λ kept. (x : Name)
+            → Decides (is_marked kept x) (IsKept (scene_of self.now.state) n x)) }
+    {
+        let mut kept = reached.copy(self.alloc)?;
+        self.mark_resurrected(n, &walk.ids, reached, &mut kept)?;
+        kept.close(self, attached)?;
+        Ok(kept)
     }
 
     // Changes handles, entries and objects, each in one pass.

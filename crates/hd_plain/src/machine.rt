@@ -5,7 +5,7 @@ ghost use Rattle.std.specs.FinMap.{get};
 ghost use Rattle.hd_model.specs.declared.limits.TheConstants.{BLOCKS};
 ghost use Rattle.hd_model.specs.State.{Numbers, start_of, last_serial, size_of, total_size, with_object, with_address, with_serial};
 ghost use Rattle.hd_plain.specs.MachineViews.{Becomes};
-ghost use Rattle.hd_plain.specs.Inside.{Edits};
+ghost use Rattle.hd_plain.specs.Inside.{AreEmpty, Edits};
 
 use hd_maps::{Edit, Object, Objects, PinnedAddresses, Table, Weak};
 use hd_model::limits::REGISTERS;
@@ -49,6 +49,54 @@ impl Model for Machine {
     ghost invariant = { IsMachine };
 }
 
+// What each caller has: its registers, and its last serial.
+#[derive(Drop)]
+struct Seats {
+    callers: u32,
+    registers: Vec<[Option<Id>; INDEXES]>,
+    handle_registers: Vec<[Option<Slot>; INDEXES]>,
+    serials: Vec<u32>,
+}
+
+impl Seats {
+    // Nothing is referenced, and nothing is made.
+    fn open(alloc: Global, callers: u32) -> Result<Seats, Memory>
+        ensures { IfOk result (AreEmpty callers) }
+    {
+        Ok(Seats {
+            callers,
+            registers: filled(alloc, [None; INDEXES], callers)?,
+            handle_registers: filled(alloc, [None; INDEXES], callers)?,
+            serials: filled(alloc, 0, callers)?,
+        })
+    }
+
+    // A machine of these callers in which nothing is made.
+    fn machine(self, alloc: Global, heap: u32, blocks: u32) -> Machine
+        requires blocks { blocks ≤ BLOCKS }
+        requires empty { AreEmpty self.callers self }
+        ensures numbers { result.numbers
+            ≡ record { heap = heap; blocks = blocks; callers = self.callers } }
+        ensures state { result.state ≡ start_of result.numbers }
+    {
+        Machine {
+            alloc,
+            heap,
+            callers: self.callers,
+            objects: Objects::open(alloc),
+            table: Table::open(alloc, blocks),
+            weak: Weak::open(alloc),
+            registers: self.registers,
+            handle_registers: self.handle_registers,
+            serials: self.serials,
+            statics: [None; INDEXES],
+            board: [None; INDEXES],
+            queue: VecDeque::new(alloc),
+            pinned: PinnedAddresses::open(alloc),
+        }
+    }
+}
+
 impl Machine {
     /// Nothing is made yet.
     pub fn open(alloc: Global, callers: u32, heap: u32, blocks: u32) -> Result<Machine, Memory>
@@ -58,21 +106,8 @@ impl Machine {
             IfOk result (λ m. m.numbers ≡ n) }
         ensures state { IfOk result (λ m. m.state ≡ start_of m.numbers) }
     {
-        Ok(Machine {
-            alloc,
-            heap,
-            callers,
-            objects: Objects::open(alloc),
-            table: Table::open(alloc, blocks),
-            weak: Weak::open(alloc),
-            registers: filled(alloc, [None; INDEXES], callers)?,
-            handle_registers: filled(alloc, [None; INDEXES], callers)?,
-            serials: filled(alloc, 0, callers)?,
-            statics: [None; INDEXES],
-            board: [None; INDEXES],
-            queue: VecDeque::new(alloc),
-            pinned: PinnedAddresses::open(alloc),
-        })
+        let seats = Seats::open(alloc, callers)?;
+        Ok(seats.machine(alloc, heap, blocks))
     }
 
     /// The limit of the heap in cells.

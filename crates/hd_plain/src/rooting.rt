@@ -1,7 +1,7 @@
 // The search for why an object lives: a walk breadth first from the anchors, which are taken by
 // identity. So an object is first found along a shortest chain, and along one from the least anchor
 // that has one.
-ghost use Rattle.std.specs.Prelude.{◌≡◌, ℕ, ◌<◌, ◌↔◌, ◌^◌, ◌++◌, Some, IfOk, IfSome, IsTrue, flat_map, MatchOption, AllPairs, Contains};
+ghost use Rattle.std.specs.Prelude.{◌≡◌, ℕ, ◌+◌, ◌<◌, ◌↔◌, ◌^◌, ◌++◌, [], length, slice_get, None, Some, IfOk, IfSome, IsTrue, flat_map, MatchOption, AllPairs, Contains};
 ghost use Rattle.std.specs.FinMap.{get, len};
 ghost use Rattle.hd_model.specs.Scene.{fields_in};
 ghost use Rattle.hd_model.specs.Anchors.{AnchorOf, EdgeOf, IsShortest, IsUnrooted};
@@ -9,7 +9,9 @@ ghost use Rattle.hd_model.specs.WellFormed.{IsWellFormed};
 ghost use Rattle.hd_model.specs.declared.data.Id.{Id as Name};
 ghost use Rattle.hd_plain.specs.Attaching.{ListsAttached, secondaries};
 ghost use Rattle.hd_plain.specs.Commands.{ComesToRoot};
-ghost use Rattle.hd_plain.specs.Inside.{nodes_in, held_by};
+ghost use Rattle.hd_plain.specs.Edges.{IsNode, in_any_order, leads_in};
+ghost use Rattle.hd_plain.specs.Inside.{Gains, IsAnchorId, nodes_in, held_by};
+ghost use Rattle.hd_walk.specs.{Trail.with_all, Walk.HasEnded};
 ghost use Rattle.hd_commands.specs.Handles.{handle_of};
 ghost use Rattle.hd_maps.specs.TableViews.{Row};
 
@@ -127,6 +129,42 @@ fn holds(handle: Handle, goal: Id) -> bool
     }
 }
 
+// Where a chain begins, and its number of edges.
+fn origin_of(chain: &[u64]) -> Origin
+    requires { 0 < length chain.now }
+    ensures from { slice_get chain.now 0 ≡ Some result.from.0 }
+    ensures edges { result.edges + 1 ≡ length chain.now }
+{
+    Origin {
+        from: Id(chain[0]),
+        edges: chain.len() as u64 - 1,
+    }
+}
+
+// Walks from the anchors until an object is found, and returns the index at which it is.
+#[inline(always)]
+fn walk_to(
+    alloc: Global,
+    graph: &Graph<'_>,
+    anchors: &[u64],
+    goal: Id,
+    trail: &mut Trail,
+) -> Result<Option<usize>, AllocError>
+    requires formed { IsWellFormed graph.now.machine.now.numbers graph.now.machine.now.state }
+    requires listed { ListsAttached graph.now.machine.now.state graph.now.attached.now }
+    requires rising { AllPairs (λ x y. x < y) anchors.now }
+    requires all { (x : Name)
+        → Contains anchors.now x.0 ↔ AnchorOf graph.now.machine.now.state x }
+    requires none { trail.old ≡ [] }
+    ensures { let j = graph.now.machine.now in let a = graph.now.attached.now in
+        let starts = with_all [] anchors.now None in
+        IfOk result (HasEnded (IsNode j a) (leads_in j.state) in_any_order (Some goal.0) starts 0
+        trail.new) }
+{
+    trail.add_all(anchors, None)?;
+    walk(alloc, graph, trail, 0, Some(goal.0))
+}
+
 // Where a shortest chain to an object begins, from the anchors on, if there is one.
 fn chain_to(
     alloc: Global,
@@ -147,18 +185,14 @@ fn chain_to(
         IfSome found (λ o. o.edges < len graph.now.machine.now.state.objects)) }
 {
     let mut trail = Trail::open(alloc);
-    trail.add_all(anchors, None)?;
-    let end = walk(alloc, graph, &mut trail, 0, Some(goal.0))?;
+    let end = walk_to(alloc, graph, anchors, goal, &mut trail)?;
     // For the proof: each is found once.
     let _count = trail.len();
     let Some(last) = end else {
         return Ok(None);
     };
     let chain = read_back(alloc, &trail, last)?;
-    Ok(Some(Origin {
-        from: Id(chain[0]),
-        edges: chain.len() as u64 - 1,
-    }))
+    Ok(Some(origin_of(&chain)))
 }
 
 // The same of the anchors of a state.
@@ -170,29 +204,51 @@ fn root_of(machine: &Machine, goal: Id) -> Result<Option<Origin>, Memory>
         (λ o. IsShortest edge anchor (λ (x : Name). x.0) goal o.from o.edges)) }
     ensures few { IfOk result (λ found. IfSome found (λ o. o.edges < 2 ^ 32)) }
 {
-    // For the proof: each object takes some of the cells.
-    let _used = machine.objects.used();
-    let alloc = machine.alloc;
-    let handles = machine.table.handles(alloc)?;
+    let handles = machine.table.handles(machine.alloc)?;
     if is_held(&handles, goal) {
         return Ok(Some(Origin {
             from: goal,
             edges: 0,
         }));
     }
-    let slots = machine.table.slots(alloc)?;
-    let entries = machine.weak.slots(alloc)?;
-    let mut marks = Marks::open(alloc);
-    let attached = mark_anchors(machine, &slots, &entries, &mut marks)?;
-    let anchors = marks.ids(alloc)?;
+    searched(machine, goal)
+}
+
+// The same, by a walk from all anchors.
+#[inline(always)]
+fn searched(machine: &Machine, goal: Id) -> Result<Option<Origin>, Memory>
+    requires { IsWellFormed machine.now.numbers machine.now.state }
+    ensures shortest { let edge = EdgeOf machine.now.state in
+        let anchor = AnchorOf machine.now.state in
+        IfOk result (λ found. MatchOption found (IsUnrooted edge anchor goal)
+        (λ o. IsShortest edge anchor (λ (x : Name). x.0) goal o.from o.edges)) }
+    ensures few { IfOk result (λ found. IfSome found (λ o. o.edges < 2 ^ 32)) }
+{
+    // For the proof: each object takes some of the cells.
+    let _used = machine.objects.used();
+    let mut marks = Marks::open(machine.alloc);
+    let attached = mark_all_anchors(machine, &mut marks)?;
+    let anchors = marks.ids(machine.alloc)?;
     let graph = Graph {
         machine,
         attached: &attached,
     };
-    match chain_to(alloc, &graph, &anchors, goal) {
+    match chain_to(machine.alloc, &graph, &anchors, goal) {
         Ok(found) => Ok(found),
         Err(_) => Err(Memory),
     }
+}
+
+// Marks all anchors, and returns what is attached.
+#[inline(always)]
+fn mark_all_anchors(machine: &Machine, marks: &mut Marks) -> Result<Attached, Memory>
+    requires { IsWellFormed machine.now.numbers machine.now.state }
+    ensures gains { IfOk result (λ _. Gains (IsAnchorId machine.now.state) marks.old marks.new) }
+    ensures listed { IfOk result (ListsAttached machine.now.state) }
+{
+    let slots = machine.table.slots(machine.alloc)?;
+    let entries = machine.weak.slots(machine.alloc)?;
+    mark_anchors(machine, &slots, &entries, marks)
 }
 
 impl Machine {

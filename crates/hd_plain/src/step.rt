@@ -1,11 +1,12 @@
 // One step of the machine by the choice that a line states.
-ghost use Rattle.std.specs.Prelude.{◌≡◌, true, Some, IfOk, IsTrue};
+ghost use Rattle.std.specs.Prelude.{◌≡◌, true, false, is_some, Some, IfOk, IsTrue};
 ghost use Rattle.hd_model.specs.Step.{way_of};
 ghost use Rattle.hd_plain.specs.declared.choice.Choice.{Choice};
 ghost use Rattle.hd_plain.specs.OneEntry.{has_one_step, HasOne};
 ghost use Rattle.hd_plain.specs.Commands.{MayStep};
 ghost use Rattle.hd_plain.specs.ChosenSteps.{StepsBy, WayComesTo};
-ghost use Rattle.hd_plain.specs.Inside.{is_plain};
+ghost use Rattle.hd_plain.specs.Inside.{class_rewrites, is_plain, DecidedBy};
+ghost use Rattle.hd_model.specs.{Class.class_of, Touched.touched_by};
 
 use crate::choice::Choice;
 use crate::machine::Machine;
@@ -114,30 +115,192 @@ fn decide(machine: &mut Machine, caller: u32, cmd: Cmd) -> Result<Done, Refusal>
     ensures { let way = way_of machine.old.state caller cmd in
         (choice : Choice) → WayComesTo caller way choice machine.old machine.new (Some result) }
 {
+    carry_out(machine, caller, cmd)
+}
+
+// The same, as the outcome that the state decides.
+#[inline(always)]
+fn carry_out(machine: &mut Machine, caller: u32, cmd: Cmd) -> Result<Done, Refusal>
+    requires may { MayStep machine.old caller cmd }
+    requires plain { IsTrue (is_plain cmd) }
+    ensures { DecidedBy (way_of machine.old.state caller cmd) machine.old machine.new result }
+{
+    if is_on_handle(cmd) {
+        act_on_handle(machine, caller, cmd)
+    } else if writes_object(cmd) {
+        write_object(machine, caller, cmd)
+    } else if writes_register(cmd) {
+        write_register(machine, caller, cmd)
+    } else {
+        act_plainly(machine, caller, cmd)
+    }
+}
+
+// Whether a command is about a handle.
+#[inline(always)]
+fn is_on_handle(cmd: Cmd) -> bool
+    ensures { result ≡ is_some (touched_by cmd).handle }
+{
+    matches!(
+        cmd,
+        Cmd::HGet { .. }
+            | Cmd::HSet { .. }
+            | Cmd::HSec { .. }
+            | Cmd::HDep { .. }
+            | Cmd::HVar { .. }
+            | Cmd::HFree { .. }
+            | Cmd::AddrOf { .. }
+            | Cmd::HUp { .. }
+            | Cmd::HDown { .. }
+    )
+}
+
+// Whether a command may change objects.
+#[inline(always)]
+fn writes_object(cmd: Cmd) -> bool
+    ensures { result ≡ (touched_by cmd).objects }
+{
+    matches!(
+        cmd,
+        Cmd::New { .. }
+            | Cmd::Set { .. }
+            | Cmd::Val { .. }
+            | Cmd::Suppress { .. }
+            | Cmd::Reregister { .. }
+            | Cmd::Collect { .. }
+    )
+}
+
+// Whether a command writes an object register.
+#[inline(always)]
+fn writes_register(cmd: Cmd) -> bool
+    ensures { result ≡ is_some (touched_by cmd).register }
+{
+    matches!(
+        cmd,
+        Cmd::New { .. }
+            | Cmd::Get { .. }
+            | Cmd::Copy { .. }
+            | Cmd::Clear { .. }
+            | Cmd::SGet { .. }
+            | Cmd::Final { .. }
+            | Cmd::HGet { .. }
+            | Cmd::HDep { .. }
+            | Cmd::CFind { .. }
+    )
+}
+
+// Whether a command changes what a handle references, or frees it.
+#[inline(always)]
+fn rewrites_handle(cmd: Cmd) -> bool
+    ensures { result ≡ class_rewrites (class_of cmd) }
+{
+    matches!(cmd, Cmd::HSet { .. } | Cmd::HSec { .. } | Cmd::HFree { .. })
+}
+
+// A command about a handle.
+#[inline(always)]
+fn act_on_handle(machine: &mut Machine, caller: u32, cmd: Cmd) -> Result<Done, Refusal>
+    requires may { MayStep machine.old caller cmd }
+    requires plain { IsTrue (is_plain cmd) }
+    requires handle { is_some (touched_by cmd).handle ≡ true }
+    ensures { DecidedBy (way_of machine.old.state caller cmd) machine.old machine.new result }
+{
+    if rewrites_handle(cmd) {
+        rewrite_handle(machine, caller, cmd)
+    } else {
+        use_handle(machine, caller, cmd)
+    }
+}
+
+// One that changes what a handle references, or frees it.
+#[inline(always)]
+fn rewrite_handle(machine: &mut Machine, caller: u32, cmd: Cmd) -> Result<Done, Refusal>
+    requires may { MayStep machine.old caller cmd }
+    requires rewrites { class_rewrites (class_of cmd) ≡ true }
+    ensures { DecidedBy (way_of machine.old.state caller cmd) machine.old machine.new result }
+{
     match cmd {
-        Cmd::Set { o, i, v } => on_objects::set_field(machine, caller, o, i, v),
-        Cmd::Get { d, o, i } => on_objects::get_field(machine, caller, d, o, i),
-        Cmd::Val { o, n } => on_objects::set_value(machine, caller, o, n),
-        Cmd::Read { o } => on_objects::read_value(machine, caller, o),
-        Cmd::Copy { d, s } => Ok(on_objects::copy_register(machine, caller, d, s)),
-        Cmd::Clear { d } => Ok(on_objects::clear_register(machine, caller, d)),
-        Cmd::SPut { k, s } => Ok(on_objects::put_static(machine, caller, k, s)),
-        Cmd::SGet { d, k } => Ok(on_objects::get_static(machine, caller, d, k)),
-        Cmd::Gen { s } => on_objects::read_generation(machine, caller, s),
-        Cmd::Suppress { s } => on_objects::set_registered(machine, caller, s, false),
-        Cmd::Reregister { s } => on_objects::set_registered(machine, caller, s, true),
-        Cmd::Final { d } => Ok(on_objects::take_queued(machine, caller, d)),
-        Cmd::HGet { d, s } => on_handles::get_target(machine, caller, d, s),
         Cmd::HSet { s, t } => on_handles::set_target(machine, caller, s, t),
         Cmd::HSec { h, s } => on_handles::set_secondary(machine, caller, h, s),
+        Cmd::HFree { s } => on_handles::free_handle(machine, caller, s),
+        _ => unreachable!(),
+    }
+}
+
+// One that loads from a handle, or changes its strength or its count.
+#[inline(always)]
+fn use_handle(machine: &mut Machine, caller: u32, cmd: Cmd) -> Result<Done, Refusal>
+    requires may { MayStep machine.old caller cmd }
+    requires plain { IsTrue (is_plain cmd) }
+    requires handle { is_some (touched_by cmd).handle ≡ true }
+    requires others { class_rewrites (class_of cmd) ≡ false }
+    ensures { DecidedBy (way_of machine.old.state caller cmd) machine.old machine.new result }
+{
+    match cmd {
+        Cmd::HGet { d, s } => on_handles::get_target(machine, caller, d, s),
         Cmd::HDep { d, s } => on_handles::get_secondary(machine, caller, d, s),
         Cmd::HVar { s, strength } => on_handles::set_strength(machine, caller, s, strength),
-        Cmd::HFree { s } => on_handles::free_handle(machine, caller, s),
-        Cmd::HPut { k, s } => Ok(on_handles::put_board(machine, caller, k, s)),
-        Cmd::HPick { d, k } => Ok(on_handles::pick_board(machine, caller, d, k)),
         Cmd::HUp { s } => on_handles::raise_count(machine, caller, s),
         Cmd::HDown { s } => on_handles::lower_count(machine, caller, s),
+        _ => unreachable!(),
+    }
+}
+
+// One that may change an object.
+#[inline(always)]
+fn write_object(machine: &mut Machine, caller: u32, cmd: Cmd) -> Result<Done, Refusal>
+    requires may { MayStep machine.old caller cmd }
+    requires plain { IsTrue (is_plain cmd) }
+    requires objects { (touched_by cmd).objects ≡ true }
+    ensures { DecidedBy (way_of machine.old.state caller cmd) machine.old machine.new result }
+{
+    match cmd {
+        Cmd::Set { o, i, v } => on_objects::set_field(machine, caller, o, i, v),
+        Cmd::Val { o, n } => on_objects::set_value(machine, caller, o, n),
+        Cmd::Suppress { s } => on_objects::set_registered(machine, caller, s, false),
+        Cmd::Reregister { s } => on_objects::set_registered(machine, caller, s, true),
+        _ => unreachable!(),
+    }
+}
+
+// One that writes an object register, from elsewhere than a handle.
+#[inline(always)]
+fn write_register(machine: &mut Machine, caller: u32, cmd: Cmd) -> Result<Done, Refusal>
+    requires may { MayStep machine.old caller cmd }
+    requires plain { IsTrue (is_plain cmd) }
+    requires handle { is_some (touched_by cmd).handle ≡ false }
+    requires objects { (touched_by cmd).objects ≡ false }
+    requires register { is_some (touched_by cmd).register ≡ true }
+    ensures { DecidedBy (way_of machine.old.state caller cmd) machine.old machine.new result }
+{
+    match cmd {
+        Cmd::Get { d, o, i } => on_objects::get_field(machine, caller, d, o, i),
+        Cmd::Copy { d, s } => Ok(on_objects::copy_register(machine, caller, d, s)),
+        Cmd::Clear { d } => Ok(on_objects::clear_register(machine, caller, d)),
+        Cmd::SGet { d, k } => Ok(on_objects::get_static(machine, caller, d, k)),
+        Cmd::Final { d } => Ok(on_objects::take_queued(machine, caller, d)),
         Cmd::CFind { d, k } => machine.find_entry(caller, d, k),
+        _ => unreachable!(),
+    }
+}
+
+// One of the others.
+#[inline(always)]
+fn act_plainly(machine: &mut Machine, caller: u32, cmd: Cmd) -> Result<Done, Refusal>
+    requires may { MayStep machine.old caller cmd }
+    requires plain { IsTrue (is_plain cmd) }
+    requires handle { is_some (touched_by cmd).handle ≡ false }
+    requires objects { (touched_by cmd).objects ≡ false }
+    requires register { is_some (touched_by cmd).register ≡ false }
+    ensures { DecidedBy (way_of machine.old.state caller cmd) machine.old machine.new result }
+{
+    match cmd {
+        Cmd::Read { o } => on_objects::read_value(machine, caller, o),
+        Cmd::SPut { k, s } => Ok(on_objects::put_static(machine, caller, k, s)),
+        Cmd::Gen { s } => on_objects::read_generation(machine, caller, s),
+        Cmd::HPut { k, s } => Ok(on_handles::put_board(machine, caller, k, s)),
+        Cmd::HPick { d, k } => Ok(on_handles::pick_board(machine, caller, d, k)),
         _ => unreachable!(),
     }
 }
