@@ -1,5 +1,5 @@
 -- What private clauses alone cite.
-use Rattle.std.specs.Prelude.{ℕ, List, map, Option, Some, ◌≡◌, ◌==◌, cond, [], ◌∷◌, ◌++◌, None, ◌+◌, ◌<◌, ◌≤◌, Bool, true, false, length, ◌&&◌, nat_le, not, ◌≢◌, ◌^◌, is_none, Ok, Result, ◌*◌, option_map, ◌⊎◌, Contains, nat_lt, replicate, Decides}
+use Rattle.std.specs.Prelude.{ℕ, List, map, Option, Some, ◌≡◌, ◌==◌, cond, [], ◌∷◌, ◌++◌, None, ◌+◌, ◌<◌, ◌≤◌, Bool, true, false, length, ◌&&◌, nat_le, not, ◌≢◌, ◌^◌, is_none, is_some, ◌||◌, Ok, Result, ◌*◌, option_map, ◌⊎◌, Contains, nat_lt, replicate, Decides}
 use Rattle.std.specs.FinMap.{FinMap, get, insert, remove, keys}
 use Rattle.std.specs.Ordering.{nat_cmp}
 use Rattle.std.specs.Option.{option_map_or}
@@ -12,6 +12,7 @@ use Rattle.hd_model.specs.declared.data.Kind.{Kind}
 use Rattle.hd_model.specs.declared.data.Grown.{Grown}
 use Rattle.hd_model.specs.declared.class.Class.{Class}
 use Rattle.hd_model.specs.Class.{class_of}
+use Rattle.hd_model.specs.Rows.{Touched}
 use Rattle.hd_model.specs.Touched.{touched_by}
 use Rattle.hd_model.specs.Leads.{IsClosure}
 use Rattle.hd_model.specs.declared.data.Report.{Report}
@@ -254,6 +255,14 @@ class_rewrites (class.AddsEntry k v) = false
 class_rewrites (class.LooksUp k) = false
 class_rewrites (class.Searches s) = false
 class_rewrites class.Plain = false
+
+-- whether what is touched are a register by copying, or the queue; whether a static, or the board or what is
+-- picked from it
+abbrev pub copies_or_takes : Touched → Bool
+copies_or_takes t = is_some t.copied || t.queue
+
+abbrev pub puts_or_picks : Touched → Bool
+puts_or_picks t = is_some t.static || is_some t.board || is_some t.picked
 
 -- a command whose outcome the state decides came to it
 abbrev pub DecidedBy : Way → MachineView → MachineView → Result Done Refusal → Type 0

@@ -5,7 +5,7 @@ ghost use Rattle.hd_plain.specs.declared.choice.Choice.{Choice};
 ghost use Rattle.hd_plain.specs.OneEntry.{has_one_step, HasOne};
 ghost use Rattle.hd_plain.specs.Commands.{MayStep};
 ghost use Rattle.hd_plain.specs.ChosenSteps.{StepsBy, WayComesTo};
-ghost use Rattle.hd_plain.specs.Inside.{class_rewrites, is_plain, DecidedBy};
+ghost use Rattle.hd_plain.specs.Inside.{class_rewrites, copies_or_takes, is_plain, puts_or_picks, DecidedBy};
 ghost use Rattle.hd_model.specs.{Class.class_of, Touched.touched_by};
 
 use crate::choice::Choice;
@@ -190,6 +190,25 @@ fn writes_register(cmd: Cmd) -> bool
     )
 }
 
+// Whether a command copies an object register, or may change the queue.
+#[inline(always)]
+fn copies_or_takes(cmd: Cmd) -> bool
+    ensures { result ≡ copies_or_takes (touched_by cmd) }
+{
+    matches!(
+        cmd,
+        Cmd::Copy { .. } | Cmd::Final { .. } | Cmd::Collect { .. }
+    )
+}
+
+// Whether a command writes a static or the board, or picks from the board.
+#[inline(always)]
+fn puts_or_picks(cmd: Cmd) -> bool
+    ensures { result ≡ puts_or_picks (touched_by cmd) }
+{
+    matches!(cmd, Cmd::SPut { .. } | Cmd::HPut { .. } | Cmd::HPick { .. })
+}
+
 // Whether a command changes what a handle references, or frees it.
 #[inline(always)]
 fn rewrites_handle(cmd: Cmd) -> bool
@@ -237,9 +256,41 @@ fn use_handle(machine: &mut Machine, caller: u32, cmd: Cmd) -> Result<Done, Refu
     requires others { class_rewrites (class_of cmd) ≡ false }
     ensures { DecidedBy (way_of machine.old.state caller cmd) machine.old machine.new result }
 {
+    if writes_register(cmd) {
+        load_from_handle(machine, caller, cmd)
+    } else {
+        change_handle(machine, caller, cmd)
+    }
+}
+
+// One that loads what a handle references.
+#[inline(always)]
+fn load_from_handle(machine: &mut Machine, caller: u32, cmd: Cmd) -> Result<Done, Refusal>
+    requires may { MayStep machine.old caller cmd }
+    requires plain { IsTrue (is_plain cmd) }
+    requires handle { is_some (touched_by cmd).handle ≡ true }
+    requires others { class_rewrites (class_of cmd) ≡ false }
+    requires register { is_some (touched_by cmd).register ≡ true }
+    ensures { DecidedBy (way_of machine.old.state caller cmd) machine.old machine.new result }
+{
     match cmd {
         Cmd::HGet { d, s } => on_handles::get_target(machine, caller, d, s),
         Cmd::HDep { d, s } => on_handles::get_secondary(machine, caller, d, s),
+        _ => unreachable!(),
+    }
+}
+
+// One that changes the strength or the count of a handle.
+#[inline(always)]
+fn change_handle(machine: &mut Machine, caller: u32, cmd: Cmd) -> Result<Done, Refusal>
+    requires may { MayStep machine.old caller cmd }
+    requires plain { IsTrue (is_plain cmd) }
+    requires handle { is_some (touched_by cmd).handle ≡ true }
+    requires others { class_rewrites (class_of cmd) ≡ false }
+    requires register { is_some (touched_by cmd).register ≡ false }
+    ensures { DecidedBy (way_of machine.old.state caller cmd) machine.old machine.new result }
+{
+    match cmd {
         Cmd::HVar { s, strength } => on_handles::set_strength(machine, caller, s, strength),
         Cmd::HUp { s } => on_handles::raise_count(machine, caller, s),
         Cmd::HDown { s } => on_handles::lower_count(machine, caller, s),
@@ -274,12 +325,46 @@ fn write_register(machine: &mut Machine, caller: u32, cmd: Cmd) -> Result<Done, 
     requires register { is_some (touched_by cmd).register ≡ true }
     ensures { DecidedBy (way_of machine.old.state caller cmd) machine.old machine.new result }
 {
+    if copies_or_takes(cmd) {
+        copy_or_take(machine, caller, cmd)
+    } else {
+        load(machine, caller, cmd)
+    }
+}
+
+// One that copies a register there, or takes from the queue.
+#[inline(always)]
+fn copy_or_take(machine: &mut Machine, caller: u32, cmd: Cmd) -> Result<Done, Refusal>
+    requires may { MayStep machine.old caller cmd }
+    requires plain { IsTrue (is_plain cmd) }
+    requires handle { is_some (touched_by cmd).handle ≡ false }
+    requires objects { (touched_by cmd).objects ≡ false }
+    requires register { is_some (touched_by cmd).register ≡ true }
+    requires takes { copies_or_takes (touched_by cmd) ≡ true }
+    ensures { DecidedBy (way_of machine.old.state caller cmd) machine.old machine.new result }
+{
+    match cmd {
+        Cmd::Copy { d, s } => Ok(on_objects::copy_register(machine, caller, d, s)),
+        Cmd::Final { d } => Ok(on_objects::take_queued(machine, caller, d)),
+        _ => unreachable!(),
+    }
+}
+
+// One that loads from a field, from a static or from the weak table, or writes null.
+#[inline(always)]
+fn load(machine: &mut Machine, caller: u32, cmd: Cmd) -> Result<Done, Refusal>
+    requires may { MayStep machine.old caller cmd }
+    requires plain { IsTrue (is_plain cmd) }
+    requires handle { is_some (touched_by cmd).handle ≡ false }
+    requires objects { (touched_by cmd).objects ≡ false }
+    requires register { is_some (touched_by cmd).register ≡ true }
+    requires others { copies_or_takes (touched_by cmd) ≡ false }
+    ensures { DecidedBy (way_of machine.old.state caller cmd) machine.old machine.new result }
+{
     match cmd {
         Cmd::Get { d, o, i } => on_objects::get_field(machine, caller, d, o, i),
-        Cmd::Copy { d, s } => Ok(on_objects::copy_register(machine, caller, d, s)),
         Cmd::Clear { d } => Ok(on_objects::clear_register(machine, caller, d)),
         Cmd::SGet { d, k } => Ok(on_objects::get_static(machine, caller, d, k)),
-        Cmd::Final { d } => Ok(on_objects::take_queued(machine, caller, d)),
         Cmd::CFind { d, k } => machine.find_entry(caller, d, k),
         _ => unreachable!(),
     }
@@ -295,12 +380,46 @@ fn act_plainly(machine: &mut Machine, caller: u32, cmd: Cmd) -> Result<Done, Ref
     requires register { is_some (touched_by cmd).register ≡ false }
     ensures { DecidedBy (way_of machine.old.state caller cmd) machine.old machine.new result }
 {
+    if puts_or_picks(cmd) {
+        put_or_pick(machine, caller, cmd)
+    } else {
+        read_object(machine, caller, cmd)
+    }
+}
+
+// One that writes a static or the board, or picks from the board.
+#[inline(always)]
+fn put_or_pick(machine: &mut Machine, caller: u32, cmd: Cmd) -> Result<Done, Refusal>
+    requires may { MayStep machine.old caller cmd }
+    requires plain { IsTrue (is_plain cmd) }
+    requires handle { is_some (touched_by cmd).handle ≡ false }
+    requires objects { (touched_by cmd).objects ≡ false }
+    requires register { is_some (touched_by cmd).register ≡ false }
+    requires puts { puts_or_picks (touched_by cmd) ≡ true }
+    ensures { DecidedBy (way_of machine.old.state caller cmd) machine.old machine.new result }
+{
     match cmd {
-        Cmd::Read { o } => on_objects::read_value(machine, caller, o),
         Cmd::SPut { k, s } => Ok(on_objects::put_static(machine, caller, k, s)),
-        Cmd::Gen { s } => on_objects::read_generation(machine, caller, s),
         Cmd::HPut { k, s } => Ok(on_handles::put_board(machine, caller, k, s)),
         Cmd::HPick { d, k } => Ok(on_handles::pick_board(machine, caller, d, k)),
+        _ => unreachable!(),
+    }
+}
+
+// One that reads the value or the generation of an object.
+#[inline(always)]
+fn read_object(machine: &mut Machine, caller: u32, cmd: Cmd) -> Result<Done, Refusal>
+    requires may { MayStep machine.old caller cmd }
+    requires plain { IsTrue (is_plain cmd) }
+    requires handle { is_some (touched_by cmd).handle ≡ false }
+    requires objects { (touched_by cmd).objects ≡ false }
+    requires register { is_some (touched_by cmd).register ≡ false }
+    requires others { puts_or_picks (touched_by cmd) ≡ false }
+    ensures { DecidedBy (way_of machine.old.state caller cmd) machine.old machine.new result }
+{
+    match cmd {
+        Cmd::Read { o } => on_objects::read_value(machine, caller, o),
+        Cmd::Gen { s } => on_objects::read_generation(machine, caller, s),
         _ => unreachable!(),
     }
 }
