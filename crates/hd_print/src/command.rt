@@ -1,11 +1,12 @@
 // The lines of commands, as a script has them.
-ghost use Rattle.std.specs.Prelude.{◌≡◌, ◌+◌, ◌*◌, ◌≤◌, ◌∷◌, [], ◌++◌, length, map, codes, Ok};
+ghost use Rattle.std.specs.Prelude.{◌≡◌, ◌==◌, ◌+◌, ◌*◌, ◌≤◌, ◌∷◌, [], ◌++◌, true, false, length, map, codes, Ok};
 ghost use Rattle.std.specs.List.{join_with_byte};
 ghost use Rattle.hd_model.specs.CommandText.{command_text, kind_name, strength_word};
 ghost use Rattle.hd_model.specs.Grammar.{script_of};
+ghost use Rattle.hd_model.specs.Rows.{words_after};
 ghost use Rattle.hd_model.specs.Text.{newline};
 ghost use Rattle.hd_model.specs.Valid.{IsValid};
-ghost use Rattle.hd_print.specs.Inside.{operand_word};
+ghost use Rattle.hd_print.specs.Inside.{has_handle_name, operand_word};
 
 use crate::line::Line;
 use Operand::{Handle, Number, Object, OfKind, OfStrength, Registered, Small};
@@ -52,38 +53,124 @@ fn push_command(line: &mut Line, cmd: Cmd)
     ensures text { line.new ≡ line.old ++ command_text cmd }
     ensures short { length line.new ≤ length line.old + LONGEST_COMMAND }
 {
+    if has_one_operand(cmd) {
+        push_with_one(line, cmd);
+    } else if has_handle_name(cmd) {
+        push_on_handle(line, cmd);
+    } else {
+        push_on_object(line, cmd);
+    }
+}
+
+// Whether the name of a command begins with `h`, as it does for a handle.
+fn has_handle_name(cmd: Cmd) -> bool
+    ensures { result ≡ has_handle_name cmd }
+{
+    matches!(
+        cmd,
+        Cmd::HNew { .. }
+            | Cmd::HGet { .. }
+            | Cmd::HSet { .. }
+            | Cmd::HSec { .. }
+            | Cmd::HDep { .. }
+            | Cmd::HVar { .. }
+            | Cmd::HFree { .. }
+            | Cmd::HPut { .. }
+            | Cmd::HPick { .. }
+            | Cmd::HUp { .. }
+            | Cmd::HDown { .. }
+    )
+}
+
+// Whether one word follows the name of a command.
+fn has_one_operand(cmd: Cmd) -> bool
+    ensures { result ≡ (length (words_after cmd) == 1) }
+{
+    matches!(
+        cmd,
+        Cmd::Read { .. }
+            | Cmd::Clear { .. }
+            | Cmd::Gen { .. }
+            | Cmd::Suppress { .. }
+            | Cmd::Reregister { .. }
+            | Cmd::Final { .. }
+            | Cmd::Collect { .. }
+            | Cmd::HFree { .. }
+            | Cmd::AddrOf { .. }
+            | Cmd::HUp { .. }
+            | Cmd::HDown { .. }
+            | Cmd::Trim { .. }
+            | Cmd::CRemove { .. }
+            | Cmd::GcRoot { .. }
+    )
+}
+
+// Appends a command with one operand.
+fn push_with_one(line: &mut Line, cmd: Cmd)
+    requires one { (length (words_after cmd) == 1) ≡ true }
+    requires room { length line.old + LONGEST_COMMAND ≤ Line.CAPACITY }
+    ensures text { line.new ≡ line.old ++ command_text cmd }
+    ensures short { length line.new ≤ length line.old + LONGEST_COMMAND }
+{
+    match cmd {
+        Cmd::Read { o } => push_one(line, "read", Object(o)),
+        Cmd::Clear { d } => push_one(line, "drop", Object(d)),
+        Cmd::Gen { s } => push_one(line, "gen", Object(s)),
+        Cmd::Suppress { s } => push_one(line, "suppress", Object(s)),
+        Cmd::Reregister { s } => push_one(line, "reregister", Object(s)),
+        Cmd::Final { d } => push_one(line, "final", Object(d)),
+        Cmd::Collect { n } => push_one(line, "collect", Small(n)),
+        Cmd::HFree { s } => push_one(line, "hfree", Handle(s)),
+        Cmd::AddrOf { s } => push_one(line, "addr", Handle(s)),
+        Cmd::HUp { s } => push_one(line, "hup", Handle(s)),
+        Cmd::HDown { s } => push_one(line, "hdown", Handle(s)),
+        Cmd::Trim { kind } => push_one(line, "trim", OfKind(kind)),
+        Cmd::CRemove { k } => push_one(line, "cremove", Object(k)),
+        Cmd::GcRoot { s } => push_one(line, "gcroot", Object(s)),
+        _ => unreachable!(),
+    }
+}
+
+// Appends a command of a handle with more operands than one.
+fn push_on_handle(line: &mut Line, cmd: Cmd)
+    requires more { (length (words_after cmd) == 1) ≡ false }
+    requires name { has_handle_name cmd ≡ true }
+    requires room { length line.old + LONGEST_COMMAND ≤ Line.CAPACITY }
+    ensures text { line.new ≡ line.old ++ command_text cmd }
+    ensures short { length line.new ≤ length line.old + LONGEST_COMMAND }
+{
+    match cmd {
+        Cmd::HNew { d, make, t } => push_hnew(line, d, make, t),
+        Cmd::HGet { d, s } => push_two(line, "hget", Object(d), Handle(s)),
+        Cmd::HSet { s, t } => push_two(line, "hset", Handle(s), Object(t)),
+        Cmd::HSec { h, s } => push_two(line, "hsec", Handle(h), Object(s)),
+        Cmd::HDep { d, s } => push_two(line, "hdep", Object(d), Handle(s)),
+        Cmd::HVar { s, strength } => push_two(line, "hvar", Handle(s), OfStrength(strength)),
+        Cmd::HPut { k, s } => push_two(line, "hput", Small(k), Handle(s)),
+        Cmd::HPick { d, k } => push_two(line, "hpick", Handle(d), Small(k)),
+        _ => unreachable!(),
+    }
+}
+
+// Appends another command with more operands than one.
+fn push_on_object(line: &mut Line, cmd: Cmd)
+    requires more { (length (words_after cmd) == 1) ≡ false }
+    requires name { has_handle_name cmd ≡ false }
+    requires room { length line.old + LONGEST_COMMAND ≤ Line.CAPACITY }
+    ensures text { line.new ≡ line.old ++ command_text cmd }
+    ensures short { length line.new ≤ length line.old + LONGEST_COMMAND }
+{
     match cmd {
         Cmd::New { d, fields, fin } => push_new(line, d, fields, fin),
         Cmd::Set { o, i, v } => push_words(line, "set", &[Object(o), Small(i), Object(v)]),
         Cmd::Get { d, o, i } => push_words(line, "get", &[Object(d), Object(o), Small(i)]),
-        Cmd::Val { o, n } => push_words(line, "val", &[Object(o), Number(n)]),
-        Cmd::Read { o } => push_words(line, "read", &[Object(o)]),
-        Cmd::Copy { d, s } => push_words(line, "copy", &[Object(d), Object(s)]),
-        Cmd::Clear { d } => push_words(line, "drop", &[Object(d)]),
-        Cmd::SPut { k, s } => push_words(line, "sput", &[Small(k), Object(s)]),
-        Cmd::SGet { d, k } => push_words(line, "sget", &[Object(d), Small(k)]),
-        Cmd::Gen { s } => push_words(line, "gen", &[Object(s)]),
-        Cmd::Suppress { s } => push_words(line, "suppress", &[Object(s)]),
-        Cmd::Reregister { s } => push_words(line, "reregister", &[Object(s)]),
-        Cmd::Final { d } => push_words(line, "final", &[Object(d)]),
-        Cmd::Collect { n } => push_words(line, "collect", &[Small(n)]),
-        Cmd::HNew { d, make, t } => push_hnew(line, d, make, t),
-        Cmd::HGet { d, s } => push_words(line, "hget", &[Object(d), Handle(s)]),
-        Cmd::HSet { s, t } => push_words(line, "hset", &[Handle(s), Object(t)]),
-        Cmd::HSec { h, s } => push_words(line, "hsec", &[Handle(h), Object(s)]),
-        Cmd::HDep { d, s } => push_words(line, "hdep", &[Object(d), Handle(s)]),
-        Cmd::HVar { s, strength } => push_words(line, "hvar", &[Handle(s), OfStrength(strength)]),
-        Cmd::HFree { s } => push_words(line, "hfree", &[Handle(s)]),
-        Cmd::HPut { k, s } => push_words(line, "hput", &[Small(k), Handle(s)]),
-        Cmd::HPick { d, k } => push_words(line, "hpick", &[Handle(d), Small(k)]),
-        Cmd::AddrOf { s } => push_words(line, "addr", &[Handle(s)]),
-        Cmd::HUp { s } => push_words(line, "hup", &[Handle(s)]),
-        Cmd::HDown { s } => push_words(line, "hdown", &[Handle(s)]),
-        Cmd::Trim { kind } => push_words(line, "trim", &[OfKind(kind)]),
-        Cmd::CAdd { k, v } => push_words(line, "cadd", &[Object(k), Object(v)]),
-        Cmd::CFind { d, k } => push_words(line, "cfind", &[Object(d), Object(k)]),
-        Cmd::CRemove { k } => push_words(line, "cremove", &[Object(k)]),
-        Cmd::GcRoot { s } => push_words(line, "gcroot", &[Object(s)]),
+        Cmd::Val { o, n } => push_two(line, "val", Object(o), Number(n)),
+        Cmd::Copy { d, s } => push_two(line, "copy", Object(d), Object(s)),
+        Cmd::SPut { k, s } => push_two(line, "sput", Small(k), Object(s)),
+        Cmd::SGet { d, k } => push_two(line, "sget", Object(d), Small(k)),
+        Cmd::CAdd { k, v } => push_two(line, "cadd", Object(k), Object(v)),
+        Cmd::CFind { d, k } => push_two(line, "cfind", Object(d), Object(k)),
+        _ => unreachable!(),
     }
 }
 
@@ -118,6 +205,28 @@ fn push_hnew(line: &mut Line, d: u8, make: Make, t: u8)
             push_words(line, "hnew", &[handle, kind, target, Object(s)]);
         }
     }
+}
+
+// Appends the name of a command and its operand.
+fn push_one(line: &mut Line, name: &str, operand: Operand)
+    requires name { length name.now ≤ LONGEST_NAME }
+    requires room { length line.old + LONGEST_COMMAND ≤ Line.CAPACITY }
+    ensures text { line.new
+        ≡ line.old ++ join_with_byte 32 (name.now ∷ operand_word operand ∷ []) }
+    ensures short { length line.new ≤ length line.old + LONGEST_COMMAND }
+{
+    push_words(line, name, &[operand]);
+}
+
+// Appends the name of a command and its two operands.
+fn push_two(line: &mut Line, name: &str, first: Operand, second: Operand)
+    requires name { length name.now ≤ LONGEST_NAME }
+    requires room { length line.old + LONGEST_COMMAND ≤ Line.CAPACITY }
+    ensures text { line.new
+        ≡ line.old ++ join_with_byte 32 (name.now ∷ operand_word first ∷ operand_word second ∷ []) }
+    ensures short { length line.new ≤ length line.old + LONGEST_COMMAND }
+{
+    push_words(line, name, &[first, second]);
 }
 
 // Appends the words of a command, with a blank between each two.
