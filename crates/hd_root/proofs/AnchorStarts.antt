@@ -6,18 +6,13 @@ use Rattle.std.proofs.lemmas.List.{get_or-map, length-map}
 use Rattle.std.proofs.lemmas.List.Elements.{Contains-get_or}
 use Rattle.std.proofs.lemmas.List.Sorted.{Contains-permutation, IsPermutation-sym}
 use Rattle.hd_model.specs.declared.data.Addr.{Addr}
-use Rattle.hd_model.specs.Heap.{Heap, has_object, object_at}
-use Rattle.hd_model.specs.Names.{HasClosedFields, NamesObjects}
-use Rattle.hd_model.specs.Table.{Table, row_at}
+use Rattle.hd_model.specs.Heap.{Heap, has_object}
 use Rattle.hd_model.proofs.Members.{mapped_in, mapped_from}
 use Rattle.hd_root.specs.declared.anchors.Anchor.{Anchor}
-use Rattle.hd_root.specs.declared.dependents.Link.{Link}
-use Rattle.hd_root.specs.Inside.{AreStarts, anchor_of, id_of, node_of}
-use Rattle.hd_root.specs.Links.{AreLinks}
-use Rattle.hd_root.specs.Search.{IsNode, address, number}
+use Rattle.hd_root.specs.Inside.{AreObjects, AreStarts, anchor_of, id_of, node_of}
+use Rattle.hd_root.specs.Search.{address, number}
 use Rattle.hd_walk.specs.declared.trail.Found.{Found}
 use Rattle.hd_walk.specs.Trail.{with_all}
-use Rattle.hd_walk.specs.Walk.{AreNodes}
 use Rattle.hd_walk.proofs.Slices.{at_member}
 use Rattle.hd_walk.proofs.TrailAdds.{added_to}
 
@@ -70,19 +65,11 @@ module _ (h : Heap) (anchors : List Addr) (listed : List Anchor) (starts : List 
         in_order;
   }
 
--- they are nodes of the graph
-pub start_nodes : {h : Heap} {t : Table} {links : List Link} {anchors : List Addr} {starts : List ℕ}
-    → HasClosedFields (object_at h) → NamesObjects (object_at h) (row_at t) → AreLinks t links
+-- they are objects
+pub start_objects : {h : Heap} {anchors : List Addr} {starts : List ℕ}
     → ((a : Addr) → Contains anchors a → has_object h a ≡ true) → AreStarts h anchors starts
-    → {found : List Found} → found ≡ with_all [] starts None → AreNodes (IsNode h t links) found
-start_nodes {h = h} {starts = starts} fields rows links objects s {found = found} is i x at =
+    → {found : List Found} → found ≡ with_all [] starts None → AreObjects h found
+start_objects {h = h} objects s is i x at =
     let v = added_to (λ x y. number h (address x) ≤ number h (address y)) None is s.rising in
-    record {
-      object =
-          objects (address x.at)
-          (s.only x.at
-          (v.only x (at_member v.added i x (ap (λ xs. slice_get xs i) (sym v.extends) ∙ at))).1);
-      fields = fields;
-      rows = rows;
-      linked = links;
-    }
+    objects (address x.at)
+    (s.only x.at (v.only x (at_member v.added i x (ap (λ xs. slice_get xs i) (sym v.extends) ∙ at))).1)

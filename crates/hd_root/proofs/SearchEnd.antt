@@ -6,10 +6,12 @@ use Rattle.std.proofs.lemmas.List.{length-map, reverse-reverse}
 use Rattle.std.proofs.lemmas.Option.{slice_get_within}
 use Rattle.hd_model.specs.declared.data.Addr.{Addr}
 use Rattle.hd_model.specs.Anchors.{IsUnrooted}
-use Rattle.hd_model.specs.Heap.{Heap}
-use Rattle.hd_model.specs.Table.{Table}
+use Rattle.hd_model.specs.Heap.{Heap, object_at}
+use Rattle.hd_model.specs.Names.{HasClosedFields, NamesObjects}
+use Rattle.hd_model.specs.Table.{Table, row_at}
 use Rattle.hd_root.specs.declared.dependents.Link.{Link}
 use Rattle.hd_root.specs.Inside.{AreStarts}
+use Rattle.hd_root.specs.Links.{AreLinks}
 use Rattle.hd_root.specs.{Chain.IsPath, Chain.IsLeastChain, Inside.IsChainOf}
 use Rattle.hd_root.specs.{Inside.AreObjects, Search.EdgeBy, Search.EdgeIn, Search.IsNode, Search.address, Search.in_any_order, Search.number}
 use Rattle.hd_walk.specs.declared.trail.Found.{Found}
@@ -30,14 +32,8 @@ module _ (h : Heap) (t : Table) where
   path_of (IsWalk.onward edge walk) = IsPath.more edge (path_of walk)
 
   module _ {links : List Link} {anchors : List Addr} {starts : List ℕ} (s : AreStarts h anchors starts)
-      {goal : Addr} {old found : List Found} {end : Option ℕ} {to : ℕ}
-      (begins : old ≡ with_all [] starts None) (is_goal : to ≡ goal.0)
-      (ended : HasEnded (IsNode h t links) (EdgeBy h t) in_any_order (Some to) old 0 found end) where
-    e : HasEnded (IsNode h t links) (EdgeBy h t) in_any_order (Some goal.0) old 0 found end
-    e =
-        subst (λ n. HasEnded (IsNode h t links) (EdgeBy h t) in_any_order (Some n) old 0 found end) is_goal
-        ended
-
+      {goal : Addr} {old found : List Found} {end : Option ℕ} (begins : old ≡ with_all [] starts None)
+      (e : HasEnded (IsNode h t links) (EdgeBy h t) in_any_order (Some goal.0) old 0 found end) where
     abbrev First : ℕ → ℕ → Type 0
     First x y = number h (address x) ≤ number h (address y)
 
@@ -105,3 +101,10 @@ module _ (h : Heap) (t : Table) where
 pub node_objects : {h : Heap} {t : Table} {links : List Link} (found : List Found)
     → AreNodes (IsNode h t links) found → AreObjects h found
 node_objects found nodes i x at = (nodes i x at).object
+
+-- and objects are nodes
+pub object_nodes : {h : Heap} {t : Table} {links : List Link} → HasClosedFields (object_at h)
+    → NamesObjects (object_at h) (row_at t) → AreLinks t links → (found : List Found) → AreObjects h found
+    → AreNodes (IsNode h t links) found
+object_nodes fields rows links found objects i x at =
+    record { object = objects i x at; fields = fields; rows = rows; linked = links }

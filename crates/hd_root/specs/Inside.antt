@@ -1,8 +1,8 @@
 -- What private clauses alone cite.
 use Rattle.std.specs.Prelude.{◌≡◌, ◌≢◌, ℕ, ◌+◌, ◌<◌, ◌≤◌, ◌⊎◌, ◌++◌, ◌∷◌, [], List, length, slice_get, Option, Some, None, MatchOption, true, Contains, AllPairs, ◌^◌, map, reverse, All}
 use Rattle.hd_model.specs.{declared.data.Addr.Addr, State.Handle, State.secondary_of, Table.Table, Table.row_at, Reach.IsAttached, Heap.Heap, Heap.has_object}
-use Rattle.hd_walk.specs.{declared.trail.Found.Found, Trail.IsReadBack}
-use Rattle.hd_root.specs.{declared.dependents.Link.Link, Links.Attaches, Search.address, Search.number, declared.anchors.Anchor.Anchor}
+use Rattle.hd_walk.specs.{declared.trail.Found.Found, Trail.IsReadBack, Walk.HasEnded}
+use Rattle.hd_root.specs.{declared.dependents.Link.Link, Links.Attaches, Search.EdgeBy, Search.IsNode, Search.address, Search.in_any_order, Search.number, declared.anchors.Anchor.Anchor}
 
 -- ---- the rows of dependent handles by their targets: each has the index of the one before it with its target
 
@@ -65,6 +65,12 @@ nodes_in (Some a) = a.0 ∷ []
 -- all that is found are objects
 abbrev pub AreObjects : Heap → List Found → Type 0
 AreObjects h found = (i : ℕ) (x : Found) → slice_get found i ≡ Some x → has_object h (address x.at) ≡ true
+
+-- a walk from what is found ended: the goal is found, or all that edges lead to
+pub record WalksTo (h : Heap) (t : Table) (goal : Addr) (old new : List Found) (end : Option ℕ) : Type 0 where
+  pub links : List Link
+  pub ended : HasEnded (IsNode h t links) (EdgeBy h t) in_any_order (Some goal.0) old 0 new end
+  pub objects : AreObjects h new
 
 -- ---- a shortest chain as a list of objects
 

@@ -1,6 +1,6 @@
 // The anchors of a search, in rising identity.
 
-ghost use Rattle.std.specs.Prelude.{◌≡◌, true, map, Contains, IfOk};
+ghost use Rattle.std.specs.Prelude.{◌≡◌, ◌≤◌, [], true, length, map, vec_capacity, Contains, IfOk};
 ghost use Rattle.std.specs.List.Sorted.{IsPermutation, IsNonDecreasingBy};
 ghost use Rattle.hd_model.specs.declared.data.Addr.{Addr as AddrValue};
 ghost use Rattle.hd_model.specs.Heap.{has_object};
@@ -37,11 +37,22 @@ fn identified(alloc: Global, heap: &Heap, anchors: &[Addr]) -> Result<Vec<Anchor
     ensures { IfOk result (λ listed. listed.items ≡ map (anchor_of heap.now) anchors.now) }
 {
     let mut listed = Vec::with_capacity(alloc, anchors.len())?;
+    identify(heap, anchors, &mut listed);
+    Ok(listed)
+}
+
+// Lists them, for which there is room.
+#[inline(always)]
+fn identify(heap: &Heap, anchors: &[Addr], listed: &mut Vec<Anchor>)
+    requires objects { (a : AddrValue) → Contains anchors.now a → has_object heap.now a ≡ true }
+    requires none { listed.old.items ≡ [] }
+    requires room { length anchors.now ≤ vec_capacity listed.old }
+    ensures { listed.new.items ≡ map (anchor_of heap.now) anchors.now }
+{
     for at in anchors {
         let id = heap.id(*at).0;
         listed.push_reserved(Anchor { id, at: *at });
     }
-    Ok(listed)
 }
 
 // Puts them in the order of their identities.

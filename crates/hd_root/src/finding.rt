@@ -5,6 +5,7 @@ ghost use Rattle.hd_model.specs.Heap.{has_object, object_at};
 ghost use Rattle.hd_model.specs.Names.{HasClosedFields, NamesObjects};
 ghost use Rattle.hd_model.specs.Table.{row_at};
 ghost use Rattle.hd_root.specs.Chain.{IsLeastChain};
+ghost use Rattle.hd_root.specs.Inside.{AreObjects, WalksTo};
 ghost use Rattle.hd_root.specs.Search.{EdgeIn, number};
 ghost use Rattle.hd_walk.specs.Trail.{with_all};
 
@@ -55,19 +56,36 @@ fn found_from(
         IfOk result (λ found. MatchOption found (IsUnrooted edge (Contains anchors.now) goal)
         (IsLeastChain edge (Contains anchors.now) (number heap.now) goal)) }
 {
-    let dependents = dependents_of(alloc, seg)?;
     let starts = by_identity(alloc, heap, anchors)?;
     let mut trail = entered(alloc, &starts)?;
+    match walk_to(alloc, heap, seg, goal, &mut trail)? {
+        Some(last) => Ok(Some(chain_of(alloc, heap, &trail, last)?)),
+        None => Ok(None),
+    }
+}
+
+// Walks along fields and dependent handles from the objects of a trail until the goal is found, and
+// returns the index at which it is.
+#[inline(always)]
+fn walk_to(
+    alloc: Global,
+    heap: &Heap,
+    seg: &Seg,
+    goal: Addr,
+    trail: &mut Trail,
+) -> Result<Option<usize>, AllocError>
+    requires fields { HasClosedFields (object_at heap.now) }
+    requires rows { NamesObjects (object_at heap.now) (row_at seg.now) }
+    requires objects { AreObjects heap.now trail.old }
+    ensures { IfOk result (WalksTo heap.now seg.now goal trail.old trail.new) }
+{
+    let dependents = dependents_of(alloc, seg)?;
     let graph = Graph {
         heap,
         seg,
         dependents: &dependents,
     };
-    let end = walk(alloc, &graph, &mut trail, 0, Some(u64::from(goal.0)))?;
-    match end {
-        Some(last) => Ok(Some(chain_of(alloc, heap, &trail, last)?)),
-        None => Ok(None),
-    }
+    walk(alloc, &graph, trail, 0, Some(u64::from(goal.0)))
 }
 
 // A trail that begins with these nodes.

@@ -1,6 +1,6 @@
 use Rattle.std.proofs.Common.{◌≡◌, ◌≤◌, length, map, take, vec_capacity}
 use Rattle.hd_root.specs.Inside.{anchor_of}
-use Rattle.hd_root.proofs.anchors.identified.Given as goal
+use Rattle.hd_root.proofs.anchors.identify.Given as goal
 
 abbrev pub invariant-loop-at : goal.invariant-loop-at
 invariant-loop-at l = record {
