@@ -35,12 +35,6 @@ module _ {n : Numbers} {lists : List (List Cmd)} {j : Progress} {bytes rest : Li
       subst (λ m. IsNoRun m lists bytes (count + 1)) at.numbers
       (subst (λ k. IsNoRun j.machine.numbers lists bytes (k + 1)) at.count_is none)
 
-  -- no line follows
-  pub none_follows : (length rest == 0) ≡ true → IsNoRun n lists bytes (count + 1)
-  none_follows empty =
-      no_run (missing_line at.along bytes rest at.cut
-      (nil_from_length rest (eqb-true (length rest) 0 empty)))
-
   module _ (line after : List ℕ) (next : cut_lines rest ≡ line ∷ cut_lines after) (new : Progress) where
     -- a line follows that is not right
     pub wrong_follows : TakesLine lists j line new false → IsNoRun n lists bytes (count + 1)

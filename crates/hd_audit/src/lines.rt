@@ -48,23 +48,7 @@ fn judged_or_out_of_memory(
     ensures { IfOk result (IsRight (numbers_of scripts.now heap blocks) scripts.now text.now) }
 {
     let mut judged = Progress::open(alloc, scripts, heap, blocks)?;
-    let mut lines = 0;
-    let mut rest = text;
-    'lines: while judged.left > 0 {
-        if rest.is_empty() {
-            return Ok(Verdict::NotRun { line: lines + 1 });
-        }
-        let (line, after) = cut_line(rest);
-        if !judged.take_line(scripts, line)? {
-            return Ok(Verdict::NotRun { line: lines + 1 });
-        }
-        lines += 1;
-        rest = after;
-    }
-    if rest.is_empty() {
-        return Ok(Verdict::NotRun { line: lines + 1 });
-    }
-    Ok(judged.end(lines, rest))
+    judged.judge(scripts, text)
 }
 
 /// The first line with its end, which the last one may not have, and the bytes after it.
@@ -160,8 +144,41 @@ impl Progress {
         Ok(true)
     }
 
-    // The verdict on what follows the lines of all entries.
+    // The verdict on a text, of which no line was judged.
+    #[inline(always)]
+    fn judge(&mut self, scripts: &Scripts, text: &[u8]) -> Result<Verdict, Memory>
+        requires { Along scripts.now self.old [] }
+        ensures { IfOk result (IsRight self.old.machine.numbers scripts.now text.now) }
+    {
+        let mut lines = 0;
+        let mut rest = text;
+        'lines: while self.left > 0 && !rest.is_empty() {
+            let (line, after) = cut_line(rest);
+            if !self.take_line(scripts, line)? {
+                return Ok(Verdict::NotRun { line: lines + 1 });
+            }
+            lines += 1;
+            rest = after;
+        }
+        Ok(self.end(lines, rest))
+    }
+
+    // The verdict on what follows the lines that were judged: none is left, or no command is.
     fn end(&self, lines: u32, rest: &[u8]) -> Verdict
+        requires whole { 0 < length rest.now → self.now.left ≡ 0 }
+        requires few { lines + 2 < 2 ^ 32 }
+        requires objects { len self.now.machine.state.objects < 2 ^ 32 }
+        ensures { Ends self.now lines rest.now result }
+    {
+        if rest.is_empty() {
+            Verdict::NotRun { line: lines + 1 }
+        } else {
+            self.last(lines, rest)
+        }
+    }
+
+    // The verdict on what follows the lines of all entries.
+    fn last(&self, lines: u32, rest: &[u8]) -> Verdict
         requires some { 0 < length rest.now }
         requires whole { self.now.left ≡ 0 }
         requires few { lines + 2 < 2 ^ 32 }

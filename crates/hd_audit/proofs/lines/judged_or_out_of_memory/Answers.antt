@@ -1,57 +1,13 @@
-use Rattle.std.proofs.Common.{[], arith, refl, subst, sym, ◌∙◌}
-use Rattle.hd_audit.specs.Inside.{TakesLine}
-use Rattle.hd_audit.proofs.LinesSoFar.{ends_so, few_lines, few_objects, none_follows, right_follows, wrong_follows}
+use Rattle.std.proofs.Common.{subst}
+use Rattle.std.specs.Prelude.{IfOk}
+use Rattle.hd_model.specs.State.{Numbers}
+use Rattle.hd_audit.specs.RightVerdicts.{IsRight}
 use Rattle.hd_audit.proofs.lines.judged_or_out_of_memory.Goals as goal
 
-pub lines-init : goal.lines-init
-lines-init c = record {
-  lines = [];
-  along = c.in_ok-judged.ensures.none;
-  numbers = c.in_ok-judged.ensures.numbers;
-  count_is = refl;
-  cut = refl;
-}
-
-pub take_line-requires-clause-along : goal.take_line-requires-clause-along
-take_line-requires-clause-along c = (c.lines.invariant.lines, c.lines.invariant.along)
-
-pub overflow_add-result : goal.overflow_add-result
-overflow_add-result c = let low = few_lines c.lines.invariant in omega (arith, low)
-
-pub returns-then-is_empty : goal.returns-then-is_empty
-returns-then-is_empty c = none_follows c.lines.invariant (sym c.is_empty.ensures ∙ c.if-is_empty.true)
-
-pub overflow_add-result-then-not-branch : goal.overflow_add-result-then-not-branch
-overflow_add-result-then-not-branch c = let low = few_lines c.lines.invariant in omega (arith, low)
-
-pub returns-then-not-branch : goal.returns-then-not-branch
-returns-then-not-branch c =
-    wrong_follows c.lines.invariant c.cut_line.result.0.now c.cut_line.result.1.now c.cut_line.ensures.lines
-    c.take_line.new.self
-    (subst (TakesLine c.args.scripts.now c.lines.judged c.cut_line.result.0.now c.take_line.new.self)
-    c.if-not-branch.true c.in_ok-take_line.ensures)
-
-pub overflow_add-lines : goal.overflow_add-lines
-overflow_add-lines c = let low = few_lines c.lines.invariant in omega (arith, low)
-
-pub lines-preserved : goal.lines-preserved
-lines-preserved c =
-    right_follows c.lines.invariant c.cut_line.result.0.now c.cut_line.result.1.now c.cut_line.ensures.lines
-    c.take_line.new.self
-    (subst (TakesLine c.args.scripts.now c.lines.judged c.cut_line.result.0.now c.take_line.new.self)
-    c.if-not-branch.false c.in_ok-take_line.ensures)
-
-pub overflow_add-result-then-is_empty-2 : goal.overflow_add-result-then-is_empty-2
-overflow_add-result-then-is_empty-2 c = let low = few_lines c.lines.invariant in omega (arith, low)
-
-pub returns-then-is_empty-2 : goal.returns-then-is_empty-2
-returns-then-is_empty-2 c = none_follows c.lines.invariant (sym c.is_empty-2.ensures ∙ c.if-is_empty-2.true)
-
-pub end-requires-clause-few : goal.end-requires-clause-few
-end-requires-clause-few c = let low = few_lines c.lines.invariant in omega (arith, low)
-
-pub end-requires-clause-objects : goal.end-requires-clause-objects
-end-requires-clause-objects c = few_objects c.lines.invariant
+pub judge-requires : goal.judge-requires
+judge-requires c = c.in_ok-judged.ensures.none
 
 pub returns : goal.returns
-returns c = ends_so c.lines.invariant c.end.result c.end.ensures
+returns c =
+    subst (λ (n : Numbers). IfOk c.judge.result (IsRight n c.args.scripts.now c.args.text.now))
+    c.in_ok-judged.ensures.numbers c.judge.ensures
