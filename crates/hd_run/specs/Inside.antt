@@ -8,10 +8,11 @@ use Rattle.hd_gate.specs.Shared.{CallerView, AreAll, Begin, IsCallerOf, IsSameCa
 use Rattle.hd_script.specs.{declared.fault.ScriptFault.ScriptFault, AuditInput.IsNoAuditInput}
 use Rattle.hd_io.specs.Sink.{SinkView, Took, WriteBrokeOff}
 use Rattle.hd_audit.specs.declared.lines.Verdict.{Verdict}
-use Rattle.clap.specs.Words.{IsUnsignedIn, Text, one_text}
+use Rattle.clap.specs.Words.{App, IsUnsignedIn, Text, new_app, one_text, with_rule}
 use Rattle.clap.specs.{declared.error.kind.ErrorKind.ErrorKind, declared.error.kind.ErrorKind.TheVariants.OutOfMemory, declared.parser.matches.Found.Found}
 use Rattle.hd_io.specs.Source.{SourceView}
 use Rattle.hd_run.specs.Turns.{turns_from, RanUpTo, list_of}
+use Rattle.hd_run.specs.Words.{mode_rule, number_rule}
 use Rattle.hd_run.specs.{Together.MayRunOut, declared.fault.Fault.Fault, declared.ending.Ran.Ran, declared.ending.Ending.Ending, declared.mode.Output.Output, declared.mode.Output.TheVariants.Lines, declared.mode.Output.TheVariants.Summary, declared.audit.Finding.Finding, Bounds.Bounds, Bounds.numbers_for, declared.audit.Finding.TheVariants.Right, declared.audit.Finding.TheVariants.WrongAt, Audit.HasRun, Audit.HasNoRun, declared.limits.TheConstants.LEAST_HEAP, declared.request.Request.Request, declared.mode.Manner.Manner, Modes.traits_of}
 use Rattle.hd_run.specs.declared.ending.Ending.TheVariants.{Refused, Stopped, Done}
 use Rattle.hd_run.specs.Ending.{world_that, unparsed_fault, kept_of, world_of, journal_in, ScriptBy, numbers_by, CauseBy}
@@ -164,6 +165,16 @@ request_or_usage (Some request) = Ok request
 abbrev pub IsRefusal : ErrorKind → Fault → Type 0
 IsRefusal kind fault =
     ((fault ≡ NoMemory) × (kind ≡ OutOfMemory)) ⊎ ((fault ≡ Usage) × (kind ≢ OutOfMemory))
+
+-- the command as it is made: a mode, then also the limit of the heap, and that of the table
+abbrev pub with_mode : App
+with_mode = with_rule (new_app (codes "hdt")) mode_rule
+
+abbrev pub with_heap : App
+with_heap = with_rule with_mode (number_rule (codes "heap") LEAST_HEAP HEAP)
+
+abbrev pub with_blocks : App
+with_blocks = with_rule with_heap (number_rule (codes "blocks") 1 BLOCKS)
 
 -- the rounds are ones that a load may have
 pub record IsInLimits (request : Request) : Type 0 where

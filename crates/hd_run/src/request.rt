@@ -5,6 +5,7 @@ ghost use Rattle.hd_run.specs.Words.{request_of, if_alone, audit_of, asked_by, n
 ghost use Rattle.hd_run.specs.Words.{flag_rule, numbered, program, is_given};
 ghost use Rattle.hd_run.specs.{Words.number_of, Inside.request_or_usage, Inside.IsRefusal};
 ghost use Rattle.hd_run.specs.Inside.{IsFaultOfWords, IsInLimits, GivesNumbers, GivesNumber};
+ghost use Rattle.hd_run.specs.Inside.{with_mode, with_heap, with_blocks};
 
 use crate::fault::Fault;
 use crate::limits::{LEAST_HEAP, Limits};
@@ -111,18 +112,40 @@ fn refusal(error: &Error) -> Fault
 fn command<'a>(alloc: Global) -> Result<Command<'a>, AllocError>
     ensures { IfOk result (λ c. app_of c ≡ program) }
 {
-    numbered(alloc)?.arg(flag(alloc, "slots"))
+    let command = numbered(alloc)?;
+    command.arg(flag(alloc, "slots"))
 }
 
 // The same without the flag.
 fn numbered<'a>(alloc: Global) -> Result<Command<'a>, AllocError>
     ensures { IfOk result (λ c. app_of c ≡ numbered) }
 {
-    Command::new(alloc, "hdt")
-        .arg(Arg::new(alloc, "mode").required(true))?
-        .arg(number(alloc, "heap", LEAST_HEAP, HEAP))?
-        .arg(number(alloc, "blocks", 1, BLOCKS))?
-        .arg(number(alloc, "rounds", 1, MOST_ROUNDS))
+    let command = with_blocks(alloc)?;
+    command.arg(number(alloc, "rounds", 1, MOST_ROUNDS))
+}
+
+// A mode, and the limits of the heap and of the table.
+fn with_blocks<'a>(alloc: Global) -> Result<Command<'a>, AllocError>
+    ensures { IfOk result (λ c. app_of c ≡ with_blocks) }
+{
+    let command = with_heap(alloc)?;
+    command.arg(number(alloc, "blocks", 1, BLOCKS))
+}
+
+// A mode, and the limit of the heap.
+fn with_heap<'a>(alloc: Global) -> Result<Command<'a>, AllocError>
+    ensures { IfOk result (λ c. app_of c ≡ with_heap) }
+{
+    let command = with_mode(alloc)?;
+    command.arg(number(alloc, "heap", LEAST_HEAP, HEAP))
+}
+
+// A mode alone.
+fn with_mode<'a>(alloc: Global) -> Result<Command<'a>, AllocError>
+    ensures { IfOk result (λ c. app_of c ≡ with_mode) }
+{
+    let mode = Arg::new(alloc, "mode").required(true);
+    Command::new(alloc, "hdt").arg(mode)
 }
 
 // An option with a whole number from `least` to `most`.
