@@ -1,5 +1,0 @@
-use Rattle.hd_ages.specs.Clumps.{CoversTable}
-use Rattle.use_seg.proofs.fill.Given as goal
-
-abbrev pub invariant-loop-slot : goal.invariant-loop-slot
-invariant-loop-slot l = CoversTable l.ages l.seg
