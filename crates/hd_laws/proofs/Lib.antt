@@ -16,3 +16,8 @@ pub mod CollectionExamples
 pub mod RootExamples
 pub mod StepExamples
 pub mod WeakExamples
+pub mod OperandRanges
+pub mod JournalTexts
+pub mod WorkedLines
+pub mod CommandOutcomes
+pub mod WorkedCommands

@@ -1,21 +1,8 @@
 -- Examples of what steps return and give, each proved by computing.
-use Rattle.hd_model.proofs.Basics.{None, Numbers, [], all_kinds, reply_address, block_of, blocks_needed, count, first_slot, identity_of, made_extra, map, read_generation, refl, reply_text, secondary, start_of, take_queued, ◌∷◌, ◌≡◌}
-use Rattle.std.specs.{Fmt.digits, Prelude.codes}
+use Rattle.hd_model.proofs.Basics.{None, Numbers, [], all_kinds, reply_address, block_of, blocks_needed, count, first_slot, made_extra, map, read_generation, refl, secondary, start_of, take_queued, ◌∷◌, ◌≡◌}
 use Rattle.hd_model.specs.declared.data.Make.TheVariants as make
 use Rattle.hd_model.specs.declared.data.Refusal.TheVariants as refusal
 use Rattle.hd_model.specs.declared.data.Reply.TheVariants as reply
-
--- the texts of replies
-pub replies_in_text :
-    map reply_text (
-    reply.Object (identity_of 2 7)
-    ∷ reply.Report (record { kept = 12; removed = 3; short = 0; long = 1; dep = 2; revived = 10 })
-    ∷ reply.Generation 2 ∷ reply.Place 16447 ∷ reply.NoneQueued ∷ reply.Refused refusal.CountZero
-    ∷ reply.Refused (refusal.TableFull 256) ∷ [])
-    ≡ codes "obj 2.7" ∷ codes "kept 12 removed 3 short 0 long 1 dep 2 revived 10" ∷ codes "gen 2"
-    ∷ codes "addr 16447" ∷ codes "none" ∷ codes "countzero" ∷ codes "tablefull 256" ∷ []
-unfolding digits
-replies_in_text = refl
 
 -- a kind with extra data grows the table by two blocks, and any other by one
 pub blocks_of_kinds : map blocks_needed all_kinds ≡ 1 ∷ 1 ∷ 1 ∷ 1 ∷ 2 ∷ 2 ∷ 2 ∷ []

@@ -1,8 +1,12 @@
 pub mod AnchorSamples
 pub mod CollectionLaws
 pub mod CollectionSamples
+pub mod CommandLaws
 pub mod Constants
 pub mod DueClumps
+pub mod RangeLaws
+pub mod ReadingLaws
 pub mod RootText
+pub mod TextLaws
 pub mod UserLaws
 pub mod WeakLaws

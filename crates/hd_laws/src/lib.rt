@@ -3,5 +3,7 @@
 
 pub mod anchor_laws;
 pub mod collection_laws;
+pub mod command_laws;
 pub mod laws;
+pub mod text_laws;
 pub mod weak_laws;

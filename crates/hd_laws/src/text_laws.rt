@@ -1,0 +1,36 @@
+ghost use Rattle.hd_laws.specs.TextLaws.{TextsAreThese, CallersCountTheirLines};
+ghost use Rattle.hd_laws.specs.TextLaws.{TextsTellSlotsAndBlocks, EmptyTextsLackLineOne};
+ghost use Rattle.hd_laws.specs.ReadingLaws.{ReadingsAreThese};
+
+/// The text of a worked journal of three callers, plain and full, the text of each reply, the name
+/// of each kind, and the line of a load, are these bytes.
+#[tactic(auto, using(crate::proofs::JournalTexts::texts_are_these))]
+pub fn texts_are_these()
+    ensures { TextsAreThese }
+{}
+
+/// Each entry of a journal has one line. The first line of a caller has the number 1, and each next
+/// one of that caller one more.
+#[tactic(auto, using(crate::proofs::JournalTexts::callers_count_their_lines))]
+pub fn callers_count_their_lines()
+    ensures { CallersCountTheirLines }
+{}
+
+/// An empty text is that of no run for its line 1, which is missing.
+#[tactic(auto, using(crate::proofs::JournalTexts::empty_texts_lack_line_one))]
+pub fn empty_texts_lack_line_one()
+    ensures { EmptyTextsLackLineOne }
+{}
+
+/// What a full line ends with tells the slot of its entry, and the blocks that came into use or
+/// were given back.
+pub fn texts_tell_slots_and_blocks()
+    ensures { TextsTellSlotsAndBlocks }
+{}
+
+/// A line of each command, with the operands at the ends of their ranges, is read as that command;
+/// lines past these ends have no reading; and a worked script has its lists.
+#[tactic(auto, using(crate::proofs::WorkedLines::readings_are_these))]
+pub fn readings_are_these()
+    ensures { ReadingsAreThese }
+{}
