@@ -1,9 +1,6 @@
 -- Which operands each command can have.
 use Rattle.hd_model.proofs.Basics.{arith, refl, true≢false, ◌≤◌}
 use Rattle.hd_laws.specs.RangeLaws.{RangesAreThese}
-use Rattle.hd_model.specs.declared.data.Kind.TheVariants as kind
-use Rattle.hd_model.specs.declared.data.Make.TheVariants as make
-use Rattle.hd_model.specs.declared.command.Cmd.TheVariants as cmd
 
 pub ranges_are_these : RangesAreThese
 ranges_are_these = record {

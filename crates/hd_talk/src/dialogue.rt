@@ -1,7 +1,8 @@
 // A dialogue over a world of its own, from its first line to its status.
 ghost use Rattle.std.specs.Prelude.{◌≡◌, ◌≤◌, if◌then◌else◌};
 ghost use Rattle.hd_model.specs.declared.limits.TheConstants.{BLOCKS, HEAP};
-ghost use Rattle.hd_talk.specs.Machine.{numbers_with};
+ghost use Rattle.hd_step.specs.Machine.{IsNew};
+ghost use Rattle.hd_talk.specs.Machine.{machine_view, numbers_with};
 ghost use Rattle.hd_talk.specs.Talked.{Talked, stop_status};
 
 use crate::answers::Debugger;
@@ -40,15 +41,24 @@ pub fn talk<S: Source, K: Sink, E: Sink>(
         say(alloc, Stop::Memory, errors);
         return NO_MEMORY;
     };
-    match converse(
-        alloc,
-        &mut machine,
-        &Debugger,
-        source,
-        out,
-        errors,
-        is_prompting,
-    ) {
+    talk_over(alloc, &mut machine, source, out, errors, is_prompting)
+}
+
+// The same over a new machine.
+#[inline(always)]
+fn talk_over<S: Source, K: Sink, E: Sink>(
+    alloc: Global,
+    machine: &mut Played,
+    source: &mut S,
+    out: &mut K,
+    errors: &mut E,
+    is_prompting: bool,
+) -> u8
+    requires { IsNew (machine_view machine.old) }
+    ensures { Talked machine.old.numbers (S.seen source.old) (S.seen source.new)
+        (K.seen out.old) (K.seen out.new) result }
+{
+    match converse(alloc, machine, &Debugger, source, out, errors, is_prompting) {
         Ok(is_bad) => { if is_bad { BAD_LINE } else { 0 } }
         Err(stop) => {
             say(alloc, stop, errors);
