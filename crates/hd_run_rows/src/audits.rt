@@ -1,4 +1,5 @@
 // What callers in threads print of a host and of a load is judged.
+use crate::meeting::run_status;
 use crate::row::{ROOM, lines};
 use crate::same::same;
 use crate::streams::HOST;
@@ -6,7 +7,6 @@ use hd_audit::{Verdict, audit};
 use hd_io::{MemorySink, NoPace};
 use hd_model::Memory;
 use hd_model::limits::{BLOCKS, HEAP};
-use hd_run::run;
 use hd_script::{ScriptFault, Scripts, generate, parse};
 use std::alloc::Global;
 use std::process::Abort;
@@ -20,16 +20,6 @@ pub(crate) fn read(rt: &impl Abort, alloc: Global, text: &[u8]) -> Result<Script
     parse(alloc, text)
 }
 
-// The status of `run` with full lines, without what it promises.
-fn status_in_full<R: Threads + Wait + Sync>(
-    rt: &R,
-    alloc: Global,
-    scripts: &Scripts,
-    sink: &mut MemorySink,
-) -> u8 {
-    run(rt, alloc, scripts, HEAP, BLOCKS, true, sink, &NoPace).status
-}
-
 // The verdict on a text, without what it promises.
 fn verdict(alloc: Global, scripts: &Scripts, text: &[u8]) -> Verdict {
     audit(alloc, scripts, text, HEAP, BLOCKS)
@@ -41,7 +31,8 @@ where
     R: Abort + Threads + Wait + Sync,
 {
     let mut sink = MemorySink::open(alloc, ROOM, &[])?;
-    same(rt, status_in_full(rt, alloc, scripts, &mut sink), 0);
+    let status = run_status(rt, alloc, scripts, true, &mut sink, &NoPace);
+    same(rt, status, 0);
     let text = sink.written().ok_or("overrun")?;
     Ok(verdict(alloc, scripts, text))
 }

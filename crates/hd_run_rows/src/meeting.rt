@@ -1,9 +1,10 @@
 // Callers of `run` and `load` that are held until all have come.
 use crate::audits::read;
-use crate::row::ROOM;
+use crate::row::{ROOM, status_at, streams};
 use crate::same::same;
 use hd_io::{MemorySink, Pace};
-use hd_run::{load, run};
+use hd_model::limits::{BLOCKS, HEAP};
+use hd_run::run;
 use hd_script::Scripts;
 use std::alloc::Global;
 use std::sync::Wait;
@@ -52,24 +53,16 @@ impl Pace for Meeting {
     }
 }
 
-// The statuses of `run` and of `load`, without what they promise.
-fn run_status<R: Threads + Wait + Sync>(
+/// The status of `run`, without what it promises.
+pub(crate) fn run_status<R: Threads + Wait + Sync, P: Pace>(
     rt: &R,
     alloc: Global,
     scripts: &Scripts,
+    full: bool,
     sink: &mut MemorySink,
-    pace: &Meeting,
+    pace: &P,
 ) -> u8 {
-    run(rt, alloc, scripts, 1_000, 8, false, sink, pace).status
-}
-
-fn load_status<R: Threads + Wait + Sync>(
-    rt: &R,
-    alloc: Global,
-    sink: &mut MemorySink,
-    pace: &Meeting,
-) -> u8 {
-    load(rt, alloc, 1, sink, pace).status
+    run(rt, alloc, scripts, HEAP, BLOCKS, full, sink, pace).status
 }
 
 #[test]
@@ -82,17 +75,25 @@ fn two_callers_meet(rt: HostRuntime) -> Result<(), Fail> {
     )?;
     let mut sink = MemorySink::open(alloc, ROOM, &[])?;
     let pace = Meeting::of(2);
-    same(&rt, run_status(&rt, alloc, &scripts, &mut sink, &pace), 0);
+    same(
+        &rt,
+        run_status(&rt, alloc, &scripts, false, &mut sink, &pace),
+        0,
+    );
     assert!(rt; pace.met());
     Ok(())
 }
 
 #[test]
 fn the_callers_of_a_load_meet(rt: HostRuntime) -> Result<(), Fail> {
-    let alloc = rt.alloc();
-    let mut sink = MemorySink::open(alloc, ROOM, &[])?;
+    let (mut source, mut sink) = streams(rt.alloc(), &[], &[], &[])?;
+    let words: &[&str] = &["load", "--rounds", "1"];
     let pace = Meeting::of(4);
-    same(&rt, load_status(&rt, alloc, &mut sink, &pace), 0);
+    same(
+        &rt,
+        status_at(&rt, words, &mut source, &mut sink, &pace)?,
+        0,
+    );
     assert!(rt; pace.met());
     Ok(())
 }

@@ -1,7 +1,7 @@
 // Runs of the program over memory. None of these helpers has a clause, so that no test carries what
 // the calls promise.
 use crate::same::same;
-use hd_io::{MemorySink, MemorySource, NoPace, Sink, Source};
+use hd_io::{MemorySink, MemorySource, NoPace, Pace, Sink, Source};
 use hd_run::top;
 use std::alloc::{AllocError, Global};
 use std::process::Abort;
@@ -37,6 +37,24 @@ fn words_of(alloc: Global, words: &[&str]) -> Result<Vec<String>, AllocError> {
     Ok(all)
 }
 
+/// Runs the program at a pace, and returns its status.
+pub(crate) fn status_at<R, S, K, P>(
+    rt: &R,
+    words: &[&str],
+    source: &mut S,
+    sink: &mut K,
+    pace: &P,
+) -> Result<u8, AllocError>
+where
+    R: AllocGlobal + Threads + Wait + Sync,
+    S: Source,
+    K: Sink,
+    P: Pace,
+{
+    let words = words_of(rt.alloc(), words)?;
+    Ok(top(rt, rt.alloc(), &words, source, sink, pace).status)
+}
+
 /// Runs the program, and returns its status.
 pub(crate) fn status_of<R, S, K>(
     rt: &R,
@@ -49,8 +67,7 @@ where
     S: Source,
     K: Sink,
 {
-    let words = words_of(rt.alloc(), words)?;
-    Ok(top(rt, rt.alloc(), &words, source, sink, &NoPace).status)
+    status_at(rt, words, source, sink, &NoPace)
 }
 
 /// A source and a sink in memory, whose reads and writes of these numbers fail.

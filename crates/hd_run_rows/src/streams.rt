@@ -1,7 +1,7 @@
 // Reads and writes that fail or move few bytes, the limits of a script, and long runs.
 use crate::row::{ROOM, Row, comes_to, fails, lines, status_of, streams};
 use crate::same::same;
-use hd_io::{StillSink, StillSource};
+use hd_io::{MemorySink, MemorySource, StillSink, StillSource};
 use std::alloc::{AllocError, Global};
 use std::process::Abort;
 use std::sync::Wait;
@@ -23,6 +23,12 @@ const HOST_TEXT: &str =
      0 18 kept 5 removed 0 short 0 long 0 dep 0 revived 1;0 19 obj 0.4;0 20 obj 0.5;0 21 ok;\
      0 22 ok;0 23 obj 0.1;0 24 ok;0 25 kept 2 removed 3 short 1 long 1 dep 1 revived 0;\
      0 26 obj 0.2;0 27 value 4096;end handles 4 objects 2 collections 2;";
+
+// The host's bytes, and those that it writes.
+fn host(alloc: Global) -> Result<(Vec<u8>, Vec<u8>), AllocError> {
+    let input = lines(alloc, HOST)?;
+    Ok((input, lines(alloc, HOST_TEXT)?))
+}
 
 // The host's lines, its last one among them: each is a write.
 const HOST_LINES: u32 = 28;
@@ -56,19 +62,24 @@ where
 
 #[test]
 fn each_write_of_a_run_fails_in_turn(rt: HostRuntime) -> Result<(), Fail> {
-    let (input, text) = (lines(rt.alloc(), HOST)?, lines(rt.alloc(), HOST_TEXT)?);
+    let (input, text) = host(rt.alloc())?;
     for number in 1..=HOST_LINES {
         host_fails_at(&rt, &input, &text, number)?;
     }
     Ok(())
 }
 
-#[test]
-fn a_host_runs_by_single_bytes(rt: HostRuntime) -> Result<(), Fail> {
-    let (input, text) = (lines(rt.alloc(), HOST)?, lines(rt.alloc(), HOST_TEXT)?);
-    let mut ends = streams(rt.alloc(), &input, &[], &[])?;
+// Has each read and each write move one byte.
+fn move_single_bytes(ends: &mut (MemorySource, MemorySink)) {
     ends.0.set_most(1);
     ends.1.set_most(1);
+}
+
+#[test]
+fn a_host_runs_by_single_bytes(rt: HostRuntime) -> Result<(), Fail> {
+    let (input, text) = host(rt.alloc())?;
+    let mut ends = streams(rt.alloc(), &input, &[], &[])?;
+    move_single_bytes(&mut ends);
     comes_to(&rt, &["solo"], &mut ends, 0, &text)
 }
 
@@ -113,54 +124,70 @@ fn reads_and_writes_fail(rt: HostRuntime) -> Result<(), Fail> {
     Ok(())
 }
 
-// Runs a script over ends that never fail, and compares what comes of it.
-fn is_still<R>(rt: &R, words: &[&str], input: &[u8], status: u8, text: &[u8]) -> Result<(), Fail>
+// What is written has this number of bytes, and this end.
+fn ends_so(rt: &impl Abort, written: Option<&[u8]>, bytes: usize, end: &[u8]) {
+    let written = written.unwrap_or(&[]);
+    same(rt, written.len(), bytes);
+    assert!(rt; written.ends_with(end));
+}
+
+// Runs a script over ends that never fail: the status, how many bytes are written, and their end.
+fn is_still<R>(
+    rt: &R,
+    words: &[&str],
+    input: &[u8],
+    status: u8,
+    came: (usize, &[u8]),
+) -> Result<(), Fail>
 where
     R: Abort + AllocGlobal + Threads + Wait + Sync,
 {
     let mut source = StillSource::open(rt.alloc(), input)?;
     let mut sink = StillSink::open(rt.alloc(), LONG_ROOM)?;
     same(rt, status_of(rt, words, &mut source, &mut sink)?, status);
-    same(rt, sink.written(), Some(text));
+    ends_so(rt, sink.written(), came.0, came.1);
     Ok(())
 }
 
-// What a script of `count` commands writes, each of which replies that it is done, and an end.
-fn done(alloc: Global, count: u32, end: &str) -> Result<Vec<u8>, AllocError> {
-    let mut bytes = Vec::new(alloc);
-    for number in 0..count {
-        let line = format!(in alloc; "0 {} ok\n", number + 1)?;
-        bytes.extend_from_slice(line.as_bytes())?;
-    }
-    bytes.extend_from_slice(end.as_bytes())?;
-    Ok(bytes)
+#[test]
+fn a_host_runs_over_ends_that_never_fail(rt: HostRuntime) -> Result<(), Fail> {
+    let (input, text) = host(rt.alloc())?;
+    is_still(&rt, &["solo"], &input, 0, (text.len(), &text))
 }
 
 // The end of a run that leaves nothing.
 const NOTHING: &str = "end handles 0 objects 0 collections 0\n";
 
-// Scripts of a piece again and again: words, the piece, how often, the commands that are done, and
-// the end of the text; or a fault, whose text is all that is written.
+// A script of a piece again and again: words, the piece, how often, the status, how many bytes are
+// written, and their end.
 type Long = (
     &'static [&'static str],
     &'static str,
     usize,
-    u32,
     u8,
+    usize,
     &'static str,
 );
 
+// Lines are numbered, so 100,000 of them have 1,088,895 bytes, and 64 have 503.
 const LONG: [Long; 5] = [
-    (&["solo"], "drop r0\n", 100_000, 100_000, 0, NOTHING),
-    (&["solo"], "drop r0\n", 100_001, 0, 3, "fault line 100001\n"),
-    (&["solo"], "#", 8_388_608, 0, 0, NOTHING),
-    (&["solo"], "#", 8_388_609, 0, 3, "fault size\n"),
+    (&["solo"], "drop r0\n", 100_000, 0, 1_088_933, NOTHING),
+    (
+        &["solo"],
+        "drop r0\n",
+        100_001,
+        3,
+        18,
+        "fault line 100001\n",
+    ),
+    (&["solo"], "#", 8_388_608, 0, 38, NOTHING),
+    (&["solo"], "#", 8_388_609, 3, 11, "fault size\n"),
     (
         &["solo", "--blocks", "1"],
         "hnew h0 strong r0\n",
         65,
-        64,
         0,
+        559,
         "0 65 tablefull 1\nend handles 64 objects 0 collections 0\n",
     ),
 ];
@@ -170,16 +197,13 @@ fn is_long<R>(rt: &R, long: Long) -> Result<(), Fail>
 where
     R: Abort + AllocGlobal + Threads + Wait + Sync,
 {
-    let (words, piece, times, count, status, end) = long;
+    let (words, piece, times, status, bytes, end) = long;
     let input = piece.as_bytes().repeat(rt.alloc(), times)?;
-    let text = done(rt.alloc(), count, end)?;
-    is_still(rt, words, &input, status, &text)
+    is_still(rt, words, &input, status, (bytes, end.as_bytes()))
 }
 
 #[test]
-fn ends_that_never_fail_take_the_largest_scripts(rt: HostRuntime) -> Result<(), Fail> {
-    let (input, text) = (lines(rt.alloc(), HOST)?, lines(rt.alloc(), HOST_TEXT)?);
-    is_still(&rt, &["solo"], &input, 0, &text)?;
+fn the_largest_scripts_are_run(rt: HostRuntime) -> Result<(), Fail> {
     for long in LONG {
         is_long(&rt, long)?;
     }
@@ -210,9 +234,7 @@ where
 {
     let (mut source, mut sink) = streams(rt.alloc(), script, &[], unwritten)?;
     same(rt, status_of(rt, &["run"], &mut source, &mut sink)?, status);
-    let written = sink.written().ok_or("overrun")?;
-    same(rt, written.len(), came.0);
-    assert!(rt; written.ends_with(came.1.as_bytes()));
+    ends_so(rt, sink.written(), came.0, came.1.as_bytes());
     Ok(())
 }
 

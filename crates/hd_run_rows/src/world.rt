@@ -5,6 +5,7 @@ ghost use Rattle.hd_model.specs.Valid.{IsValid};
 
 use crate::same::{same, same_at};
 use hd_gate::Alone;
+use hd_model::limits::{BLOCKS, HEAP};
 use hd_model::{Cmd, Entry, Id, Memory, Refusal, Reply, Report};
 use hd_script::parse;
 use hd_world::World;
@@ -60,18 +61,35 @@ fn apply(world: &mut World, cmd: Cmd) -> Result<Entry, Memory>
     world.apply_uncounted(0, cmd, None)
 }
 
-// Does commands of one caller in a new world of `cells` words, each of which must get its reply.
-fn world_replies<R: Abort + AllocGlobal>(rt: &R, cells: u32, lines: &[Line]) -> Result<(), Memory>
-    requires cells { (3 ≤ cells) × (cells ≤ HEAP) }
+// Does commands of one caller, each of which must get its reply.
+fn apply_all<R: Abort + AllocGlobal>(
+    rt: &R,
+    world: &mut World,
+    lines: &[Line],
+) -> Result<(), Memory>
+    requires callers { world.old.numbers.callers ≡ 1 }
 {
-    let mut world = World::open(rt.alloc(), cells, 1, 1, 20)?;
     for line in lines {
         let (text, reply) = *line;
         let cmd = command(rt, text);
         assert!(rt; world.spare() >= 1);
-        same_at(rt, text, apply(&mut world, cmd)?.reply, reply);
+        same_at(rt, text, apply(world, cmd)?.reply, reply);
     }
     Ok(())
+}
+
+// Does commands of one caller in a new world of some words and blocks, each of which must get its
+// reply. It has no clause, as `plays` has none.
+fn world_replies<R: Abort + AllocGlobal>(
+    rt: &R,
+    heap: u32,
+    blocks: u32,
+    lines: &[Line],
+) -> Result<(), Memory> {
+    assert!(rt; 3 <= heap && heap <= HEAP);
+    assert!(rt; 1 <= blocks && blocks <= BLOCKS);
+    let mut world = World::open(rt.alloc(), heap, blocks, 1, 20)?;
+    apply_all(rt, &mut world, lines)
 }
 
 // All ten words are used, and an object has at least three; then a collection makes room.
@@ -88,7 +106,7 @@ fn full_heap() -> [Line; 5] {
 
 #[test]
 fn a_full_heap_is_refused(rt: HostRuntime) -> Result<(), Fail> {
-    world_replies(&rt, 10, &full_heap()[..2])?;
+    world_replies(&rt, 10, 1, &full_heap()[..2])?;
     Ok(())
 }
 
@@ -108,18 +126,19 @@ fn a_world_finds_the_young_target_of_an_old_handle(rt: HostRuntime) -> Result<()
         ("collect 0", report(0, 0)),
         ("collect 1", report(1, 0)),
     ];
-    world_replies(&rt, 1_000, &lines)?;
+    world_replies(&rt, 1_000, 1, &lines)?;
     Ok(())
 }
 
-// One caller alone over a world of some cells and one block, with room for `lines` commands.
-fn open(alloc: Global, heap: u32, lines: u32) -> Result<Alone, Memory>
+// One caller alone over a world of some words and blocks, with room for `lines` commands.
+fn open(alloc: Global, heap: u32, blocks: u32, lines: u32) -> Result<Alone, Memory>
     requires heap { (3 ≤ heap) × (heap ≤ HEAP) }
+    requires blocks { (1 ≤ blocks) × (blocks ≤ BLOCKS) }
     ensures callers { IfOk result (λ a. a.numbers.callers ≡ 1) }
     ensures room { IfOk result (λ a. lines ≤ a.spare) }
 {
-    let world = World::open(alloc, heap, 1, 1, lines)?;
-    Alone::open(alloc, world, 1)
+    let world = World::open(alloc, heap, blocks, 1, lines)?;
+    Alone::open(alloc, world, blocks)
 }
 
 // Does commands of caller 0, each of which must get its reply.
@@ -139,11 +158,14 @@ fn play<R: Abort + AllocGlobal>(rt: &R, alone: &mut Alone, lines: &[Line]) -> Re
 fn plays<R: Abort + AllocGlobal>(
     rt: &R,
     heap: u32,
+    blocks: u32,
     lines: &[Line],
     end: (u32, u32),
-) -> Result<(), Fail> {
-    assert!(rt; 3 <= heap && heap <= 1_000 && lines.len() <= 100);
-    let mut alone = open(rt.alloc(), heap, lines.len() as u32)?;
+) -> Result<(), Memory> {
+    assert!(rt; 3 <= heap && heap <= HEAP);
+    assert!(rt; 1 <= blocks && blocks <= BLOCKS);
+    assert!(rt; lines.len() <= 1_000);
+    let mut alone = open(rt.alloc(), heap, blocks, lines.len() as u32)?;
     play(rt, &mut alone, lines)?;
     let world = alone.finish();
     same(rt, (world.live(), world.objects()), end);
@@ -155,7 +177,8 @@ fn one_caller_alone_meets_the_limits(rt: HostRuntime) -> Result<(), Fail> {
     let mut handles = [("hnew h0 strong r0", DONE); 65];
     handles[64].1 = Reply::Refused(Refusal::TableFull { given: 1 });
     let full = Reply::Refused(Refusal::TableFull { given: 0 });
-    plays(&rt, 10, &full_heap(), (0, 1))?;
-    plays(&rt, 1_000, &handles, (64, 0))?;
-    plays(&rt, 1_000, &[("hnew h0 dep r0 r1", full)], (0, 0))
+    plays(&rt, 10, 1, &full_heap(), (0, 1))?;
+    plays(&rt, 1_000, 1, &handles, (64, 0))?;
+    plays(&rt, 1_000, 1, &[("hnew h0 dep r0 r1", full)], (0, 0))?;
+    Ok(())
 }
