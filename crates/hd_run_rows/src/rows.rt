@@ -241,7 +241,7 @@ const ROOTED: [(&str, &str); 2] = [
 const USAGE: &str =
     "usage: hdt solo|run|load|roots|audit [--heap CELLS] [--blocks COUNT] [--rounds N] [--slots];";
 
-// Limits of the heap and of blocks, which the words name.
+// Limits of the heap and of blocks, which the words name: one caller alone meets them.
 const LIMITED: [Row; 3] = [
     (
         &["solo", "--heap", "10"],
