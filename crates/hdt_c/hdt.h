@@ -16,8 +16,8 @@
  *
  * WHAT IS PROVED of each function, given the duties below: it returns; it reads and writes no memory but the host's, its own and
  * the out parameters; and its effect and its status are exactly those of one step of the machine of docs/machine.md. Where the
- * status is not HDT_OK no out parameter is written, and the host is as it was; but where hdt_final_next and hdt_table_find say
- * HDT_NONE, the local is null.
+ * status is not HDT_OK no out parameter is written, and the host is as it was, unless it is HDT_NONE: with that the call was
+ * done, so hdt_last is of it, all 0, and the local of hdt_final_next and of hdt_table_find is null.
  *
  * DUTIES of the caller, which nothing checks:
  *  1. `host` is not null, and points to an hdt_host that is HDT_CLOSED_HOST or that these functions wrote. It may be moved
@@ -47,7 +47,8 @@ typedef struct { void *hdt_private; } hdt_host;
 
 /* A handle, opaque; 0 is none. It has the number of its slot and a stamp, so that the use of a freed one is refused (HDT_STALE)
  * also where its slot is in use again. It stays valid over collections, until hdt_handle_free. After 2^48 - 1 handles in a slot
- * the next one there is not freed (HDT_EXHAUSTED). */
+ * the next one there is not freed (HDT_EXHAUSTED). A host knows a handle by these two numbers alone: one of another host, or of
+ * this one before it was closed and opened again, may be taken for one of its own. */
 typedef uint64_t hdt_handle;
 
 /* The identity of an object, 0 for null. No two objects of a host have one. It is a name and no reference: it keeps nothing. */
@@ -65,7 +66,7 @@ enum {
     HDT_CLOSED = 1,      /* the host is closed */
     HDT_IS_OPEN = 2,     /* hdt_open: it is open already */
     HDT_ARGUMENT = 3,    /* a context, local, kind, generation or limit out of range */
-    HDT_NO_MEMORY = 4,   /* malloc or realloc returned null */
+    HDT_NO_MEMORY = 4,   /* of hdt_open, _object_new, _collect, _root_of: in tests only where malloc or realloc returned null */
     HDT_EXHAUSTED = 5,   /* the context has made 2^32 - 1 objects; or the count, or the stamp of the slot, is at its end */
     /* the refusals of the machine, in the order in which they are found */
     HDT_STALE = 6,       /* no such handle: never made, or freed */
