@@ -4,6 +4,7 @@ import glob
 import os
 import re
 import subprocess
+import tempfile
 
 from citations import TOP, antt, contract, crates, rust, text_of
 from edits import is_edit
@@ -23,7 +24,14 @@ PATHS_OUTSIDE = {"external/corert", "out/machine"}
 # A register in a form of a command, as in `get rD rO I`.
 OPERAND = re.compile(r"[rh][A-Z]")
 PLACES = ["", "src/", "specs/", "proofs/"]
-BUILT = "crates/hdt/out/hdt "
+# Lines of C on a page: what stands before them and after them. The highest status of their calls is that of the program.
+BEFORE_C = '''#include "hdt.h"
+static hdt_status worst;
+static hdt_status noted(hdt_status status) { if (status > worst) worst = status; return status; }
+'''
+AFTER_C = "    return (int)worst;\n}\n"
+# What a comment beside a line says of a value.
+STATED = re.compile(r"//.*?\b(\w[\w.]* [=!]= \w+)$")
 
 
 def unwrapped(page):
@@ -200,16 +208,65 @@ def bad_pages():
     yield from bad_numbers()
 
 
-def bad_runs(program):
-    """Calls of the built program in code blocks are made; and a script that stands beside its text is that of the examples."""
+def bad_example():
+    """Whether a script that stands beside its text is that of the examples."""
     wanted = [text_of(f"{TOP}/examples/first.hdt{it}").splitlines() for it in ("", ".stdout")]
     blocks = [[(re.split(" {2,}", line, maxsplit=1) + [""])[:2] for line in it.splitlines()] for it in fences(text_of(f"{TOP}/README.md"))]
     if wanted not in [[[line[at] for line in it if line[at]] for at in (0, 1)] for it in blocks]:
         yield "README.md has no block with examples/first.hdt beside its text"
+
+
+def bad_runs(program):
+    """Calls of the built program in code blocks are made, and one in a paragraph prints the block after it."""
+    name = os.path.basename(program).split(".")[0]
+    built, made = f"crates/{name}/out/{name} ", 0
+
+    def run(call):
+        return subprocess.run(["sh", "-c", call.replace(built, f"{program} ", 1)], cwd=TOP, capture_output=True, text=True, check=False)
+
+    if name == "hdt":
+        yield from bad_example()
     for page in pages():
-        for line in "\n".join(fences(text_of(f"{TOP}/{page}"))).split("\n"):
-            if line.startswith(BUILT):
-                call = line.split("  #")[0].replace(BUILT, f"{program} ", 1)
-                ran = subprocess.run(["sh", "-c", call], cwd=TOP, capture_output=True, text=True, check=False)
-                if ran.returncode != 0 or ran.stderr:
-                    yield f"{page}: {line} ends with status {ran.returncode}"
+        text = text_of(f"{TOP}/{page}")
+        for line in [it for it in "\n".join(fences(text)).split("\n") if it.startswith(built)]:
+            ran, made = run(line.split("  #")[0]), made + 1
+            if ran.returncode != 0 or ran.stderr:
+                yield f"{page}: {line} ends with status {ran.returncode}"
+        for call, block in re.findall(rf"`({re.escape(built)}[^`]*)`[^`]*:\n\n```\n(.*?)^```", text, re.M | re.S):
+            ran, made = run(call.replace("\n", " ")), made + 1
+            if ran.stdout != block or ran.stderr:
+                yield f"{page}: {call} prints otherwise than the block after it"
+    if not made:
+        yield f"no page makes a call of {name}"
+
+
+def c_lines():
+    """The lines of C of each page, and those at the head of the header."""
+    for page in pages():
+        for block in re.findall(r"^```c\n(.*?)^```", text_of(f"{TOP}/{page}"), re.M | re.S):
+            yield page, block
+    head = re.search(r'^ \*   #include "hdt.h"\n((?: \*   .*\n)+)', text_of(f"{TOP}/crates/hdt_c/hdt.h"), re.M)
+    yield "crates/hdt_c/hdt.h", re.sub(r"^ \*   ", "", head[1], flags=re.M)
+
+
+def bad_c(libraries):
+    """Lines of C on a page are built over the archives and run: each call is done, and what a comment says of a value is so."""
+    for page, block in c_lines():
+        calls = sorted(set(re.findall(r"\b(hdt_\w+)\(", block)) - {"hdt_close"})
+        macros = "".join(f"#define {it}(...) noted({it}(__VA_ARGS__))\n" for it in calls)
+        lines = []
+        for line in block.splitlines():
+            stated = STATED.search(line)
+            lines += [line] + ([f"if (!({stated[1]})) worst = 99;"] if stated else [])
+        with tempfile.TemporaryDirectory() as folder:
+            with open(f"{folder}/lines.c", "w", encoding="utf-8") as text:
+                text.write(BEFORE_C + macros + "int main(void) {\n" + "\n".join(lines) + "\n" + AFTER_C)
+            made = ["cc", "-std=c11", "-Wall", "-Wextra", "-Werror", f"-I{TOP}/crates/hdt_c", f"{folder}/lines.c", *libraries, "-o",
+                    f"{folder}/lines"]
+            built = subprocess.run(made, cwd=TOP, capture_output=True, text=True, check=False)
+            if built.returncode != 0:
+                yield f"{page}: its lines of C do not build: {built.stderr.strip()}"
+                continue
+            status = subprocess.run([f"{folder}/lines"], check=False).returncode
+            if not calls or status != 0:
+                yield f"{page}: its lines of C end with status {status}"
