@@ -40,6 +40,7 @@ extern "C" {
 #endif
 
 #define HDT_ABI 1 /* hdt_abi() returns it */
+#define HDT_VERSION "0.5.0" /* of the release that a program is compiled with; hdt_version says that of the one it runs with */
 
 /* A world of objects and handles. All bytes 0: closed. */
 typedef struct { void *hdt_private; } hdt_host;
@@ -81,6 +82,14 @@ enum {
     HDT_NONE = 14        /* hdt_final_next: the queue is empty; hdt_table_find, _remove: no entry; hdt_root_of: unrooted */
 };
 
+/* The name of a status, as above; of a number that is none, "HDT_?". */
+static inline const char *hdt_status_name(hdt_status status) {
+    static const char *const names[] = { "HDT_OK", "HDT_CLOSED", "HDT_IS_OPEN", "HDT_ARGUMENT", "HDT_NO_MEMORY", "HDT_EXHAUSTED",
+        "HDT_STALE", "HDT_WRONG_KIND", "HDT_COUNT_ZERO", "HDT_NULL", "HDT_NO_FIELD", "HDT_PRESENT", "HDT_HEAP_FULL",
+        "HDT_TABLE_FULL", "HDT_NONE" };
+    return status < sizeof names / sizeof *names ? names[status] : "HDT_?";
+}
+
 typedef uint32_t hdt_kind;
 enum {
     HDT_WEAK_SHORT = 0, /* GCHandleType.Weak: null before finalization */
@@ -100,9 +109,11 @@ typedef struct { uint32_t objects, cells, handles, blocks, queued; } hdt_stats_o
 typedef struct { hdt_handle handle; hdt_id target; hdt_kind kind; uint32_t extra; } hdt_handle_info; /* strength or count */
 typedef struct { hdt_id from; uint32_t arrows; } hdt_root;
 typedef struct { uint32_t slot, block, data_block, given_back; } hdt_change; /* each 0 for none */
+typedef struct { uint32_t major, minor, patch; } hdt_version_out;
 
 /* ---- the host */
 uint32_t hdt_abi(void);
+void hdt_version(hdt_version_out *out);
 hdt_status hdt_open(hdt_host *host, const hdt_limits *limits); /* takes that of the table; objects and collections take more */
 void hdt_close(hdt_host *host);                                /* frees all of it; a closed host stays closed */
 hdt_status hdt_stats(hdt_host *host, hdt_stats_out *out);

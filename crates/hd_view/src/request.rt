@@ -99,7 +99,7 @@ fn limits_of(matches: &ArgMatches) -> Limits {
 // The command.
 fn command<'a>(alloc: Global) -> Result<Command<'a>, AllocError> {
     let hdv = Command::new(alloc, "hdv")
-        .version("0.2.0")
+        .version("0.5.0")
         .about("Shows a run of hdt: reads a script, or an audit's input, from standard input")
         .subcommand_required(true);
     let hdv = with_subcommand(hdv, why_command(alloc))?;

@@ -11,3 +11,4 @@ mod on_locals;
 mod on_objects;
 mod parts;
 mod status;
+mod version;

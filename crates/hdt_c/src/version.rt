@@ -1,0 +1,24 @@
+// Which release a program runs with.
+ghost use Rattle.std.specs.Prelude.{◌≡◌};
+ghost use Rattle.hdt_c.specs.declared.version.Version.{Version};
+
+/// `hdt_version_out`.
+#[repr(C)]
+#[derive(Clone, Copy)]
+pub struct Version {
+    pub major: u32,
+    pub minor: u32,
+    pub patch: u32,
+}
+
+/// `hdt_version`.
+#[unsafe(no_mangle)]
+pub extern "C" fn hdt_version(out: &mut Version)
+    ensures { out.new ≡ record Version { major = 0; minor = 5; patch = 0 } }
+{
+    *out = Version {
+        major: 0,
+        minor: 5,
+        patch: 0,
+    };
+}
