@@ -1,0 +1,53 @@
+#!/usr/bin/env python3
+"""trees.py LIBRARY..: binary trees by the C library (uses/trees) and over bdwgc, in turn: nanoseconds an object (the least of 11
+runs of each), collections and peak memory. LIBRARY is what the program is linked with, in this order: libhdt_c.a liblibc_c.a. It
+needs cc and libgc. The status is 1 where an object takes over three times as long as over bdwgc, where there were fewer than 20
+collections, or where more than twice bdwgc's memory was in use."""
+import os
+import re
+import subprocess
+import sys
+import tempfile
+
+HERE = os.path.dirname(os.path.abspath(__file__))
+DEPTH, ROUNDS, CELLS = "12", "600", "100000"
+RUNS = 11
+ASKED_RATIO, ASKED_COLLECTIONS, ASKED_MEMORY = 3, 20, 2
+
+
+def run(words):
+    """Seconds of processor, peak memory in KB and what was printed."""
+    with subprocess.Popen(words, stdout=subprocess.PIPE, text=True) as made:
+        text = made.stdout.read()
+        _, status, usage = os.wait4(made.pid, 0)
+        made.returncode = os.waitstatus_to_exitcode(status)
+    if made.returncode:
+        sys.exit(f"{words}: status {made.returncode}")
+    return usage.ru_utime + usage.ru_stime, usage.ru_maxrss, text
+
+
+def main(libraries):
+    with tempfile.TemporaryDirectory() as folder:
+        cc = ["cc", "-O2", "-std=c11", "-Wall", "-Wextra", "-Werror"]
+        subprocess.run([*cc, f"-I{HERE}/../crates/hdt_c", f"{HERE}/../uses/trees/trees.c", *libraries, "-o", f"{folder}/hdt"], check=True)
+        subprocess.run([*cc, f"{HERE}/trees_bdwgc.c", "-lgc", "-o", f"{folder}/bdwgc"], check=True)
+        runs = {"hdt": [], "bdwgc": []}
+        for _ in range(RUNS):
+            runs["hdt"].append(run([f"{folder}/hdt", DEPTH, ROUNDS, CELLS]))
+            runs["bdwgc"].append(run([f"{folder}/bdwgc", DEPTH, ROUNDS]))
+    objects = int(ROUNDS) * (2 ** (int(DEPTH) + 1) - 1)
+    least = {name: min(seconds for seconds, _, _ in them) * 1e9 / objects for name, them in runs.items()}
+    peak = {name: max(memory for _, memory, _ in them) for name, them in runs.items()}
+    counts = {name: [int(it) for it in re.findall(r"(\d+) collections|(\d+) of all", them[0][2]) for it in it if it] for name, them in runs.items()}
+    print("| by | ns an object | collections | peak memory, KB |\n|---|---|---|---|")
+    for name in runs:
+        print(f"| {name} | {least[name]:.1f} | {' and '.join(map(str, counts[name]))} | {peak[name]:,} |")
+    ratio = least["hdt"] / least["bdwgc"]
+    print(f"\n{ratio:.2f} times bdwgc, with {peak['hdt'] / peak['bdwgc']:.2f} times its memory")
+    sys.exit(ratio > ASKED_RATIO or sum(counts["hdt"]) < ASKED_COLLECTIONS or peak["hdt"] > ASKED_MEMORY * peak["bdwgc"])
+
+
+if __name__ == "__main__":
+    if len(sys.argv) < 2:
+        sys.exit(__doc__)
+    main(sys.argv[1:])
