@@ -4,9 +4,9 @@
  *   host_bench calls              prints the names of the calls
  *
  * SCENE is `near`: each call is of one object, one handle or one static, always the same; or `scattered`: of objects of 1 to 61
- * fields in the locals of 16 contexts, and of 1,000 live handles of all kinds, taken at random. No object is null. A call that has
- * a counterpart (handle_new, table_add, ..) is made with it, so that the host is as before. Where the heap is full, object_new
- * collects. */
+ * fields in the locals of 16 contexts, and of 1,000 live handles of all kinds, taken at random. No object is null. A call that
+ * has a counterpart (handle_new, table_add, ..) is made with it, so that the host is as before. Where the heap is full,
+ * object_new collects. */
 #define _GNU_SOURCE
 #include "hdt.h"
 #include <stdio.h>
@@ -159,11 +159,11 @@ static hdt_status object_new(const struct pick *p) {
 
 #define ROW(name) { #name, name }
 static const struct { const char *name; hdt_status (*make)(const struct pick *); } calls[] = {
-    ROW(abi), ROW(handle_get), ROW(handle_new), ROW(paired_new), ROW(handle_set), ROW(handle_kind), ROW(object_new), ROW(field_set),
-    ROW(field_get), ROW(value_get), ROW(value_set), ROW(local_id), ROW(local_copy), ROW(local_clear), ROW(static_get),
-    ROW(static_set), ROW(generation), ROW(reregister), ROW(secondary_get), ROW(secondary_set), ROW(strength_set), ROW(count_up),
-    ROW(address), ROW(table_find), ROW(table_add), ROW(final_next), ROW(stats), ROW(last), ROW(trim), ROW(list), ROW(root_of),
-    ROW(collect),
+    ROW(abi), ROW(handle_get), ROW(handle_new), ROW(paired_new), ROW(handle_set), ROW(handle_kind), ROW(object_new),
+    ROW(field_set), ROW(field_get), ROW(value_get), ROW(value_set), ROW(local_id), ROW(local_copy), ROW(local_clear),
+    ROW(static_get), ROW(static_set), ROW(generation), ROW(reregister), ROW(secondary_get), ROW(secondary_set),
+    ROW(strength_set), ROW(count_up), ROW(address), ROW(table_find), ROW(table_add), ROW(final_next), ROW(stats),
+    ROW(last), ROW(trim), ROW(list), ROW(root_of), ROW(collect),
 };
 enum { CALLS = sizeof calls / sizeof *calls };
 

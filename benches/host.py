@@ -1,11 +1,12 @@
 #!/usr/bin/env python3
-"""host.py [--only CALL..] [--counts] [--before LIBRARY] [--coreclr PROGRAM] [--mono PROGRAM] LIBRARY..: what each call of the C library costs,
-one thread: instructions a call (callgrind of 200,000 calls less as many of `hdt_abi` with the same operands) of one object and one
-handle (near), and of objects of 1 to 61 fields and 1,000 live handles of all kinds at random (scattered); and nanoseconds a call
-that the processor gave the thread, near, beside those of CoreCLR's machine and of mono's embedding API, in turn. LIBRARY is what
-the program is linked with, in this order: libhdt_c.a liblibc_c.a; --before names another archive of libhdt_c.a, whose near figures
-get a column; with --counts no time is taken. PROGRAM is what conformance/coreclr/machine/build made, or benches/host_mono.c built. It needs cc and valgrind. The
-status is 1 where a call takes more than what is asked of it, scattered more than a tenth above."""
+"""host.py [--only CALL..] [--counts] [--before LIBRARY] [--coreclr PROGRAM] [--mono PROGRAM] LIBRARY..: what each call of the C
+library costs, one thread. Instructions a call (callgrind of 200,000 calls less as many of `hdt_abi` with the same operands) of
+one object and one handle (near), and of objects of 1 to 61 fields and 1,000 live handles of all kinds at random (scattered); and
+nanoseconds a call that the processor gave the thread, near, beside those of CoreCLR's machine and of mono's embedding API, in
+turn. LIBRARY is what the program is linked with, in this order: libhdt_c.a liblibc_c.a; --before names another libhdt_c.a, whose
+near figures get a column; with --counts no time is taken. PROGRAM is what conformance/coreclr/machine/build made, or
+benches/host_mono.c built. It needs cc and valgrind. The status is 1 where a call takes more than what is asked of it, scattered
+more than a tenth above."""
 import argparse
 import collections
 import os

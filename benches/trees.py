@@ -29,7 +29,8 @@ def run(words):
 def main(libraries):
     with tempfile.TemporaryDirectory() as folder:
         cc = ["cc", "-O2", "-std=c11", "-Wall", "-Wextra", "-Werror"]
-        subprocess.run([*cc, f"-I{HERE}/../crates/hdt_c", f"{HERE}/../uses/trees/trees.c", *libraries, "-o", f"{folder}/hdt"], check=True)
+        host = [f"-I{HERE}/../crates/hdt_c", f"{HERE}/../uses/trees/trees.c", *libraries]
+        subprocess.run([*cc, *host, "-o", f"{folder}/hdt"], check=True)
         subprocess.run([*cc, f"{HERE}/trees_bdwgc.c", "-lgc", "-o", f"{folder}/bdwgc"], check=True)
         runs = {"hdt": [], "bdwgc": []}
         for _ in range(RUNS):
@@ -38,7 +39,8 @@ def main(libraries):
     objects = int(ROUNDS) * (2 ** (int(DEPTH) + 1) - 1)
     least = {name: min(seconds for seconds, _, _ in them) * 1e9 / objects for name, them in runs.items()}
     peak = {name: max(memory for _, memory, _ in them) for name, them in runs.items()}
-    counts = {name: [int(it) for it in re.findall(r"(\d+) collections|(\d+) of all", them[0][2]) for it in it if it] for name, them in runs.items()}
+    # "N nodes, N collections", and for a host "of generation 0, N of all".
+    counts = {name: list(map(int, re.findall(r"\d+(?= collections| of all)", them[0][2]))) for name, them in runs.items()}
     print("| by | ns an object | collections | peak memory, KB |\n|---|---|---|---|")
     for name in runs:
         print(f"| {name} | {least[name]:.1f} | {' and '.join(map(str, counts[name]))} | {peak[name]:,} |")

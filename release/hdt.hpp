@@ -154,7 +154,9 @@ public:
         hdt_status status = hdt_handle_kind(&place_->host, value_, &kind);
         return result_of(status, static_cast<Kind>(kind));
     }
-    Done strength(Kind strength) { return done_by(hdt_strength_set(&place_->host, value_, static_cast<hdt_kind>(strength))); }
+    Done strength(Kind strength) {
+        return done_by(hdt_strength_set(&place_->host, value_, static_cast<hdt_kind>(strength)));
+    }
     Result<std::uint64_t> up() {
         std::uint64_t count = 0;
         hdt_status status = hdt_count_up(&place_->host, value_, &count);
@@ -176,7 +178,7 @@ private:
     hdt_handle value_ = 0;
 };
 
-// The live handles, by rising slot; they are fetched 32 at once, so what a loop over them frees or makes may be among them or not.
+// The live handles, by rising slot. 32 are fetched at once: what a loop over them frees or makes may be among them or not.
 class Handles {
 public:
     class Iterator {

@@ -1,5 +1,6 @@
-/* Objects on two sides, as in COM: native ones that count references, and managed ones that a collector keeps. It prints each step
- * and checks that each native object is released exactly once. uses/interop/README.md says what is shown. It is C11 and C++17. */
+/* Objects on two sides, as in COM: native ones that count references, and managed ones that a collector keeps. It prints each
+ * step and checks that each native object is released exactly once. uses/interop/README.md says what is shown. It is C11, and
+ * C++17. */
 #include "hdt.h"
 #include <stdio.h>
 #include <stdlib.h>
