@@ -18,8 +18,10 @@ import tempfile
 
 HERE = os.path.dirname(os.path.abspath(__file__))
 COUNTED = 200_000
-# These walk: some of a thousand calls tell.
+# These walk: fewer calls tell.
 WALKING = {"trim": 20_000, "list": 20_000, "root_of": 200, "collect": 2_000}
+# So many objects fill the heap five times; the first time its regions are taken.
+NUMBERS = {**WALKING, "object_new": 1_000_000}
 TIMED = 5_000_000
 RUNS = 5
 # Instructions, in both scenes (a tenth more where they are scattered).
@@ -32,7 +34,7 @@ OTHERS_MAKE = {"handle_get", "handle_new", "object_new", "field_set"}
 
 def instructions(program, scene, call):
     """Instructions a call, with those of the loop."""
-    times = WALKING.get(call, COUNTED)
+    times = NUMBERS.get(call, COUNTED)
     counts = []
     for number in (0, times):
         with tempfile.TemporaryDirectory() as folder:
