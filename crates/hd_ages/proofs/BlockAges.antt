@@ -1,5 +1,7 @@
 -- The ages of all blocks, four to a block: that of a clump, and what becomes of those of one block.
 use Rattle.hd_ages.proofs.Basics.{All, CLUMPS, IsSlotOf, List, [], age_in, ages_at, ages_in, ages_of, ap, arith, bit_at, cases_lt, clump_at, clump_of, clumps_of, cond, drop, filter, get_or, get_or-drop, get_or-take, inl, inr, length, lowered, map, min, nat_le, refl, replicate, set, set_bits, suc, sym, take, with_ages, zero, ℕ, ◌*◌, ◌++◌, ◌+◌, ◌-◌, ◌<◌, ◌^◌, ◌∙◌, ◌∷◌, ◌≡◌, ◌≤◌}
+use Rattle.std.proofs.Math.Seq.{take-add}
+use Rattle.std.proofs.lemmas.List.{take-append-drop}
 use Rattle.hd_ages.proofs.{ClumpBits.set_by_bits, AgeWord.each_clump, AgeWord.age_small}
 
 pub length-ages_of : (ws : List ℕ) → length (ages_of ws) ≡ CLUMPS * length ws
@@ -84,6 +86,23 @@ lowered_at w v block c slot g ages is v_is low high few of =
     ∙ set_four ages (CLUMPS * block - CLUMPS) c (min (get_or ages (clump_of slot) 0) g)
     (omega (arith, low, high)) few
     ∙ ap (λ k. set ages k (min (get_or ages (clump_of slot) 0) g)) index
+
+-- the ages of a block with its own four
+same_ages : (block : ℕ) (ages : List ℕ) → 1 ≤ block → with_ages block (ages_at block ages) ages ≡ ages
+same_ages block ages low =
+    let first = CLUMPS * block - CLUMPS in
+    let last : CLUMPS * block ≡ first + CLUMPS = omega (arith, low) in
+    ap (λ xs. xs ++ drop (CLUMPS * block) ages) (sym (take-add first CLUMPS ages))
+    ∙ ap (λ n. take n ages ++ drop (CLUMPS * block) ages) (sym last) ∙ take-append-drop (CLUMPS * block) ages
+
+-- a clump that is no older than this stays as it is, where its block keeps its word
+pub unlowered_at : (w v block c slot g : ℕ) (ages : List ℕ) → ages_in w ≡ ages_at block ages
+    → ages_in v ≡ set (ages_in w) c (min (age_in w c) g) → v ≡ w → 1 ≤ block → CLUMPS * block ≤ length ages
+    → c < CLUMPS
+    → IsSlotOf block c slot → ages ≡ lowered ages slot g
+unlowered_at w v block c slot g ages is v_is same low high few of =
+    sym (ap (λ four. with_ages block four ages) (ap ages_in same ∙ is) ∙ same_ages block ages low)
+    ∙ lowered_at w v block c slot g ages is v_is low high few of
 
 pub ages_small : (ws : List ℕ) → All (λ a. a ≤ 2) (ages_of ws)
 ages_small [] k d lt = absurd (omega arith)

@@ -69,14 +69,17 @@ impl AgeMap {
     }
 
     /// Lowers the age of a block's clump to `g`. An age that is not above `g` stays.
-    #[tactic(auto, using(crate::proofs::BlockAges::lowered_at))]
     pub fn lower(&mut self, block: u32, clump: u32, g: u8)
         requires low { 1 ≤ block }
         requires high { CLUMPS * block ≤ length self.old }
         requires clump { clump < CLUMPS }
         ensures { (slot : ℕ) → IsSlotOf block clump slot → self.new ≡ lowered self.old slot g }
     {
-        self.set_word(block, word::lower(self.word(block), clump, g));
+        let before = self.word(block);
+        let word = word::lower(before, clump, g);
+        if word != before {
+            self.set_word(block, word);
+        }
     }
 
     /// A mask of a block's clumps whose age is at most `n`: a collection of generation `n` visits
