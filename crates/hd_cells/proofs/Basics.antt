@@ -7,7 +7,7 @@ pub use Rattle.std.specs.Cmp.{nat_cmp_total, unsigned_tied}
 pub use Rattle.std.specs.FinMap.{find}
 pub use Rattle.std.specs.Ordering.{eq_by_cmp, nat_cmp}
 pub use Rattle.std.specs.Prelude.{is_some, unwrap_or}
-pub use Rattle.hd_cells.specs.{Inside.HoldsObject, Inside.IsBody, Inside.IsFirstIn, Inside.IsGap, Inside.IsIndexed, Inside.IsLaid, Inside.IsReached, Inside.IsRegion, Inside.IsTiled, Inside.IsWhole, Inside.body, Inside.ended, Inside.gap, Cells.cell, Cells.contents_of, Cells.count_at, Cells.extent_at, Cells.object_in, Cells.objects_of}
+pub use Rattle.hd_cells.specs.{Inside.HoldsObject, Inside.IsBody, Inside.IsCleared, Inside.IsFirstIn, Inside.IsGap, Inside.IsIndexed, Inside.IsLaid, Inside.IsReached, Inside.IsRegion, Inside.IsTiled, Inside.IsWhole, Inside.body, Inside.ended, Inside.gap, Cells.cell, Cells.contents_of, Cells.count_at, Cells.extent_at, Cells.object_in, Cells.objects_of}
 pub use Rattle.hd_cells.specs.Headers.{IsEnd, IsHeader}
 pub use Rattle.hd_cells.specs.Object.{Object, new_object, no_object, size_of, with_field, with_registered, with_value}
 pub use Rattle.hd_cells.specs.Region.{Contents, IsFirstFrom, IsLaidOut, IsObject, empty_region, fields_at, object_at, with_object, with_put, without_object}

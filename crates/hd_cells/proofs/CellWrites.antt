@@ -1,5 +1,5 @@
 -- Lemmas on the writes into a region's cells: what callers see after each.
-use Rattle.hd_cells.proofs.Basics.{Bool, CELLS, Contents, FIELDS, HEADER, HoldsObject, IsBody, IsGap, IsLaid, IsLaidOut, IsObject, IsTiled, IsWhole, List, NONE, None, Object, PARTS, REGISTERED, [], ap, arith, cases_eq, cell, cond, contents_of, count_at, drop, empty_region, ended, ext_get_or, extent_at, false, fields_at, get_or, get_or-drop, get_or-replicate, get_or-set_other, get_or-set_same, get_or-take, inl, inr, le-leb, leb, length, length-drop, length-replicate, length-set, length-take, lt-leb, nat_cmp, nat_cmp_total, new_object, object_at, objects_of, refl, replicate, set, size_of, subst, sym, take, true, with_field, with_object, with_put, with_registered, with_value, without_object, ℕ, ◌%◌, ◌++◌, ◌+◌, ◌<◌, ◌^◌, ◌∙◌, ◌∷◌, ◌≡◌, ◌≢◌, ◌≤◌}
+use Rattle.hd_cells.proofs.Basics.{Bool, CELLS, Contents, FIELDS, HEADER, HoldsObject, IsBody, IsCleared, IsGap, IsLaid, IsLaidOut, IsObject, IsTiled, IsWhole, List, NONE, None, Object, PARTS, REGISTERED, [], ap, arith, cases_eq, cell, cond, contents_of, count_at, drop, empty_region, ended, ext_get_or, extent_at, false, fields_at, get_or, get_or-drop, get_or-replicate, get_or-set_other, get_or-set_same, get_or-take, inl, inr, le-leb, leb, length, length-drop, length-replicate, length-set, length-take, lt-leb, nat_cmp, nat_cmp_total, new_object, object_at, objects_of, refl, replicate, set, size_of, subst, sym, take, true, with_field, with_object, with_put, with_registered, with_value, without_object, ℕ, ◌%◌, ◌++◌, ◌+◌, ◌<◌, ◌^◌, ◌∙◌, ◌∷◌, ◌≡◌, ◌≢◌, ◌≤◌}
 use Rattle.hd_cells.specs.Cells.{object_in}
 use Rattle.hd_cells.proofs.RegionTiles.{extent_at-body, extent_at-gap, same_fields, longer_tiling, none_beyond, as_gap}
 use Rattle.hd_cells.proofs.Contents.{laid_region, laid_contents, get-objects, held, IsRead, changed_region, rewritten_region, empty_laid_out}
@@ -183,8 +183,11 @@ reset_seen c = laid_contents (reset_laid c) map.empty refl
 pub reset_laid_out : (c : List ℕ) → IsLaidOut (contents_of c 0)
 reset_laid_out c = subst IsLaidOut (sym (reset_seen c)) empty_laid_out
 
-pub reset_whole : (c starts : List ℕ) → ((k : ℕ) → k < PARTS → get_or starts k 0 ≡ NONE) → IsWhole c 0 starts
-reset_whole c starts none = whole (laid_region (reset_laid c)) (reset_seen c) (empty_indexed starts none)
+pub reset_whole : (c starts : List ℕ) {stale : ℕ} → ((k : ℕ) → k < PARTS → get_or starts k 0 ≡ NONE)
+    → IsCleared c 0 stale
+    → IsWhole c 0 starts stale
+reset_whole c starts none cleared =
+    whole (laid_region (reset_laid c)) (reset_seen c) (empty_indexed starts none) cleared
 
 -- the cells after an object without references was put at the allocation pointer
 pub record IsNew (c d : List ℕ) (fill id n s : ℕ) : Type 0 where
@@ -194,33 +197,25 @@ pub record IsNew (c d : List ℕ) (fill id n s : ℕ) : Type 0 where
   pub shape : cell d (fill + 1) ≡ s
   pub nulls : (k : ℕ) → fill + 2 ≤ k → k < fill + n + HEADER → cell d k ≡ 0
 
--- three cells are written, and the rest is cleared
-pub cells_new : (c d : List ℕ) (fill id n s : ℕ) → fill + n + HEADER ≤ CELLS → length c ≡ CELLS
-    → length d ≡ CELLS
-    → ((k : ℕ) → fill + HEADER ≤ k → k < fill + n + HEADER → cell d k ≡ 0)
-    → ((k : ℕ) → k < fill + HEADER → cell d k ≡ cell (set (set (set c fill id) (fill + 1) s) (fill + 2) 0) k)
-    → IsNew c d fill id n s
-cells_new c d fill id n s room long lengths cleared kept =
-    let one = set c fill id in
-    let two = set one (fill + 1) s in
-    let first = length-set c fill id in
+-- two cells are written where all are 0
+pub cells_new : (c e : List ℕ) (fill id n s : ℕ) → fill + n + HEADER ≤ CELLS → length c ≡ CELLS
+    → length e ≡ CELLS → ((k : ℕ) → k < fill → cell e k ≡ cell c k)
+    → ((k : ℕ) → fill ≤ k → k < CELLS → cell e k ≡ 0)
+    → IsNew c (set (set e fill id) (fill + 1) s) fill id n s
+cells_new c e fill id n s room long lengths kept zeros =
+    let one = set e fill id in
+    let first = length-set e fill id in
     let second = length-set one (fill + 1) s in
-    let last = λ (k : ℕ) (ne : k ≢ fill + 2). other_cells two (fill + 2) 0 k ne in
     record {
-      lengths = lengths ∙ sym long;
-      before = λ k below. kept k (omega (arith, below)) ∙ last k (λ e. omega (arith, e, below))
-          ∙ other_cells one (fill + 1) s k (λ e. omega (arith, e, below))
-          ∙ other_cells c fill id k (λ e. omega (arith, e, below));
-      first = kept fill (omega arith) ∙ last fill (λ e. omega (arith, e))
-          ∙ other_cells one (fill + 1) s fill (λ e. omega (arith, e))
-          ∙ get_or-set_same c fill id 0 (omega (arith, room, long));
-      shape = kept (fill + 1) (omega arith) ∙ last (fill + 1) (λ e. omega (arith, e))
-          ∙ get_or-set_same one (fill + 1) s 0 (omega (arith, room, first, long));
-      nulls = λ k low high. elim (cases_eq k (fill + 2)) [
-        | inl same ↦ ap (cell d) same ∙ kept (fill + 2) (omega arith)
-            ∙ get_or-set_same two (fill + 2) 0 0 (omega (arith, room, first, second, long))
-        | inr other ↦ cleared k (omega (arith, low, other)) high
-      ];
+      lengths = second ∙ first ∙ lengths ∙ sym long;
+      before = λ k below. other_cells one (fill + 1) s k (λ e. omega (arith, e, below))
+          ∙ other_cells e fill id k (λ e. omega (arith, e, below)) ∙ kept k below;
+      first = other_cells one (fill + 1) s fill (λ e. omega (arith, e))
+          ∙ get_or-set_same e fill id 0 (omega (arith, room, lengths));
+      shape = get_or-set_same one (fill + 1) s 0 (omega (arith, room, first, lengths));
+      nulls = λ k low high. other_cells one (fill + 1) s k (λ e. omega (arith, e, low))
+          ∙ other_cells e fill id k (λ e. omega (arith, e, low))
+          ∙ zeros k (omega (arith, low)) (omega (arith, high, room));
     }
 
 -- an object stands from the allocation pointer on, and all before is as it was

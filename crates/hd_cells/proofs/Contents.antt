@@ -36,8 +36,8 @@ pub record IsRead (c : List ℕ) (fill : ℕ) (r : Contents) : Type 0 where
   pub region : IsRegion c fill
   pub view : contents_of c fill ≡ r
 
-pub opened : {c starts : List ℕ} {fill : ℕ} {r : Contents} → (length c ≡ CELLS) × (length starts ≡ PARTS)
-    → IsWhole c fill starts → contents_of c fill ≡ r → IsRead c fill r
+pub opened : {c starts : List ℕ} {fill stale : ℕ} {r : Contents} → (length c ≡ CELLS) × (length starts ≡ PARTS)
+    → IsWhole c fill starts stale → contents_of c fill ≡ r → IsRead c fill r
 opened lengths whole view = record { len = lengths.0; region = whole.region; view = view }
 
 -- what the cells hold where callers see an object
@@ -108,6 +108,11 @@ module _ {c : List ℕ} {fill : ℕ} {r : Contents} (read : IsRead c fill r) whe
   -- the first three cells of an object
   pub object_inside : (at : ℕ) → IsObject r at → at + HEADER ≤ CELLS
   object_inside at is = let h = held at is in omega (arith, h.high, h.within)
+
+  -- where an object ends
+  pub object_below : (at : ℕ) → IsObject r at → at + (count_at c at + HEADER) ≤ fill
+  object_below at is =
+      let h = held at is in omega (arith, h.high, ap (λ (x : Contents). x.fill) read.view)
 
   -- the cells from an object on
   pub object_cells : (at : ℕ) → IsObject r at → HoldsObject (take (CELLS - at) (drop at c)) (object_at r at)

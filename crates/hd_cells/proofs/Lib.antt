@@ -5,3 +5,4 @@ pub mod Contents
 pub mod CellWrites
 pub mod CellWalk
 pub mod ObjectStarts
+pub mod ClearedCells

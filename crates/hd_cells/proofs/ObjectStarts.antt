@@ -1,5 +1,5 @@
 -- Lemmas on where the objects of a region begin.
-use Rattle.hd_cells.proofs.Basics.{CELLS, Contents, HEADER, IsIndexed, IsLaidOut, IsObject, IsRegion, IsWhole, List, NONE, Object, PARTS, ap, arith, cases_eq, cases_lt, cond-false, cond-true, contents_of, empty_region, eq-eqb, eq_by_cmp, eqb, false, false_from_ne_true, get_or, get_or-set_other, get_or-set_same, inl, inr, is_some, length, nat_cmp, nat_cmp_total, ne_eqb, set, subst, sym, true, with_object, with_put, without_object, ℕ, ◌+◌, ◌/◌, ◌<◌, ◌∙◌, ◌≡◌, ◌≤◌}
+use Rattle.hd_cells.proofs.Basics.{CELLS, Contents, HEADER, IsCleared, IsIndexed, IsLaidOut, IsObject, IsRegion, IsWhole, List, NONE, Object, PARTS, ap, arith, cases_eq, cases_lt, cond-false, cond-true, contents_of, empty_region, eq-eqb, eq_by_cmp, eqb, false, false_from_ne_true, get_or, get_or-set_other, get_or-set_same, inl, inr, is_some, length, nat_cmp, nat_cmp_total, ne_eqb, set, subst, sym, true, with_object, with_put, without_object, ℕ, ◌+◌, ◌/◌, ◌<◌, ◌∙◌, ◌≡◌, ◌≤◌}
 use Rattle.hd_cells.proofs.{OffsetLookup.tied, OffsetLookup.untied, Contents.IsRead, Contents.laid_out}
 use Rattle.std.specs.FinMap as map
 
@@ -103,42 +103,45 @@ module _ (starts : List ℕ) (r : Contents) (long : length starts ≡ PARTS) (in
       ]
 
 -- a region after a write, with its index
-pub whole : {d : List ℕ} {fill : ℕ} {r : Contents} {starts : List ℕ} → IsRegion d fill
-    → contents_of d fill ≡ r → IsIndexed starts r → IsWhole d fill starts
-whole {starts = starts} region view indexed = record {
+pub whole : {d : List ℕ} {fill : ℕ} {r : Contents} {starts : List ℕ} {stale : ℕ} → IsRegion d fill
+    → contents_of d fill ≡ r → IsIndexed starts r → IsCleared d fill stale → IsWhole d fill starts stale
+whole {starts = starts} region view indexed cleared = record {
   region = region;
   indexed = subst (IsIndexed starts) (sym view) indexed;
+  cleared = cleared;
 }
 
-module _ {c : List ℕ} {fill : ℕ} {starts : List ℕ} {r : Contents} (read : IsRead c fill r)
-    (is : IsWhole c fill starts) (long : length starts ≡ PARTS) where
+module _ {c : List ℕ} {fill : ℕ} {starts : List ℕ} {stale : ℕ} {r : Contents} (read : IsRead c fill r)
+    (is : IsWhole c fill starts stale) (long : length starts ≡ PARTS) where
   pub seen_indexed : IsIndexed starts r
   seen_indexed = subst (IsIndexed starts) read.view is.indexed
 
   -- an object was written to
   pub whole_written : {d : List ℕ} (at : ℕ) (o : Object) → IsObject r at → IsRead d fill (with_object r at o)
-      → IsWhole d fill starts
-  whole_written at o there new =
-      whole new.region new.view (changed_indexed starts r long seen_indexed at o there)
+      → IsCleared d fill stale
+      → IsWhole d fill starts stale
+  whole_written at o there new cleared =
+      whole new.region new.view (changed_indexed starts r long seen_indexed at o there) cleared
 
   -- an object was removed
   pub whole_removed : {d : List ℕ} (at part : ℕ) → part ≡ at / HEADER → IsObject r at
-      → IsRead d fill (without_object r at) → IsWhole d fill (set starts part NONE)
-  whole_removed {d} at part e there new =
-      let P : ℕ → Type 0 = λ k. IsWhole d fill (set starts k NONE) in
+      → IsRead d fill (without_object r at) → IsCleared d fill stale
+      → IsWhole d fill (set starts part NONE) stale
+  whole_removed {d} at part e there new cleared =
+      let P : ℕ → Type 0 = λ k. IsWhole d fill (set starts k NONE) stale in
       subst P (sym e) (whole new.region new.view
-      (removed_indexed starts r long seen_indexed at (laid_out read) there))
+      (removed_indexed starts r long seen_indexed at (laid_out read) there) cleared)
 
   -- an object was put
-  pub whole_put : {d : List ℕ} {end : ℕ} (part : ℕ) (o : Object) → part ≡ fill / HEADER
+  pub whole_put : {d : List ℕ} {end rest : ℕ} (part : ℕ) (o : Object) → part ≡ fill / HEADER
       → r.fill + HEADER ≤ CELLS
-      → IsRead d end (with_put r o) → IsWhole d end (set starts part fill)
-  whole_put {d} {end} part o e room new =
+      → IsRead d end (with_put r o) → IsCleared d end rest → IsWhole d end (set starts part fill) rest
+  whole_put {d} {end} {rest} part o e room new cleared =
       let fills : r.fill ≡ fill = ap (λ (x : Contents). x.fill) (sym read.view) in
-      let P : ℕ → Type 0 = λ k. IsWhole d end (set starts k fill) in
-      let Q : ℕ → Type 0 = λ k. IsWhole d end (set starts (k / HEADER) k) in
+      let P : ℕ → Type 0 = λ k. IsWhole d end (set starts k fill) rest in
+      let Q : ℕ → Type 0 = λ k. IsWhole d end (set starts (k / HEADER) k) rest in
       subst P (sym e) (subst Q fills (whole new.region new.view
-      (put_indexed starts r long seen_indexed o (laid_out read) room)))
+      (put_indexed starts r long seen_indexed o (laid_out read) room) cleared))
 
 -- no object begins near the end
 pub none_late : {c : List ℕ} {fill : ℕ} {r : Contents} → IsRead c fill r → (at : ℕ) → 254 ≤ at

@@ -42,10 +42,16 @@ abbrev pub IsIndexed : List ℕ → Contents → Type 0
 IsIndexed starts r = (q : ℕ) → q + HEADER ≤ CELLS
     → (slice_index starts (q / HEADER) == q) ≡ map.contains_key r.objects q
 
+-- above the allocation pointer, the cells from `stale` on are 0
+pub record IsCleared (cells : List ℕ) (fill stale : ℕ) : Type 0 where
+  pub within : stale ≤ CELLS
+  pub nulls : (k : ℕ) → fill ≤ k → stale ≤ k → k < CELLS → cell cells k ≡ 0
+
 -- what is always true of a region
-pub record IsWhole (cells : List ℕ) (fill : ℕ) (starts : List ℕ) : Type 0 where
+pub record IsWhole (cells : List ℕ) (fill : ℕ) (starts : List ℕ) (stale : ℕ) : Type 0 where
   pub region : IsRegion cells fill
   pub indexed : IsIndexed starts (contents_of cells fill)
+  pub cleared : IsCleared cells fill stale
 
 -- an object or a gap begins at this offset, or nothing was put from it on; and each object at or after `from`
 -- is in the rest from there on

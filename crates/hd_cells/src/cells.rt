@@ -55,11 +55,12 @@ pub(crate) fn shape(fields: u64, registered: bool) -> u64
     }
 }
 
-/// Writes 0 into the cells from one offset up to another.
+/// Writes 0 into the cells from one offset up to another, if there are any.
 pub(crate) fn clear(cells: &mut [u64; CELLS], from: usize, to: usize)
     requires { to ≤ CELLS }
     ensures cleared { (k : ℕ) → from ≤ k → k < to → slice_index cells.new k ≡ 0 }
     ensures before { (k : ℕ) → k < from → slice_index cells.new k ≡ slice_index cells.old k }
+    ensures after { (k : ℕ) → to ≤ k → slice_index cells.new k ≡ slice_index cells.old k }
 {
     for k in from..to {
         cells[k] = 0;
@@ -73,6 +74,8 @@ pub(crate) fn copy(object: &[u64], cells: &mut [u64; CELLS], at: usize, fields: 
     ensures copied { (k : ℕ) → k < HEADER + fields →
         slice_index cells.new (at + k) ≡ slice_index object.now k }
     ensures before { (k : ℕ) → k < at → slice_index cells.new k ≡ slice_index cells.old k }
+    ensures after { (k : ℕ) → at + HEADER + fields ≤ k →
+        slice_index cells.new k ≡ slice_index cells.old k }
 {
     // Most objects have few fields: their header is copied without a loop.
     cells[at] = object[0];

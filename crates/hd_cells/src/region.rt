@@ -21,6 +21,9 @@ pub struct Region {
     cells: [u64; CELLS],
     starts: [u8; PARTS],
     fill: u32,
+    // Above the allocation pointer, the cells below this may have what objects that were taken out
+    // left; all others are 0.
+    stale: u32,
 }
 
 /// What the header of an object says: its offset, the number of its fields, and whether it is
@@ -43,7 +46,7 @@ impl Model for Region {
 
     ghost view = { λ r. contents_of r.cells r.fill };
 
-    ghost invariant = { λ r. IsWhole r.cells r.fill r.starts };
+    ghost invariant = { λ r. IsWhole r.cells r.fill r.starts r.stale };
 }
 
 impl Region {
@@ -56,6 +59,7 @@ impl Region {
             cells: [0; CELLS],
             starts: no_starts(),
             fill: 0,
+            stale: 0,
         }
     }
 
@@ -64,6 +68,7 @@ impl Region {
         ensures empty { self.new ≡ empty_region }
         ensures laid_out { IsLaidOut self.new }
     {
+        self.stale = self.stale.max(self.fill);
         self.starts = no_starts();
         self.fill = 0;
     }
@@ -77,7 +82,8 @@ impl Region {
     }
 
     /// Puts an object with null fields and value 0 after all others, and returns its offset. It
-    /// takes three cells more than it has fields.
+    /// takes three cells more than it has fields. After `reset` the first one clears what the cells
+    /// had; no other writes its fields.
     pub fn put_object(&mut self, id: u64, fields: u32, registered: bool) -> u32
         requires identified { id ≢ 0 }
         requires few_fields { fields ≤ FIELDS }
@@ -88,13 +94,12 @@ impl Region {
         ensures laid_out { IsLaidOut self.new }
     {
         let at = self.fill;
-        let end = at + fields + HEADER as u32;
+        clear(&mut self.cells, at as usize, self.stale as usize);
+        self.stale = 0;
         self.cells[at as usize] = id;
         self.cells[at as usize + SHAPE] = shape(u64::from(fields), registered);
-        self.cells[at as usize + VALUE] = 0;
-        clear(&mut self.cells, at as usize + HEADER, end as usize);
         self.starts[part_of(at as usize)] = at as u8;
-        self.fill = end;
+        self.fill = at + fields + HEADER as u32;
         at
     }
 

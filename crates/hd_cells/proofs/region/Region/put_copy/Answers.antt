@@ -1,7 +1,7 @@
 use Rattle.hd_cells.proofs.Basics.{Contents, HEADER, ap, arith, object_at, subst, with_put, ℕ, ◌+◌}
 use Rattle.hd_cells.proofs.Contents.{opened, IsRead, new_laid_out}
 use Rattle.hd_cells.proofs.CellWrites.{copy_put, object_put, get-fill}
-use Rattle.hd_cells.proofs.ObjectStarts.{whole_put}
+use Rattle.hd_cells.proofs.{ClearedCells.cleared_put, ObjectStarts.whole_put}
 use Rattle.hd_cells.proofs.region.Region.put_copy.Goals.{After-copy}
 use Rattle.hd_cells.proofs.region.Region.put_copy.Goals as goal
 
@@ -32,3 +32,5 @@ invariant_of-self c =
     whole_put read c.self.invariant c.self.told.1 c.part_of.result
     (object_at c.args.source.now c.args.from) c.part_of.ensures (omega (arith, c.requires.room))
     (after ((goal.at.invariant_of-self c).After-copy))
+    (cleared_put (c.self.inside.fill + c.fields-fields.result + HEADER) c.self.invariant.cleared (omega arith)
+    (λ k past. c.copy.ensures.after k (omega (arith, past))))

@@ -1,5 +1,6 @@
-use Rattle.hd_cells.proofs.Basics.{arith}
-use Rattle.hd_cells.proofs.Contents.{opened, object_inside, new_laid_out}
+use Rattle.hd_cells.proofs.Basics.{HEADER, arith, count_at, ◌+◌}
+use Rattle.hd_cells.proofs.Contents.{opened, object_below, object_inside, new_laid_out}
+use Rattle.hd_cells.proofs.ClearedCells.{cleared_set}
 use Rattle.hd_cells.proofs.{CellWrites.object_removed, ObjectStarts.whole_removed}
 use Rattle.hd_cells.proofs.region.Region.remove.Goals as goal
 
@@ -30,3 +31,6 @@ invariant_of-self c =
     let read = opened c.self.told c.self.invariant c.self.view_is in
     whole_removed read c.self.invariant c.self.told.1 c.args.at c.part_of.result c.part_of.ensures c.requires
     (object_removed read c.args.at c.requires)
+    (let below = object_below read c.args.at c.requires in
+    cleared_set (c.args.at + 1) (count_at c.self.inside.cells c.args.at + HEADER)
+    (cleared_set c.args.at 0 c.self.invariant.cleared (omega (arith, below))) (omega (arith, below)))

@@ -1,6 +1,7 @@
-use Rattle.hd_cells.proofs.Basics.{arith, object_at, with_registered}
+use Rattle.hd_cells.proofs.Basics.{arith, object_at, with_registered, ◌+◌}
 use Rattle.hd_cells.proofs.Contents.{opened, object_inside, new_laid_out}
 use Rattle.hd_cells.proofs.{CellWrites.registration_written, ObjectStarts.whole_written}
+use Rattle.hd_cells.proofs.ClearedCells.{cleared_within}
 use Rattle.hd_cells.proofs.region.Region.set_registered.Goals as goal
 
 pub bounds-self-inside-index : goal.bounds-self-inside-index
@@ -23,3 +24,5 @@ invariant_of-self c =
     whole_written read c.self.invariant c.self.told.1 c.args.at
     (with_registered (object_at c.args.self.now c.args.at) c.args.on) c.requires
     (registration_written read c.args.at c.requires c.args.on c.shape.result c.shape.ensures)
+    (cleared_within read c.args.at c.requires (c.args.at + 1) c.shape.result (omega arith)
+    c.self.invariant.cleared)

@@ -1,6 +1,7 @@
-use Rattle.hd_cells.proofs.Basics.{arith, object_at, with_value}
+use Rattle.hd_cells.proofs.Basics.{arith, object_at, with_value, ◌+◌}
 use Rattle.hd_cells.proofs.Contents.{opened, object_inside, new_laid_out}
 use Rattle.hd_cells.proofs.{CellWrites.value_written, ObjectStarts.whole_written}
+use Rattle.hd_cells.proofs.ClearedCells.{cleared_within}
 use Rattle.hd_cells.proofs.region.Region.set_value.Goals as goal
 
 pub bounds-self-inside-index : goal.bounds-self-inside-index
@@ -19,3 +20,4 @@ invariant_of-self c =
     whole_written read c.self.invariant c.self.told.1 c.args.at
     (with_value (object_at c.args.self.now c.args.at) c.args.v) c.requires
     (value_written read c.args.at c.requires c.args.v)
+    (cleared_within read c.args.at c.requires (c.args.at + 2) c.args.v (omega arith) c.self.invariant.cleared)
