@@ -1,0 +1,5 @@
+pub mod Basics
+pub mod SetMembers
+pub mod Searches
+pub mod MaskMembers
+pub mod TierMembers

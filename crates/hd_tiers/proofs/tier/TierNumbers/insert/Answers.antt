@@ -1,0 +1,17 @@
+use Rattle.hd_tiers.proofs.Basics.{NumberSet, ap, arith, refl}
+use Rattle.hd_tiers.proofs.TierMembers.{along, inserted_first, inserted_more}
+use Rattle.hd_tiers.proofs.tier.TierNumbers.insert.Goals as goal
+
+pub insert-requires : goal.insert-requires
+insert-requires g c =
+    omega (arith, c.requires, c.self.invariant.wide, ap (λ (s : NumberSet). s.room) c.self.view_is)
+
+pub invariant_of-self : goal.invariant_of-self
+invariant_of-self g c =
+    along c.add-added.ensures.value c.insert.ensures
+    (inserted_first c.self.invariant c.args.i)
+
+pub invariant_of-self-else-added : goal.invariant_of-self-else-added
+invariant_of-self-else-added g c =
+    along c.add-added.ensures.value refl
+    (inserted_more c.self.invariant c.args.i (c.add-added.ensures.more c.if-added.false))
