@@ -1,4 +1,3 @@
 pub mod Basics
-pub mod SetMembers
-pub mod MaskMembers
 pub mod PoolCalls
+pub mod WholeBlocks

@@ -1,26 +1,26 @@
 -- What each call of a pool does to its fields and to the set of free slots.
-use Rattle.hd_pool.proofs.Basics.{BLOCKS, Bool, FinSet, FreeSlots, HasAllOf, HasFree, HasNoneBetween, HasNoneFor, Held, IfNone, IfSome, IsFreeFor, IsLeastBetween, IsLeastFreeFor, IsLeastWholeOf, IsPool, IsSome, IsWholeOf, List, None, Option, ROWS, Some, ap, arith, both_ways, by_index-clear, by_index-put, cases_eq, cases_lt, contains, contains-empty, difference, empty, false, get, get-by_index, get_or, get_or-set_other, get_or-set_same, get_or_past, get_or_read, inl, inr, insert, is_some, kind_at, length, length-set, nat_cmp, numbers_of, index_of, refl, remove, same_Some, set, subst, sym, true, union, ℕ, ◌*◌, ◌+◌, ◌-◌, ◌/◌, ◌<◌, ◌∙◌, ◌≡◌, ◌≢◌, ◌≤◌, ◌⊎◌}
+use Rattle.hd_pool.proofs.Basics.{BLOCKS, Bool, FinSet, FreeSlots, HasAllOf, HasNoneBetween, HasNoneFor, HasNoneOf, HasSomeOf, NumberSet, IfNone, IfSome, IsFreeFor, IsLeastBetween, IsLeastFreeFor, IsLeastOf, IsPool, IsSome, IsWholeOf, List, None, Option, KINDS, ROWS, STRIDE, Some, ap, arith, both_ways, by_index-clear, by_index-put, cases_eq, cases_lt, contains, contains-empty, difference, empty, false, get, get-by_index, get_or, get_or-set_other, get_or-set_same, get_or_past, get_or_read, inl, inr, insert, is_some, kind_at, length, length-set, nat_cmp, numbers_of, index_of, refl, remove, same_Some, set, subst, sym, true, union, ℕ, ◌*◌, ◌+◌, ◌-◌, ◌/◌, ◌<◌, ◌∙◌, ◌≡◌, ◌≢◌, ◌≤◌, ◌⊎◌}
 use Rattle.hd_model.specs.{declared.data.Kind.Kind, declared.data.Slot.Slot, Kinds.kind_number, Indexed.by_index}
-use Rattle.hd_model.proofs.KindTests.{same_number, few_kinds}
-use Rattle.hd_pool.proofs.SetMembers.{insert_same, insert_other, insert_keeps, remove_same, remove_other, union_same, union_other, difference_same, difference_other}
+use Rattle.hd_model.proofs.KindTests.{same_number}
+use Rattle.hd_tiers.proofs.SetMembers.{insert_same, insert_other, insert_keeps, remove_same, remove_other, union_same, union_other, difference_same, difference_other}
 use Rattle.std.specs.FinMap as map
 
 -- two numbers in `ready` are equal only for the same kind and block
-same_index : (j k : Kind) (a b : ℕ) → a < 320 → b < 320 → index_of j a ≡ index_of k b → (j ≡ k) × (a ≡ b)
+pub same_index : (j k : Kind) (a b : ℕ) → a < STRIDE → b < STRIDE → index_of j a ≡ index_of k b → (j ≡ k) × (a ≡ b)
 same_index j k a b small small' e =
     let number : kind_number j ≡ kind_number k = omega arith in
     (same_number j k number, omega arith)
 
 -- ---- a read of the kinds
 
-kind_within : (kinds : List (Option Kind)) (block : ℕ) → IsSome (kind_at kinds block) → block < length kinds
+pub kind_within : (kinds : List (Option Kind)) (block : ℕ) → IsSome (kind_at kinds block) → block < length kinds
 kind_within kinds block there =
     elim (cases_lt block (length kinds)) [
       | inl is ↦ is
       | inr past ↦ absurd (both_ways _ (ap is_some (get_or_past kinds block None past)) there)
     ]
 
-is_there : (kinds : List (Option Kind)) (block : ℕ) (k : Kind) → kind_at kinds block ≡ Some k → IsSome
+pub is_there : (kinds : List (Option Kind)) (block : ℕ) (k : Kind) → kind_at kinds block ≡ Some k → IsSome
     (kind_at kinds block)
 is_there kinds block k e = ap is_some e
 
@@ -28,16 +28,20 @@ not_both : {P : Type 0} (b : Bool) → b ≡ false → b ≡ true → P
 not_both b is_false is_true = absurd (both_ways b is_false is_true)
 
 -- what callers see
-abbrev pub seen : List (Option Kind) → Held → FreeSlots
+abbrev pub seen : List (Option Kind) → NumberSet → FreeSlots
 seen kinds free = record { blocks = length kinds - 1; kinds = by_index kinds; free = free.members }
 
-module _ {kinds : List (Option Kind)} {free ready : Held} (inv : IsPool kinds free ready) where
+-- a pool of the same sets
+pub along : {kinds : List (Option Kind)} {free ready free' ready' : NumberSet} → free' ≡ free → ready' ≡ ready →
+    IsPool kinds free ready → IsPool kinds free' ready'
+along {kinds} {free} {ready} {free'} {ready'} e f inv =
+    subst (λ (s : NumberSet). IsPool kinds s ready') (sym e)
+    (subst (λ (s : NumberSet). IsPool kinds free s) (sym f) inv)
+
+module _ {kinds : List (Option Kind)} {free ready : NumberSet} (inv : IsPool kinds free ready) where
   -- a block that was added is small
   pub block_small : (block : ℕ) → IsSome (kind_at kinds block) → block ≤ BLOCKS
   block_small block there = omega (arith, kind_within kinds block there, inv.limit)
-
-  pub index_small : (k : Kind) (block : ℕ) → block ≤ BLOCKS → index_of k block < ready.room
-  index_small k block small = omega (arith, few_kinds k, inv.ready_room)
 
   -- ---- a block is added
 
@@ -66,9 +70,9 @@ module _ {kinds : List (Option Kind)} {free ready : Held} (inv : IsPool kinds fr
         | inl e ↦ let same = same_index j k b block small (omega (arith, inv.limit)) e in (
           here b same.1 ∙ ap Some (sym same.0),
           record {
-            slot = ROWS * b;
+            number = ROWS * b;
             of_block = omega arith;
-            free = union_same block (ROWS * b) free.members (omega (arith, same.1));
+            member = union_same block (ROWS * b) free.members (omega (arith, same.1));
           },
         )
         | inr apart ↦ let old = inv.has_free j b small
@@ -77,10 +81,10 @@ module _ {kinds : List (Option Kind)} {free ready : Held} (inv : IsPool kinds fr
             (ap (λ x. is_some (kind_at kinds x)) e ∙ ap is_some new) (ap is_some old.0) in (
               other b differs ∙ old.0,
               record {
-                slot = old.1.slot;
+                number = old.1.number;
                 of_block = old.1.of_block;
-                free = union_other block old.1.slot free.members (λ e. differs (sym old.1.of_block ∙ e)) ∙
-                    old.1.free;
+                member = union_other block old.1.number free.members (λ e. differs (sym old.1.of_block ∙ e)) ∙
+                    old.1.member;
               },
             )
       ];
@@ -104,7 +108,7 @@ module _ {kinds : List (Option Kind)} {free ready : Held} (inv : IsPool kinds fr
         ]
 
     -- its block has another free slot
-    pub taken : HasFree (record free { members = remove free.members slot }) (slot / ROWS)
+    pub taken : HasSomeOf (remove free.members slot) (slot / ROWS)
         → IsPool kinds (record free { members = remove free.members slot }) ready
     taken left = record {
       some = inv.some;
@@ -116,20 +120,19 @@ module _ {kinds : List (Option Kind)} {free ready : Held} (inv : IsPool kinds fr
       has_free = λ j b small member. let old = inv.has_free j b small member in (
         old.0,
         elim (cases_eq b (slot / ROWS)) [
-          | inl e ↦ subst (HasFree (record free { members = remove free.members slot })) (sym e) left
+          | inl e ↦ subst (HasSomeOf (remove free.members slot)) (sym e) left
           | inr apart ↦ record {
-            slot = old.1.slot;
+            number = old.1.number;
             of_block = old.1.of_block;
-            free = remove_other free.members slot old.1.slot
-                (λ e. apart (sym old.1.of_block ∙ ap (λ x. x / ROWS) e)) ∙ old.1.free;
+            member = remove_other free.members slot old.1.number
+                (λ e. apart (sym old.1.of_block ∙ ap (λ x. x / ROWS) e)) ∙ old.1.member;
           }
         ],
       );
     }
 
     -- it was the last free slot of its block
-    pub taken_last : HasNoneBetween (remove free.members slot) (ROWS * (slot / ROWS))
-        (ROWS * (slot / ROWS + 1))
+    pub taken_last : HasNoneOf (remove free.members slot) (slot / ROWS)
         → IsPool kinds (record free { members = remove free.members slot })
         (record ready { members = remove ready.members (index_of k (slot / ROWS)) })
     taken_last none = record {
@@ -139,7 +142,7 @@ module _ {kinds : List (Option Kind)} {free ready : Held} (inv : IsPool kinds fr
       ready_room = inv.ready_room;
       added = λ q member. inv.added q (kept_member q member);
       opened = λ j q is member.
-          let apart : q / ROWS ≢ slot / ROWS = λ e. not_both _ (none q (omega arith) (omega arith)) member in
+          let apart : q / ROWS ≢ slot / ROWS = λ e. not_both _ (none q e) member in
           let small = block_small (q / ROWS) (is_there kinds (q / ROWS) j is) in
           let small' = block_small (slot / ROWS) (is_there kinds (slot / ROWS) k of_kind) in
           remove_other ready.members (index_of k (slot / ROWS)) (index_of j (q / ROWS))
@@ -153,10 +156,10 @@ module _ {kinds : List (Option Kind)} {free ready : Held} (inv : IsPool kinds fr
             (λ i. index_of (same_Some j k (sym old.0 ∙ ap (kind_at kinds) e ∙ of_kind) i) (e i)) in (
               old.0,
               record {
-                slot = old.1.slot;
+                number = old.1.number;
                 of_block = old.1.of_block;
-                free = remove_other free.members slot old.1.slot
-                    (λ e. differs (sym old.1.of_block ∙ ap (λ x. x / ROWS) e)) ∙ old.1.free;
+                member = remove_other free.members slot old.1.number
+                    (λ e. differs (sym old.1.of_block ∙ ap (λ x. x / ROWS) e)) ∙ old.1.member;
               },
             )
       ];
@@ -186,19 +189,64 @@ module _ {kinds : List (Option Kind)} {free ready : Held} (inv : IsPool kinds fr
         | inl e ↦ let small' = block_small (slot / ROWS) (is_there kinds (slot / ROWS) k of_kind) in
             let same = same_index j k b (slot / ROWS) small (omega arith) e in (
               ap (kind_at kinds) same.1 ∙ of_kind ∙ ap Some (sym same.0),
-              record { slot = slot; of_block = sym same.1; free = insert_same free.members slot slot refl },
+              record { number = slot; of_block = sym same.1; member = insert_same free.members slot slot refl },
             )
         | inr apart ↦ let old = inv.has_free j b small
             (sym (insert_other ready.members (index_of k (slot / ROWS)) (index_of j b) apart) ∙ member) in (
               old.0,
               record {
-                slot = old.1.slot;
+                number = old.1.number;
                 of_block = old.1.of_block;
-                free = insert_keeps free.members slot old.1.slot old.1.free;
+                member = insert_keeps free.members slot old.1.number old.1.member;
               },
             )
       ];
     }
+
+    -- a block with a free slot is listed already
+    listed : HasSomeOf free.members (slot / ROWS) → contains ready.members (index_of k (slot / ROWS)) ≡ true
+    listed has =
+        ap (λ b. contains ready.members (index_of k b)) (sym has.of_block)
+        ∙ inv.opened k has.number (ap (kind_at kinds) has.of_block ∙ of_kind) has.member
+
+    -- its block had a free slot
+    put_more : HasSomeOf free.members (slot / ROWS)
+        → IsPool kinds (record free { members = insert free.members slot }) ready
+    put_more has = record {
+      some = inv.some;
+      limit = inv.limit;
+      room = inv.room;
+      ready_room = inv.ready_room;
+      added = λ q member. elim (cases_eq q slot) [
+        | inl e ↦ ap (λ x. is_some (kind_at kinds (x / ROWS))) e ∙ ap is_some of_kind
+        | inr apart ↦ inv.added q (sym (insert_other free.members slot q apart) ∙ member)
+      ];
+      opened = λ j q is member. elim (cases_eq q slot) [
+        | inl e ↦
+            let its : j ≡ k = same_Some j k (sym is ∙ ap (λ x. kind_at kinds (x / ROWS)) e ∙ of_kind) in
+            let same : index_of j (q / ROWS) ≡ index_of k (slot / ROWS) = λ i. index_of (its i) (e i / ROWS) in
+            ap (contains ready.members) same ∙ listed has
+        | inr apart ↦ inv.opened j q is (sym (insert_other free.members slot q apart) ∙ member)
+      ];
+      has_free = λ j b small member. let old = inv.has_free j b small member in (
+        old.0,
+        record {
+          number = old.1.number;
+          of_block = old.1.of_block;
+          member = insert_keeps free.members slot old.1.number old.1.member;
+        },
+      );
+    }
+
+    -- its block is listed where it had none
+    pub put_where : (after : NumberSet) (at : ℕ) → at ≡ index_of k (slot / ROWS) → (first : Bool)
+        → (first ≡ false → HasSomeOf free.members (slot / ROWS))
+        → (first ≡ true → after ≡ record ready { members = insert ready.members at })
+        → (first ≡ false → after ≡ ready)
+        → IsPool kinds (record free { members = insert free.members slot }) after
+    put_where after at at_is true more inserted kept =
+        along refl (inserted refl ∙ ap (λ n. record ready { members = insert ready.members n }) at_is) put
+    put_where after at at_is false more inserted kept = along refl (kept refl) (put_more (more refl))
 
   -- ---- a block is dropped
 
@@ -229,10 +277,10 @@ module _ {kinds : List (Option Kind)} {free ready : Held} (inv : IsPool kinds fr
             (same_Some j k (sym old.0 ∙ ap (kind_at kinds) e ∙ of_kind) i) (e i)) in (
               other b differs ∙ old.0,
               record {
-                slot = old.1.slot;
+                number = old.1.number;
                 of_block = old.1.of_block;
-                free = difference_other block old.1.slot free.members (λ e. differs (sym old.1.of_block ∙ e))
-                    ∙ old.1.free;
+                member = difference_other block old.1.number free.members (λ e. differs (sym old.1.of_block ∙ e))
+                    ∙ old.1.member;
               },
             )
       ];
@@ -262,37 +310,30 @@ module _ {kinds : List (Option Kind)} {free ready : Held} (inv : IsPool kinds fr
     low_block slot is = block_small (slot.0 / ROWS) (is_there kinds (slot.0 / ROWS) k (kind_of_free slot is))
 
     -- no block of the kind has a free slot
-    pub none_ready : HasNoneBetween ready.members (ROWS * (kind_number k * 5))
-        (ROWS * (kind_number k * 5 + 5)) →
-        HasNoneFor (seen kinds free) k
+    pub none_ready : HasNoneBetween ready.members (index_of k 0) (index_of k 0 + STRIDE)
+        → HasNoneFor (seen kinds free) k
     none_ready none slot is =
         let low = low_block slot is in
         not_both _ (none (index_of k (slot.0 / ROWS)) (omega arith) (omega arith)) (block_is_ready slot is)
 
-    module _ {at : ℕ} (first : IsLeastBetween ready.members (ROWS * (kind_number k * 5))
-        (ROWS * (kind_number k * 5 + 5)) at) {block : ℕ} (block_is : block ≡ at - index_of k 0) where
+    module _ {at : ℕ} (first : IsLeastBetween ready.members (index_of k 0) (index_of k 0 + STRIDE) at)
+        {block : ℕ} (block_is : block ≡ at - index_of k 0) where
       at_is : at ≡ index_of k block
       at_is = omega (arith, first.low, first.high)
 
-      small : block < 320
+      small : block < STRIDE
       small = omega (arith, first.low, first.high)
 
-      pub block_has : (kind_at kinds block ≡ Some k) × HasFree free block
+      pub block_has : (kind_at kinds block ≡ Some k) × HasSomeOf free.members block
       block_has = inv.has_free k block small (ap (contains ready.members) (sym at_is) ∙ first.member)
 
-      -- so a search in the block finds a slot
-      pub block_not_empty : HasNoneBetween free.members (ROWS * block) (ROWS * (block + 1)) → ⊥
-      block_not_empty none =
-          let w = block_has.1 in
-          let where_is = w.of_block in
-          not_both _ (none w.slot (omega arith) (omega arith)) w.free
+      -- so the block has a least free slot
+      pub block_not_empty : HasNoneOf free.members block → ⊥
+      block_not_empty none = let w = block_has.1 in both_ways _ (none w.number w.of_block) w.member
 
-      module _ {slot : ℕ} (least : IsLeastBetween free.members (ROWS * block) (ROWS * (block + 1)) slot) where
-        pub of_block : slot / ROWS ≡ block
-        of_block = omega (arith, least.low, least.high)
-
+      module _ {slot : ℕ} (least : IsLeastOf free.members block slot) where
         pub slot_kind : kind_at kinds (slot / ROWS) ≡ Some k
-        slot_kind = ap (kind_at kinds) of_block ∙ block_has.0
+        slot_kind = ap (kind_at kinds) least.of_block ∙ block_has.0
 
         pub least_free : IsLeastFreeFor (seen kinds free) k (record { 0 = slot })
         least_free = record {
@@ -307,43 +348,37 @@ module _ {kinds : List (Option Kind)} {free ready : Held} (inv : IsPool kinds fr
                 not_both _ (first.least (index_of k (other.0 / ROWS)) (omega arith) (omega (arith, at_is)))
                 (block_is_ready other is)
             at_most other is (inr after) (inl less) =
-                not_both _ (least.least other.0 (omega arith) less) is.0
+                not_both _ (least.least other.0 (omega (arith, least.of_block)) less) is.0
 
 -- ---- the start
 
-pub opened_empty : (kinds : List (Option Kind)) (free ready : Held) → ((b : ℕ) → kind_at kinds b ≡ None) → 1 ≤
-    length kinds → length kinds ≤ 257
-    → free ≡ record { room = ROWS * length kinds; members = empty } → ready ≡ record
-    { room = 2240; members = empty } → IsPool kinds free ready
-opened_empty kinds free ready none some limit free_is ready_is = record {
+pub opened_empty : (kinds : List (Option Kind)) (free ready : NumberSet) → ((b : ℕ) → kind_at kinds b ≡ None) → 1 ≤
+    length kinds → length kinds ≤ BLOCKS + 1
+    → free ≡ record { room = ROWS * length kinds; members = empty } → KINDS * STRIDE ≤ ready.room
+    → ready.members ≡ empty → IsPool kinds free ready
+opened_empty kinds free ready none some limit free_is wide ready_is = record {
   some = some;
   limit = limit;
-  room = ap (λ (s : Held). s.room) free_is;
-  ready_room = ap (λ (s : Held). s.room) ready_is;
-  added = λ slot member. not_both _ (no_member free (ap (λ (s : Held). s.members) free_is) slot) member;
-  opened = λ j slot is member. not_both _ (no_member free (ap (λ (s : Held). s.members) free_is) slot) member;
-  has_free = λ j b small member. not_both _ (no_member ready (ap (λ (s : Held). s.members) ready_is)
+  room = ap (λ (s : NumberSet). s.room) free_is;
+  ready_room = wide;
+  added = λ slot member. not_both _ (no_member free (ap (λ (s : NumberSet). s.members) free_is) slot) member;
+  opened = λ j slot is member. not_both _ (no_member free (ap (λ (s : NumberSet). s.members) free_is) slot) member;
+  has_free = λ j b small member. not_both _ (no_member ready ready_is
       (index_of j b)) member;
 }
   where
-    no_member : (s : Held) → s.members ≡ empty → (q : ℕ) → contains s.members q ≡ false
+    no_member : (s : NumberSet) → s.members ≡ empty → (q : ℕ) → contains s.members q ≡ false
     no_member s e q = ap (λ m. contains m q) e ∙ contains-empty nat_cmp q
 
 -- ---- what callers see of a change
 
-pub along : {kinds : List (Option Kind)} {free ready free' ready' : Held} → free' ≡ free → ready' ≡ ready →
-    IsPool kinds free ready → IsPool kinds free' ready'
-along {kinds} {free} {ready} {free'} {ready'} e f inv =
-    subst (λ (s : Held). IsPool kinds s ready') (sym e)
-    (subst (λ (s : Held). IsPool kinds free s) (sym f) inv)
-
 -- a pool by what was written at the index of a block
-pub with_left : (kinds : List (Option Kind)) {free ready : Held} (block : ℕ) {left : Option Kind}
+pub with_left : (kinds : List (Option Kind)) {free ready : NumberSet} (block : ℕ) {left : Option Kind}
     → left ≡ None → IsPool (set kinds block None) free ready → IsPool (set kinds block left) free ready
 with_left kinds {free} {ready} block none inv =
     subst (λ (o : Option Kind). IsPool (set kinds block o) free ready) (sym none) inv
 
-module _ {kinds : List (Option Kind)} {free ready : Held} (inv : IsPool kinds free ready) {v : FreeSlots}
+module _ {kinds : List (Option Kind)} {free ready : NumberSet} (inv : IsPool kinds free ready) {v : FreeSlots}
     (is : seen kinds free ≡ v) where
   pub blocks_is : length kinds - 1 ≡ v.blocks
   blocks_is = ap (λ (u : FreeSlots). u.blocks) is
@@ -354,7 +389,7 @@ module _ {kinds : List (Option Kind)} {free ready : Held} (inv : IsPool kinds fr
   pub there : (block : ℕ) → IsSome (get v.kinds block) → IsSome (kind_at kinds block)
   there block some = ap is_some (kind_is block) ∙ some
 
-  pub seen_put : (block : ℕ) (k : Kind) (f : FinSet nat_cmp → FinSet nat_cmp) {after : Held} → block < length
+  pub seen_put : (block : ℕ) (k : Kind) (f : FinSet nat_cmp → FinSet nat_cmp) {after : NumberSet} → block < length
       kinds → after ≡ record free { members = f free.members }
       → seen (set kinds block (Some k)) after ≡ record v
       { kinds = map.insert v.kinds block k; free = f v.free }
@@ -373,7 +408,7 @@ module _ {kinds : List (Option Kind)} {free ready : Held} (inv : IsPool kinds fr
       ap (seen (set kinds block (Some k))) e ∙ now ∙ ap
       (λ (u : FreeSlots). record u { kinds = map.insert u.kinds block k; free = f u.free }) is
 
-  seen_clear : (block : ℕ) (f : FinSet nat_cmp → FinSet nat_cmp) {after : Held} → after ≡ record free
+  seen_clear : (block : ℕ) (f : FinSet nat_cmp → FinSet nat_cmp) {after : NumberSet} → after ≡ record free
       { members = f free.members }
       → seen (set kinds block None) after ≡ record v { kinds = map.remove v.kinds block; free = f v.free }
   seen_clear block f {after} e =
@@ -390,7 +425,7 @@ module _ {kinds : List (Option Kind)} {free ready : Held} (inv : IsPool kinds fr
 
   -- the same, by what was written at the block's index
   pub seen_left : {left : Option Kind} → left ≡ None → (block : ℕ) (f : FinSet nat_cmp → FinSet nat_cmp)
-      {after : Held} → after ≡ record free { members = f free.members }
+      {after : NumberSet} → after ≡ record free { members = f free.members }
       → seen (set kinds block left) after ≡ record v { kinds = map.remove v.kinds block; free = f v.free }
   seen_left none block f {after} e =
       ap (λ (o : Option Kind). seen (set kinds block o) after) none ∙ seen_clear block f e
@@ -406,9 +441,6 @@ module _ {kinds : List (Option Kind)} {free ready : Held} (inv : IsPool kinds fr
 
     pub has_room : ROWS * block + 63 < free.room
     has_room = omega (arith, in_list, inv.room)
-
-    pub has_index : (k : Kind) {at : ℕ} → at ≡ index_of k block → at < ready.room
-    has_index k e = omega (arith, e, index_small inv k block low)
 
     module _ {read : Option Kind} (is_read : read ≡ get_or kinds block read) where
       pub read_kind : read ≡ kind_at kinds block
@@ -438,100 +470,72 @@ module _ {kinds : List (Option Kind)} {free ready : Held} (inv : IsPool kinds fr
 
 -- ---- taking a slot, step by step
 
+pub in_some : {A : Type 0} {o : Option A} {x : A} (P : A → Type 0) → o ≡ Some x → IfSome o P → P x
+in_some P is all = subst (λ p. IfSome p P) is all
+
 some_of : {A : Type 0} (o : Option A) (P : Type 0) → IfNone o P → (P → ⊥) → IsSome o
 some_of None P p not_p = absurd (not_p p)
 some_of (Some x) P p not_p = refl
 
-none_of : {A : Type 0} (o : Option A) (P : Type 0) → IfNone o P → is_some o ≡ false → P
-none_of None P p e = p
-none_of (Some x) P p e = not_both true e refl
-
-left_free : (s : Held) (block : ℕ) (o : Option ℕ) → IfSome o
-    (IsLeastBetween s.members (ROWS * block) (ROWS * (block + 1))) → is_some o ≡ true → HasFree s block
-left_free s block None found e = not_both false refl e
-left_free s block (Some slot) found e =
-    let low = found.low in
-    let high = found.high in
-    record { slot = slot; of_block = omega arith; free = found.member }
-
-module _ {kinds : List (Option Kind)} {free ready : Held} (inv : IsPool kinds free ready) {v : FreeSlots}
-    (is : seen kinds free ≡ v) (k : Kind) {n : ℕ} (n_is : n ≡ kind_number k) where
-  pub take_none : HasNoneBetween ready.members (ROWS * (n * 5)) (ROWS * (n * 5 + 5)) → HasNoneFor v k
+module _ {kinds : List (Option Kind)} {free ready : NumberSet} (inv : IsPool kinds free ready) {v : FreeSlots}
+    (is : seen kinds free ≡ v) (k : Kind) {start : ℕ} (start_is : start ≡ index_of k 0) where
+  pub take_none : HasNoneBetween ready.members start (start + STRIDE) → HasNoneFor v k
   take_none none =
       subst (λ (u : FreeSlots). HasNoneFor u k) is
-      (none_ready inv k (subst (λ m. HasNoneBetween ready.members (ROWS * (m * 5)) (ROWS * (m * 5 + 5))) n_is
-      none))
+      (none_ready inv k (subst (λ m. HasNoneBetween ready.members m (m + STRIDE)) start_is none))
 
-  module _ {at : ℕ} (found : IsLeastBetween ready.members (ROWS * (n * 5)) (ROWS * (n * 5 + 5)) at)
-      {start : ℕ}
-      (start_is : start ≡ index_of k 0) where
-    first : IsLeastBetween ready.members (ROWS * (kind_number k * 5)) (ROWS * (kind_number k * 5 + 5)) at
-    first = subst (λ m. IsLeastBetween ready.members (ROWS * (m * 5)) (ROWS * (m * 5 + 5)) at) n_is found
+  module _ {at : ℕ} (found : IsLeastBetween ready.members start (start + STRIDE) at) where
+    first : IsLeastBetween ready.members (index_of k 0) (index_of k 0 + STRIDE) at
+    first = subst (λ m. IsLeastBetween ready.members m (m + STRIDE) at) start_is found
 
     block_is : at - start ≡ at - index_of k 0
     block_is = ap (λ m. at - m) start_is
 
-    has : (kind_at kinds (at - start) ≡ Some k) × HasFree free (at - start)
+    has : (kind_at kinds (at - start) ≡ Some k) × HasSomeOf free.members (at - start)
     has = block_has inv k first block_is
 
-    pub take_room : ROWS * (at - start + 1) ≤ free.room
+    pub take_room : ROWS * (at - start) < free.room
     take_room = omega (arith, kind_within kinds (at - start) (ap is_some has.0), inv.room)
 
-    module _ (o : Option ℕ) where
-      pub take_some : IfNone o (HasNoneBetween free.members (ROWS * (at - start)) (ROWS * (at - start + 1)))
-          → IsSome o
-      take_some none = some_of o _ none (block_not_empty inv k first block_is)
+    pub take_some : {A : Type 0} (o : Option A) → IfNone o (HasNoneOf free.members (at - start)) → IsSome o
+    take_some o none = some_of o _ none (block_not_empty inv k first block_is)
 
-      module _ {slot : ℕ} (is_slot : o ≡ Some slot)
-          (found_slot : IfSome o
-          (IsLeastBetween free.members (ROWS * (at - start)) (ROWS * (at - start + 1))))
-        where
-          least : IsLeastBetween free.members (ROWS * (at - start)) (ROWS * (at - start + 1)) slot
-          least = subst (λ p. IfSome p (IsLeastBetween free.members (ROWS * (at - start))
-              (ROWS * (at - start + 1)))) is_slot found_slot
+    module _ {slot : ℕ} (least : IsLeastOf free.members (at - start) slot) where
+      pub take_kind : kind_at kinds (slot / ROWS) ≡ Some k
+      take_kind = slot_kind inv k first block_is least
 
-          in_block : slot / ROWS ≡ at - start
-          in_block = of_block inv k first block_is least
+      pub take_index : at ≡ index_of k (slot / ROWS)
+      take_index = omega (arith, first.low, least.of_block, start_is)
 
-          its_kind : kind_at kinds (slot / ROWS) ≡ Some k
-          its_kind = slot_kind inv k first block_is least
+      pub take_least : IsLeastFreeFor v k (record { 0 = slot })
+      take_least = subst (λ (u : FreeSlots). IsLeastFreeFor u k (record { 0 = slot })) is
+          (least_free inv k first block_is least)
 
-          pub take_least : IsLeastFreeFor v k (record { 0 = slot })
-          take_least = subst (λ (u : FreeSlots). IsLeastFreeFor u k (record { 0 = slot })) is
-              (least_free inv k first block_is least)
+      module _ {after : NumberSet} (after_is : after ≡ record free { members = remove free.members slot }) where
+        take_more : HasSomeOf after.members (at - start) → IsPool kinds after ready
+        take_more left =
+            along after_is refl (taken inv slot take_kind
+            (subst (HasSomeOf (remove free.members slot)) (sym least.of_block)
+            (subst (λ (s : NumberSet). HasSomeOf s.members (at - start)) after_is left)))
 
-          module _ {after : Held} (after_is : after ≡ record free { members = remove free.members slot })
-              (left : Option ℕ) where
-            pub take_more : IfSome left (IsLeastBetween after.members (ROWS * (at - start))
-                (ROWS * (at - start + 1))) → is_some left ≡ true → IsPool kinds after ready
-            take_more found_left some =
-                along after_is refl (taken inv slot its_kind
-                (subst (HasFree (record free { members = remove free.members slot })) (sym in_block)
-                (subst (λ s. HasFree s (at - start)) after_is
-                (left_free after (at - start) left found_left some))))
+        take_last : HasNoneOf after.members (at - start)
+            → {ready' : NumberSet} → ready' ≡ record ready { members = remove ready.members at }
+            → IsPool kinds after ready'
+        take_last none ready_is =
+            along after_is (ready_is ∙ ap (λ m. record ready { members = remove ready.members m }) take_index)
+            (taken_last inv slot take_kind
+            (subst (HasNoneOf (remove free.members slot)) (sym least.of_block)
+            (subst (λ (s : NumberSet). HasNoneOf s.members (at - start)) after_is none)))
 
-            pub take_last : IfNone left (HasNoneBetween after.members (ROWS * (at - start))
-                (ROWS * (at - start + 1))) → is_some left ≡ false
-                → {ready' : Held} → ready' ≡ record ready { members = remove ready.members at }
-                → IsPool kinds after ready'
-            take_last none no_more ready_is =
-                let none_left : HasNoneBetween (remove free.members slot) (ROWS * (slot / ROWS))
-                (ROWS * (slot / ROWS + 1)) =
-                subst (λ b. HasNoneBetween (remove free.members slot) (ROWS * b) (ROWS * (b + 1)))
-                (sym in_block)
-                (subst (λ (s : Held). HasNoneBetween s.members (ROWS * (at - start))
-                (ROWS * (at - start + 1)))
-                after_is (none_of left _ none no_more)) in
-                let index : at ≡ index_of k (slot / ROWS) = omega (arith, first.low, in_block, start_is) in
-                along after_is (ready_is ∙ ap (λ m. record ready { members = remove ready.members m }) index)
-                (taken_last inv slot its_kind none_left)
+        -- its block is listed no more where that was its last free slot
+        pub take_ready : (ready' : NumberSet) (last : Bool) → (last ≡ true → HasNoneOf after.members (at - start))
+            → (last ≡ false → HasSomeOf after.members (at - start))
+            → (last ≡ true → ready' ≡ record ready { members = remove ready.members at })
+            → (last ≡ false → ready' ≡ ready) → IsPool kinds after ready'
+        take_ready ready' true none some removed kept = take_last (none refl) (removed refl)
+        take_ready ready' false none some removed kept = along refl (kept refl) (take_more (some refl))
 
-pub least_whole : {v : FreeSlots} {k : Kind} {block : ℕ} → IsWholeOf v k block
-    → ((b : ℕ) → b < block → ¬ (IsWholeOf v k b)) → IsLeastWholeOf v k block
-least_whole {v} {k} {block} whole before = record {
-  whole = whole;
-  least = λ other of_kind. elim (cases_lt other block) [
-    | inl less ↦ absurd (before other less of_kind)
-    | inr le ↦ le
-  ];
-}
+      pub seen_taken : {after : NumberSet} → after ≡ record free { members = remove free.members slot }
+          → seen kinds after ≡ record v { free = remove v.free slot }
+      seen_taken after_is =
+          ap (seen kinds) after_is ∙ ap (λ (u : FreeSlots). record u { free = remove u.free slot }) is

@@ -11,7 +11,7 @@ use Rattle.hd_model.specs.declared.data.Kind.{Kind}
 use Rattle.hd_model.specs.declared.data.Slot.{Slot}
 use Rattle.hd_model.specs.State.{block_of}
 use Rattle.hd_model.specs.Code.{kind_code}
-use Rattle.hd_pool.specs.Masks.{numbers_of}
+use Rattle.hd_tiers.specs.Sets.{numbers_of}
 
 -- a pool: the number of blocks that it may have, the kind of each block that was added, and the free slots,
 -- by their numbers

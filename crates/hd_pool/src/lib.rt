@@ -2,7 +2,6 @@
 //! blocks whose slots are all free.
 #![tactic(auto)]
 
-mod masks;
 mod pool;
 
 pub use pool::Pool;

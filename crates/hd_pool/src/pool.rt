@@ -1,4 +1,4 @@
-ghost use Rattle.std.specs.Prelude.{◌≡◌, ◌↔◌, ℕ, ◌<◌, ◌≤◌, true, false, Some, None, IsSome, IsNone, IfOk, IfSome, OnSome, IfNone};
+ghost use Rattle.std.specs.Prelude.{◌≡◌, ◌↔◌, ℕ, ◌*◌, ◌<◌, ◌≤◌, true, false, Some, None, IsSome, IsNone, IfOk, IfSome, OnSome, IfNone};
 ghost use Rattle.std.specs.FinMap.{get};
 ghost use Rattle.std.specs.FinMap as map;
 ghost use Rattle.std.specs.FinSet.{contains};
@@ -7,34 +7,36 @@ ghost use Rattle.hd_model.specs.State.{block_of};
 ghost use Rattle.hd_pool.specs.Inside.{index_of};
 ghost use Rattle.hd_pool.specs.Pool.{slots_of, IsLeastFreeFor, HasNoneFor, IsWhole, IsLeastWholeOf, HasNoWholeOf};
 
-use crate::masks::MaskSet;
 use hd_mask::BITS;
 use hd_model::limits::{BLOCKS, KINDS, ROWS};
 use hd_model::{Kind, Memory, Slot};
+use hd_tiers::{Masks, Numbers, Tier, least_between};
 use std::alloc::Global;
 use std::marker::Model;
 
-// The number of masks that have a bit for each block, 0 to 256.
-const MASKS: u32 = 5;
+// The number of blocks, 0 to 256: each kind has so many numbers in the sets of blocks.
+const STRIDE: u32 = BLOCKS + 1;
 
 /// The free slots of a table, seen as the kind of each added block and the set of free slots. A
 /// block has 64 slots. All memory is taken by `open`.
 ///
-/// `take` and `put` read a few masks, whatever the number of blocks; `whole` walks the blocks.
+/// Each call reads a few masks, whatever the number of blocks.
 #[derive(Drop)]
 pub struct Pool {
     // The kind of each added block, by its number.
     kinds: Vec<Option<Kind>>,
-    free: MaskSet,
+    free: Masks,
     // For each kind, the blocks that have a free slot.
-    ready: MaskSet,
+    ready: Tier<Masks>,
+    // For each kind, the blocks whose slots are all free.
+    wholes: Tier<Masks>,
 }
 
 impl Model for Pool {
     ghost use Rattle.std.specs.Prelude.{◌-◌, length};
     ghost use Rattle.hd_pool.specs.Pool.{FreeSlots, free_slots_code};
     ghost use Rattle.hd_model.specs.Indexed.{by_index};
-    ghost use Rattle.hd_pool.specs.Inside.{IsPool};
+    ghost use Rattle.hd_pool.specs.Inside.{IsPool, IsWholes};
 
     ghost Value = { FreeSlots };
 
@@ -46,7 +48,8 @@ impl Model for Pool {
       free = p.free.members;
     } };
 
-    ghost invariant = { λ p. IsPool p.kinds.items p.free p.ready };
+    ghost invariant = { λ p. IsPool p.kinds.items p.free p.ready
+        × IsWholes p.kinds.items p.free p.wholes };
 }
 
 impl Pool {
@@ -56,10 +59,16 @@ impl Pool {
         ensures { IfOk result (λ p.
             p ≡ record { blocks = blocks; kinds = map.empty; free = set.empty }) }
     {
-        let free = MaskSet::open(alloc, blocks + 1)?;
-        let ready = MaskSet::open(alloc, KINDS * MASKS)?;
+        let free = Masks::open(alloc, blocks + 1)?;
+        let ready = Tier::<Masks>::open(alloc, KINDS * STRIDE / BITS + 1)?;
+        let wholes = Tier::<Masks>::open(alloc, KINDS * STRIDE / BITS + 1)?;
         match vec![in alloc; None; blocks as usize + 1] {
-            Ok(kinds) => Ok(Pool { kinds, free, ready }),
+            Ok(kinds) => Ok(Pool {
+                kinds,
+                free,
+                ready,
+                wholes,
+            }),
             Err(_) => Err(Memory),
         }
     }
@@ -74,8 +83,10 @@ impl Pool {
         } }
     {
         self.kinds[block as usize] = Some(kind);
-        self.free.insert_mask(block);
-        self.ready.insert(index_of(kind, block));
+        self.free.insert_block(block);
+        let index = index_of(kind, block);
+        self.ready.insert(index);
+        self.wholes.insert(index);
     }
 
     /// Takes the lowest free slot of a kind.
@@ -86,15 +97,12 @@ impl Pool {
         ensures none { IsNone result ↔ HasNoneFor self.old kind }
         ensures kept { IfNone result (self.new ≡ self.old) }
     {
-        let first = kind.number() * MASKS;
-        let at = self.ready.least_between(first, first + MASKS)?;
-        let block = at - index_of(kind, 0);
-        let slot = self.free.least_between(block, block + 1).unwrap();
-        self.free.remove(slot);
-        if self.free.least_between(block, block + 1).is_none() {
-            self.ready.remove(at);
-        }
-        Some(Slot(slot))
+        let first = index_of(kind, 0);
+        let at = least_between(&self.ready, first, first + STRIDE)?;
+        let taken = self.free.take_least(at - first).unwrap();
+        remove_where(taken.full, &mut self.wholes, at);
+        remove_where(taken.last, &mut self.ready, at);
+        Some(Slot(taken.number))
     }
 
     /// Makes a slot of an added block free again.
@@ -105,8 +113,10 @@ impl Pool {
     {
         let block = slot.0 / ROWS;
         let kind = self.kinds[block as usize].unwrap();
-        self.free.insert(slot.0);
-        self.ready.insert(index_of(kind, block));
+        let added = self.free.add(slot.0);
+        let index = index_of(kind, block);
+        insert_where(added.first, &mut self.ready, index);
+        insert_where(added.full, &mut self.wholes, index);
     }
 
     /// The lowest block of a kind whose slots are all free.
@@ -115,12 +125,9 @@ impl Pool {
         ensures small { IfSome result (λ block. block ≤ BLOCKS) }
         ensures none { IsNone result ↔ HasNoWholeOf self.now kind }
     {
-        for (block, given) in self.kinds.iter().enumerate() {
-            if *given == Some(kind) && self.free.is_full(block as u32) {
-                return Some(block as u32);
-            }
-        }
-        None
+        let first = index_of(kind, 0);
+        let at = least_between(&self.wholes, first, first + STRIDE)?;
+        Some(at - first)
     }
 
     /// Removes a block whose slots are all free: it is as if it were never added.
@@ -134,15 +141,42 @@ impl Pool {
     {
         let kind = self.kinds[block as usize].unwrap();
         self.kinds[block as usize] = None;
-        self.free.clear(block);
-        self.ready.remove(index_of(kind, block));
+        self.free.remove_block(block);
+        let index = index_of(kind, block);
+        self.ready.remove(index);
+        self.wholes.remove(index);
     }
 }
 
-// The number in `ready` of a block of a kind.
+// The number of a block of a kind in `ready` and `wholes`.
 fn index_of(kind: Kind, block: u32) -> u32
     requires { block ≤ BLOCKS }
-    ensures { result ≡ index_of kind block }
+    ensures value { result ≡ index_of kind block }
+    ensures below { result < KINDS * STRIDE }
 {
-    kind.number() * MASKS * BITS + block
+    kind.number() * STRIDE + block
+}
+
+// Adds a number if it is wanted.
+fn insert_where(wanted: bool, numbers: &mut Tier<Masks>, i: u32)
+    requires { i < numbers.old.room }
+    ensures added { wanted ≡ true → numbers.new ≡
+        record numbers.old { members = set.insert numbers.old.members i } }
+    ensures kept { wanted ≡ false → numbers.new ≡ numbers.old }
+{
+    if wanted {
+        numbers.insert(i);
+    }
+}
+
+// Removes a number if that is wanted.
+fn remove_where(wanted: bool, numbers: &mut Tier<Masks>, i: u32)
+    requires { i < numbers.old.room }
+    ensures removed { wanted ≡ true → numbers.new ≡
+        record numbers.old { members = set.remove numbers.old.members i } }
+    ensures kept { wanted ≡ false → numbers.new ≡ numbers.old }
+{
+    if wanted {
+        numbers.remove(i);
+    }
 }

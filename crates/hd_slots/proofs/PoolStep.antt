@@ -2,7 +2,7 @@
 use Rattle.hd_slots.proofs.Basics.{Adding, Adds, AddsLeast, Back, BlockUse, Bool, Change, Cmd, Dependent, Entry, FreeSlots, Frees, GivesBackLeast, GivesLeast, Grown, GrowsFor, GrowsUnoffered, HasNoneFor, IfSome, IsFreeFor, IsLeastFreeFor, IsLeastUnused, IsLeastWholeOf, IsOffer, IsTied, Keeps, Kind, MayGrow, MayNote, MayOffer, None, NoneAllFree, NoneFree, Numbers, Offers, One, Option, ROWS, Slot, Some, State, Step, StepOf, Takes, TakesFor, TakesLeast, TakesSlot, Two, Zero, adding_of, and_right, ap, arith, asks_of, block_of, blocks_needed, cases_eq, change_in, cond, contains, extra_data, false, first_slot, get, get_beside, get_inserted, get_left, get_removed, given_of, grown_by, handle_slot, handles_of, in_idle, in_new, inl, inr, is_free, is_live, is_refused, is_some, kind_in_use, kind_of, kind_of_block, nat_cmp, needs_new, not, noted, refl, slots_of, step_keeps, subst, sym, true, use_of, without_use, ℕ, ◌&&◌, ◌*◌, ◌+◌, ◌<◌, ◌↔◌, ◌∙◌, ◌≡◌, ◌≢◌, ◌⊎◌}
 use Rattle.std.specs.Option.{ForSome}
 use Rattle.hd_model.proofs.StepWrites.{same_slot}
-use Rattle.hd_pool.proofs.SetMembers.{insert_same, insert_other, remove_same, remove_other, union_same, union_other, difference_same, difference_other}
+use Rattle.hd_tiers.proofs.SetMembers.{insert_same, insert_other, remove_same, remove_other, union_same, union_other, difference_same, difference_other}
 use Rattle.hd_store.specs.Offers.{Takes as TakesOffer}
 use Rattle.hd_slots.specs.{declared.change.Change.TheVariants.GivesBack as Gives, Change.without_block}
 use Rattle.hd_slots.proofs.StepLiveSlots.{zero_is_not_one, asks_for, is_free as is_hfree, is_trim, LeavesThem, LeavesSlots, leaves_slots, IsNowLive, TakesOrIsFull, takes_or_full, GrowsBy, takes_it, grows_by, FreesAt, frees_at}

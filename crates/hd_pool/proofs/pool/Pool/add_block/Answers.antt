@@ -1,17 +1,24 @@
-use Rattle.hd_pool.proofs.Basics.{ap, arith, insert, numbers_of, union, ◌∙◌}
+use Rattle.hd_pool.proofs.Basics.{ap, arith, insert, length, numbers_of, union, ◌<◌, ◌∙◌}
 use Rattle.hd_pool.proofs.PoolCalls.{added, along, blocks_is, kind_is, seen_put}
+use Rattle.hd_pool.proofs.WholeBlocks as wholes
 use Rattle.hd_pool.proofs.pool.Pool.add_block.Goals as goal
 
 pub invariant_of-self : goal.invariant_of-self
 invariant_of-self c =
-    along c.insert_mask.ensures
-    (c.insert.ensures ∙ ap (λ n. record c.self.inside.ready
-    { members = insert c.self.inside.ready.members n }) c.index_of.ensures)
-    (added c.self.invariant c.args.block c.args.kind
-    (omega (arith, blocks_is c.self.invariant c.self.view_is, c.self.invariant.some))
-    (kind_is c.self.invariant c.self.view_is c.args.block ∙ c.requires.new))
+    let within : c.args.block < length c.self.inside.kinds.items =
+    omega (arith, blocks_is c.self.invariant.0 c.self.view_is, c.self.invariant.0.some) in
+    let new = kind_is c.self.invariant.0 c.self.view_is c.args.block ∙ c.requires.new in (
+      along c.insert_block.ensures
+          (c.insert.ensures ∙ ap (λ n. record c.self.inside.ready
+          { members = insert c.self.inside.ready.members n }) c.index_of-index.ensures.value)
+          (added c.self.invariant.0 c.args.block c.args.kind within new),
+      wholes.wholes_along c.insert_block.ensures
+          (c.insert-2.ensures ∙ ap (λ n. record c.self.inside.wholes
+          { members = insert c.self.inside.wholes.members n }) c.index_of-index.ensures.value)
+          (wholes.added c.self.invariant.0 c.self.invariant.1 c.args.block c.args.kind within new),
+    )
 
 pub returns : goal.returns
 returns c =
-    seen_put c.self.invariant c.self.view_is c.args.block c.args.kind (λ s. union s (numbers_of c.args.block))
-    (omega (arith, blocks_is c.self.invariant c.self.view_is, c.self.invariant.some)) c.insert_mask.ensures
+    seen_put c.self.invariant.0 c.self.view_is c.args.block c.args.kind (λ s. union s (numbers_of c.args.block))
+    (omega (arith, blocks_is c.self.invariant.0 c.self.view_is, c.self.invariant.0.some)) c.insert_block.ensures

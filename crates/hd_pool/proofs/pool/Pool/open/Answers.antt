@@ -1,6 +1,6 @@
-use Rattle.hd_pool.proofs.Basics.{Held, None, ROWS, ap, arith, by_index-empty, empty, get_or, get_or-replicate_None, kind_at, length, replicate, rules, sym, ℕ, ◌*◌, ◌+◌, ◌-◌, ◌∙◌, ◌≡◌}
+use Rattle.hd_pool.proofs.Basics.{BITS, NumberSet, KINDS, None, ROWS, STRIDE, ap, arith, by_index-empty, empty, get_or, get_or-replicate_None, kind_at, length, replicate, rules, sym, ℕ, ◌*◌, ◌+◌, ◌-◌, ◌/◌, ◌∙◌, ◌≡◌, ◌≤◌}
 use Rattle.hd_pool.proofs.PoolCalls.{opened_empty}
-use Rattle.hd_pool.proofs.pool.Pool.open.Goals.{After-vec}
+use Rattle.hd_pool.proofs.WholeBlocks.{opened_wholes}
 use Rattle.hd_pool.proofs.pool.Pool.open.Goals as goal
 
 all : (c : goal.In-Ok) → c.in-Ok.kinds.items ≡ replicate (c.args.blocks + 1) None
@@ -12,14 +12,24 @@ none c b = ap (λ xs. get_or xs b None) (all c) ∙ get_or-replicate_None (c.arg
 long : (c : goal.In-Ok) → length c.in-Ok.kinds.items ≡ c.args.blocks + 1
 long c = omega (arith, c.in-Ok.ensures.len, c.in-Ok.kinds.ok.0)
 
-room : (c : goal.In-Ok) → ◌≡◌ {A = Held} (record { room = ROWS * (c.args.blocks + 1); members = empty })
+room : (c : goal.In-Ok) → ◌≡◌ {A = NumberSet} (record { room = ROWS * (c.args.blocks + 1); members = empty })
     (record { room = ROWS * length c.in-Ok.kinds.items; members = empty })
 room c = ap (λ n. record { room = ROWS * n; members = empty }) (sym (long c))
 
+wide : (s : NumberSet) → s ≡ record { room = BITS * (KINDS * STRIDE / BITS + 1); members = empty }
+    → KINDS * STRIDE ≤ s.room
+wide s e = omega (arith, ap (λ (t : NumberSet). t.room) e)
+
 pub invariant_of-result : goal.invariant_of-result
-invariant_of-result c =
-    opened_empty c.in-Ok.kinds.items c.in_ok-free.free c.in_ok-ready.ready (none c) (omega (arith, long c))
-    (omega (arith, long c, c.requires)) (c.in_ok-free.ensures ∙ room c) c.in_ok-ready.ensures
+invariant_of-result c = (
+  opened_empty c.in-Ok.kinds.items c.in_ok-free.free c.in_ok-ready.ready (none c) (omega (arith, long c))
+      (omega (arith, long c, c.requires)) (c.in_ok-free.ensures ∙ room c)
+      (wide c.in_ok-ready.ready c.in_ok-ready.ensures)
+      (ap (λ (s : NumberSet). s.members) c.in_ok-ready.ensures),
+  opened_wholes c.in-Ok.kinds.items c.in_ok-free.free c.in_ok-wholes.wholes (none c)
+      (wide c.in_ok-wholes.wholes c.in_ok-wholes.ensures)
+      (ap (λ (s : NumberSet). s.members) c.in_ok-wholes.ensures),
+)
 
 pub returns-in-Ok : goal.returns-in-Ok
 returns-in-Ok c =
@@ -27,5 +37,5 @@ returns-in-Ok c =
     λ i. record {
       blocks = blocks i;
       kinds = by_index-empty c.in-Ok.kinds.items (none c) i;
-      free = ap (λ (s : Held). s.members) c.in_ok-free.ensures i;
+      free = ap (λ (s : NumberSet). s.members) c.in_ok-free.ensures i;
     }

@@ -1,37 +1,52 @@
-use Rattle.hd_pool.proofs.Basics.{ROWS, Some, ap, arith, insert, kind_at, sym, ◌/◌, ◌∙◌, ◌≡◌}
-use Rattle.hd_pool.proofs.PoolCalls.{along, in_list, low, has_room, has_index, read_kind, read_some}
+use Rattle.hd_pool.proofs.Basics.{HasAllOf, HasSomeOf, IsTrue, NumberSet, ROWS, Some, ap, arith, false, insert, kind_at, refl, subst, sym, ◌/◌, ◌∙◌, ◌≡◌, ◌↔◌}
+use Rattle.hd_pool.proofs.PoolCalls.{along, in_list, low, has_room, read_kind, read_some}
 use Rattle.hd_pool.proofs.PoolCalls as pools
+use Rattle.hd_pool.proofs.WholeBlocks as wholes
 use Rattle.hd_pool.proofs.pool.Pool.put.Goals as goal
 
 pub index-requires : goal.index-requires
 index-requires c =
-    let known = in_list c.self.invariant c.self.view_is (c.args.slot.0 / ROWS) c.requires.added in
+    let known = in_list c.self.invariant.0 c.self.view_is (c.args.slot.0 / ROWS) c.requires.added in
     omega (arith, c.self.inside.kinds.ok.0, known)
 
 pub unwrap-kind-requires : goal.unwrap-kind-requires
 unwrap-kind-requires c =
-    read_some c.self.invariant c.self.view_is (c.args.slot.0 / ROWS) c.requires.added c.index.ensures
+    read_some c.self.invariant.0 c.self.view_is (c.args.slot.0 / ROWS) c.requires.added c.index.ensures
 
-pub insert-requires : goal.insert-requires
-insert-requires c =
-    omega (arith, has_room c.self.invariant c.self.view_is (c.args.slot.0 / ROWS) c.requires.added)
+pub add-added-requires : goal.add-added-requires
+add-added-requires c =
+    omega (arith, has_room c.self.invariant.0 c.self.view_is (c.args.slot.0 / ROWS) c.requires.added)
 
-pub index_of-requires : goal.index_of-requires
-index_of-requires c = low c.self.invariant c.self.view_is (c.args.slot.0 / ROWS) c.requires.added
+pub index_of-index-requires : goal.index_of-index-requires
+index_of-index-requires c =
+    low c.self.invariant.0 c.self.view_is (c.args.slot.0 / ROWS) c.requires.added
 
-pub insert-requires-2 : goal.insert-requires-2
-insert-requires-2 c =
-    has_index c.self.invariant c.self.view_is (c.args.slot.0 / ROWS) c.requires.added
-    c.unwrap-kind.result c.index_of.ensures
+pub insert_where-requires : goal.insert_where-requires
+insert_where-requires c = omega (arith, c.self.invariant.0.ready_room, c.index_of-index.ensures.below)
+
+pub insert_where-requires-2 : goal.insert_where-requires-2
+insert_where-requires-2 c = omega (arith, c.self.invariant.1.room, c.index_of-index.ensures.below)
 
 pub invariant_of-self : goal.invariant_of-self
 invariant_of-self c =
     let kinds = c.self.inside.kinds.items in
-    let of_kind : kind_at kinds (c.args.slot.0 / ROWS) ≡ Some c.unwrap-kind.result =
-    sym (read_kind c.self.invariant c.self.view_is (c.args.slot.0 / ROWS) c.requires.added c.index.ensures)
+    let slot = c.args.slot.0 in
+    let old = c.self.inside.free in
+    let after = c.add-added.new.self in
+    let added = c.add-added.result in
+    let its_kind : kind_at kinds (slot / ROWS) ≡ Some c.unwrap-kind.result =
+    sym (read_kind c.self.invariant.0 c.self.view_is (slot / ROWS) c.requires.added c.index.ensures)
     ∙ c.unwrap-kind.ensures in
-    along (c.insert.ensures ∙ ap
-    (λ n. record c.self.inside.free { members = insert c.self.inside.free.members n }) (omega arith))
-    (c.insert-2.ensures ∙ ap
-    (λ n. record c.self.inside.ready { members = insert c.self.inside.ready.members n }) c.index_of.ensures)
-    (pools.put c.self.invariant c.args.slot.0 of_kind)
+    let free_is : after ≡ record old { members = insert old.members slot } =
+    c.add-added.ensures.value ∙ ap (λ n. record old { members = insert old.members n }) (omega arith) in
+    let more : added.first ≡ false → HasSomeOf old.members (slot / ROWS) =
+    λ e. subst (HasSomeOf old.members) (omega arith) (c.add-added.ensures.more e) in
+    let full : IsTrue added.full ↔ HasAllOf after.members (slot / ROWS) =
+    subst (λ b. IsTrue added.full ↔ HasAllOf after.members b) (omega arith) c.add-added.ensures.full in (
+      along free_is refl (pools.put_where c.self.invariant.0 slot its_kind _ _ c.index_of-index.ensures.value
+          added.first more c.insert_where.ensures.added c.insert_where.ensures.kept),
+      wholes.wholes_along free_is refl (wholes.put_where c.self.invariant.0 c.self.invariant.1 slot its_kind _ _
+          c.index_of-index.ensures.value added.full
+          (subst (λ (s : NumberSet). IsTrue added.full ↔ HasAllOf s.members (slot / ROWS)) free_is full)
+          c.insert_where-2.ensures.added c.insert_where-2.ensures.kept),
+    )

@@ -1,58 +1,77 @@
-use Rattle.hd_pool.proofs.Basics.{ap, arith, is_some, remove, true≢false, ◌∙◌}
-use Rattle.hd_pool.proofs.PoolCalls.{take_none, take_room, take_some, take_least, take_more, take_last}
+use Rattle.hd_pool.proofs.Basics.{HasAllOf, IsTrue, ap, arith, is_some, refl, subst, sym, true≢false, ◌↔◌}
+use Rattle.hd_model.proofs.KindTests.{few_kinds}
+use Rattle.hd_pool.proofs.PoolCalls.{in_some, seen_taken, take_index, take_kind, take_least, take_none, take_ready, take_room, take_some}
+use Rattle.hd_pool.proofs.WholeBlocks.{taken_where, wholes_along}
 use Rattle.hd_pool.proofs.pool.Pool.take.Goals as goal
 
 pub returns-in_err-at-clause-none : goal.returns-in_err-at-clause-none
 returns-in_err-at-clause-none c = (
-  λ _. take_none c.self.invariant c.self.view_is c.args.kind c.number-first.ensures.value
+  λ _. take_none c.self.invariant.0 c.self.view_is c.args.kind c.index_of-first.ensures.value
       c.in_err-at.ensures.none,
   λ _. ap is_some c.from_residual.ensures,
 )
 
-pub least_between-requires-2 : goal.least_between-requires-2
-least_between-requires-2 c =
-    take_room c.self.invariant c.self.view_is c.args.kind c.number-first.ensures.value
-    c.in_ok-at.ensures.found c.index_of.ensures
+pub take_least-requires : goal.take_least-requires
+take_least-requires c =
+    take_room c.self.invariant.0 c.self.view_is c.args.kind c.index_of-first.ensures.value c.in_ok-at.ensures.found
 
-pub unwrap-slot-requires : goal.unwrap-slot-requires
-unwrap-slot-requires c =
-    take_some c.self.invariant c.self.view_is c.args.kind c.number-first.ensures.value
-    c.in_ok-at.ensures.found c.index_of.ensures c.least_between-2.result c.least_between-2.ensures.none
+pub unwrap-taken-requires : goal.unwrap-taken-requires
+unwrap-taken-requires c =
+    take_some c.self.invariant.0 c.self.view_is c.args.kind c.index_of-first.ensures.value c.in_ok-at.ensures.found
+    c.take_least.result c.take_least.ensures.none
+
+pub remove_where-requires : goal.remove_where-requires
+remove_where-requires c =
+    omega (
+      arith,
+      c.in_ok-at.ensures.found.high,
+      few_kinds c.args.kind,
+      c.self.invariant.1.room,
+      c.index_of-first.ensures.value,
+    )
+
+pub remove_where-requires-2 : goal.remove_where-requires-2
+remove_where-requires-2 c =
+    omega (
+      arith,
+      c.in_ok-at.ensures.found.high,
+      few_kinds c.args.kind,
+      c.self.invariant.0.ready_room,
+      c.index_of-first.ensures.value,
+    )
 
 pub invariant_of-self : goal.invariant_of-self
 invariant_of-self c =
-    take_last c.self.invariant c.self.view_is c.args.kind c.number-first.ensures.value
-    c.in_ok-at.ensures.found c.index_of.ensures
-    c.least_between-2.result c.unwrap-slot.ensures c.least_between-2.ensures.found
-    (c.remove.ensures ∙ ap
-    (λ n. record c.self.inside.free { members = remove c.self.inside.free.members n }) (omega arith))
-    c.least_between-3.result c.least_between-3.ensures.none c.if-is_none.ensures c.remove-then-is_none.ensures
+    let free = c.self.inside.free in
+    let taken = c.unwrap-taken.result in
+    let start_is = c.index_of-first.ensures.value in
+    let found = c.in_ok-at.ensures.found in
+    let least = in_some _ c.unwrap-taken.ensures c.take_least.ensures.least in
+    let after = in_some _ c.unwrap-taken.ensures c.take_least.ensures.taken in (
+      take_ready c.self.invariant.0 c.self.view_is c.args.kind start_is found least after _ taken.last
+          (in_some _ c.unwrap-taken.ensures c.take_least.ensures.last)
+          (in_some _ c.unwrap-taken.ensures c.take_least.ensures.left)
+          c.remove_where-2.ensures.removed c.remove_where-2.ensures.kept,
+      wholes_along after refl (taken_where c.self.invariant.0 c.self.invariant.1 taken.number
+          (take_kind c.self.invariant.0 c.self.view_is c.args.kind start_is found least) _ _
+          (take_index c.self.invariant.0 c.self.view_is c.args.kind start_is found least) taken.full
+          (subst (λ b. IsTrue taken.full ↔ HasAllOf free.members b) (sym least.of_block)
+          (in_some _ c.unwrap-taken.ensures c.take_least.ensures.full))
+          c.remove_where.ensures.removed c.remove_where.ensures.kept),
+    )
 
-pub invariant_of-self-else-is_none : goal.invariant_of-self-else-is_none
-invariant_of-self-else-is_none c =
-    take_more c.self.invariant c.self.view_is c.args.kind c.number-first.ensures.value
-    c.in_ok-at.ensures.found c.index_of.ensures
-    c.least_between-2.result c.unwrap-slot.ensures c.least_between-2.ensures.found
-    (c.remove.ensures ∙ ap
-    (λ n. record c.self.inside.free { members = remove c.self.inside.free.members n }) (omega arith))
-    c.least_between-3.result c.least_between-3.ensures.found c.if-is_none.ensures
+pub returns-clause-least : goal.returns-clause-least
+returns-clause-least c =
+    take_least c.self.invariant.0 c.self.view_is c.args.kind c.index_of-first.ensures.value
+    c.in_ok-at.ensures.found (in_some _ c.unwrap-taken.ensures c.take_least.ensures.least)
 
-pub returns-then-is_none-clause-least : goal.returns-then-is_none-clause-least
-returns-then-is_none-clause-least c =
-    take_least c.self.invariant c.self.view_is c.args.kind c.number-first.ensures.value
-    c.in_ok-at.ensures.found c.index_of.ensures
-    c.least_between-2.result c.unwrap-slot.ensures c.least_between-2.ensures.found
+pub returns-clause-taken : goal.returns-clause-taken
+returns-clause-taken c =
+    seen_taken c.self.invariant.0 c.self.view_is c.args.kind c.index_of-first.ensures.value
+    c.in_ok-at.ensures.found (in_some _ c.unwrap-taken.ensures c.take_least.ensures.least)
+    (in_some _ c.unwrap-taken.ensures c.take_least.ensures.taken)
 
-pub returns-else-is_none-clause-least : goal.returns-else-is_none-clause-least
-returns-else-is_none-clause-least c =
-    take_least c.self.invariant c.self.view_is c.args.kind c.number-first.ensures.value
-    c.in_ok-at.ensures.found c.index_of.ensures
-    c.least_between-2.result c.unwrap-slot.ensures c.least_between-2.ensures.found
-
-pub returns-then-is_none-clause-none : goal.returns-then-is_none-clause-none
-returns-then-is_none-clause-none c = let l = returns-then-is_none-clause-least c in
-    (λ e. absurd (true≢false e), λ none. absurd (none (record { 0 = c.unwrap-slot.result }) l.free))
-
-pub returns-else-is_none-clause-none : goal.returns-else-is_none-clause-none
-returns-else-is_none-clause-none c = let l = returns-else-is_none-clause-least c in
-    (λ e. absurd (true≢false e), λ none. absurd (none (record { 0 = c.unwrap-slot.result }) l.free))
+pub returns-clause-none : goal.returns-clause-none
+returns-clause-none c =
+    let least = returns-clause-least c in
+    (λ e. absurd (true≢false e), λ none. absurd (none (record { 0 = c.unwrap-taken.result.number }) least.free))

@@ -1,37 +1,26 @@
-use Rattle.hd_pool.proofs.Basics.{Some, arith, below_more, both_ways, kind_at, refl, rules, true≢false, ◌≡◌}
-use Rattle.hd_pool.proofs.PoolCalls.{is_whole, whole_kind, whole_all, whole_within, least_whole}
-use Rattle.hd_pool.proofs.pool.Pool.whole.Goals.{else-eq-via-then-eq+else-is_full, else-eq-via-else-eq}
+use Rattle.hd_pool.proofs.Basics.{ap, is_some, true≢false, ◌-◌}
+use Rattle.hd_pool.proofs.WholeBlocks.{found_least, found_small, no_whole}
 use Rattle.hd_pool.proofs.pool.Pool.whole.Goals as goal
 
-pub returns-then-is_full-clause-least : goal.returns-then-is_full-clause-least
-returns-then-is_full-clause-least c =
-    let kinds = c.self.inside.kinds.items in
-    let of_kind : kind_at kinds c.loop-block.block ≡ Some c.args.kind = search rules in
-    least_whole (is_whole c.self.invariant c.self.view_is c.args.kind c.loop-block.block of_kind
-    (c.is_full.ensures.0 c.if-is_full.true)) c.loop-block.invariant
+pub returns-in_err-at-clause-none : goal.returns-in_err-at-clause-none
+returns-in_err-at-clause-none c = (
+  λ _. no_whole c.self.invariant.0 c.self.invariant.1 c.self.view_is c.args.kind c.index_of-first.ensures.value
+      c.in_err-at.ensures.none,
+  λ _. ap is_some c.from_residual.ensures,
+)
 
-pub returns-then-is_full-clause-none : goal.returns-then-is_full-clause-none
-returns-then-is_full-clause-none c = let l = returns-then-is_full-clause-least c in
-    (λ e. absurd (true≢false e), λ none. absurd (none c.loop-block.block l.whole))
+pub returns-clause-least : goal.returns-clause-least
+returns-clause-least c =
+    found_least c.self.invariant.0 c.self.invariant.1 c.self.view_is c.args.kind c.index_of-first.ensures.value
+    c.in_ok-at.ensures.found
 
-pub loop-block-preserved : goal.loop-block-preserved
-loop-block-preserved c =
-    below_more _ _ c.loop-block.invariant (λ whole. elim c.else-eq.branch [
-      | else-eq-via-then-eq+else-is_full w ↦ both_ways w.is_full.result w.if-is_full.false
-          (w.is_full.ensures.1 (whole_all c.self.invariant c.self.view_is c.args.kind c.loop-block.block
-          whole))
-      | else-eq-via-else-eq w ↦
-          let is : kind_at c.self.inside.kinds.items c.loop-block.block ≡ Some c.args.kind = whole_kind
-          c.self.invariant c.self.view_is c.args.kind c.loop-block.block whole in
-          let isnt : kind_at c.self.inside.kinds.items c.loop-block.block ≡ Some c.args.kind → ⊥ = search
-          rules in isnt is
-    ])
+pub returns-clause-small : goal.returns-clause-small
+returns-clause-small c =
+    found_small c.self.invariant.0 c.self.invariant.1 c.self.view_is c.args.kind c.index_of-first.ensures.value
+    c.in_ok-at.ensures.found
 
 pub returns-clause-none : goal.returns-clause-none
 returns-clause-none c = (
-  λ _ block whole. c.loop-block.invariant block
-      (let known = c.deref-given-items.ensures.len in
-      let also = whole_within c.self.invariant c.self.view_is c.args.kind block whole in
-      omega (arith, c.loop-block-test.false, known, c.self.inside.kinds.ok.0, also)) whole,
-  λ _. refl,
+  λ e. absurd (true≢false e),
+  λ none. absurd (none (c.in_ok-at.at - c.index_of-first.result) (returns-clause-least c).whole),
 )
