@@ -115,3 +115,6 @@ pub(crate) fn put(held: &mut Held, host: Box<Host>)
 {
     replace(held, Held::seal(Loose::of(host))).end();
 }
+
+// What it owns is a host in a box, and no thread has a part of either: it may go to another thread.
+unsafe impl Send for Held {}
