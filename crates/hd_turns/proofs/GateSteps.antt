@@ -1,0 +1,106 @@
+-- What an end knows and carries after each step at the gate.
+use Rattle.std.proofs.Common.{◌≡◌, ◌≢◌, ℕ, ◌+◌, ◌≤◌, ◌<◌, true, false, List, [], ◌∷◌, length, sym, refl, ap, ◌∙◌, subst, arith, Option, Some, None}
+use mathlib.Core.Option.{none}
+use Rattle.atomic_table.specs.Table.{State, Allows, step, rest}
+use Rattle.hd_turns.specs.declared.rule.View.{View}
+use Rattle.hd_turns.specs.Views.{Enters, Known, MayLeave, gave_back, handed_out, looked, took}
+use Rattle.hd_turns.specs.Rule.{Entered, Kept, carried_by, entered, left}
+use Rattle.hd_turns.proofs.TableSteps.{Mine, leaves}
+
+module _ {W : Type 0} where
+  abbrev front : List (ℕ × Option W) → Option W
+  front [] = None
+  front (p ∷ l) = p.1
+
+  -- what was carried, once the value is in the end's hands
+  pub taken_out : {turn : ℕ → W → W → Type 0} {number : ℕ} {m m' : Mine W} → m.1 ≡ [] → Entered turn number m m'
+      → (old : Option W) × (m'.1 ≡ (0, old) ∷ rest m'.1)
+  taken_out bare e =
+      let listed = e.taken ∙ ap (λ (l : List (ℕ × Option W)). (0, Some e.value) ∷ l) bare in
+      (Some e.value, listed ∙ ap (λ (l : List (ℕ × Option W)). (0, Some e.value) ∷ rest l) (sym listed))
+
+  -- it is the value of the last turn
+  pub value_is : {turn : ℕ → W → W → Type 0} {number : ℕ} {m m' : Mine W} {r : Option W}
+      → (e : Entered turn number m m') → m'.1 ≡ (0, r) ∷ rest m'.1 → r ≡ Some e.value
+  value_is e here = ap front (sym here ∙ e.taken)
+
+  -- and none is carried after it
+  pub carries_none : {turn : ℕ → W → W → Type 0} {number : ℕ} {m m' m'' : Mine W} → m.1 ≡ []
+      → Entered turn number m m' → m'' ≡ (m'.0, (0, None) ∷ rest m'.1) → m''.1 ≡ (0, None) ∷ []
+  carries_none bare e after =
+      ap (λ (x : Mine W). x.1) after
+      ∙ ap (λ (l : List (ℕ × Option W)). (0, None) ∷ rest l) (e.taken ∙ ap (λ (l : List (ℕ × Option W)). (0, Some e.value) ∷ l) bare)
+
+  -- looks before the one that won
+  pub enters_after : {turn : ℕ → W → W → Type 0} {most all number : ℕ} {value : W} (times : ℕ) (old : View W) {new : View W}
+      → times + most ≤ all → Enters turn most number value (looked times old) new → Enters turn all number value old new
+  enters_after {value = value} times old fits e = record {
+    by = e.by;
+    past = e.past;
+    goes_on = e.goes_on;
+    turns = e.turns;
+    number_is = e.number_is;
+    times = times + e.times;
+    few = (let f = e.few in omega arith);
+    new_is =
+        let sum : old.looks + times + e.times ≡ old.looks + (times + e.times) = omega arith in
+        e.new_is ∙ ap (λ (k : ℕ). took ((e.by, value) ∷ e.past) (record old { looks = k })) sum;
+  }
+
+  abbrev value_in : W → Option W → W
+  value_in d None = d
+  value_in d (Some value) = value
+
+  -- what an end knows after a look, a try that won and the exchange
+  pub has_turn : {turn : ℕ → W → W → Type 0} {number : ℕ} (m : Mine W) {m1 m2 m3 : Mine W} {r : Option W} {value : W}
+      → m.1 ≡ [] → m1 ≡ (looked 1 m.0, m.1) → Entered turn number m1 m2 → m2.1 ≡ (0, r) ∷ rest m2.1
+      → m3 ≡ (m2.0, (0, None) ∷ rest m2.1) → r ≡ Some value → Enters turn 1 number value m.0 m3.0
+  has_turn {turn} {number} m {m1} {m2} {m3} {r} {value} bare looked_is e here after some =
+      let same : e.value ≡ value =
+      ap (value_in e.value) (sym (value_is e here) ∙ some) in
+      let end : m2.0 ≡ m3.0 = ap (λ (x : Mine W). x.0) (sym after) in
+      enters_after 1 m.0 (omega arith)
+      (subst (λ (z : W × (View W × View W)). Enters turn 0 number z.0 z.1.0 z.1.1)
+      (λ i. (same i, ((looked_is i).0, end i))) e.enters)
+
+  -- what it carries then
+  pub has_seat : {turn : ℕ → W → W → Type 0} {number : ℕ} (m : Mine W) {m1 m2 m3 : Mine W} → m.1 ≡ []
+      → m1 ≡ (looked 1 m.0, m.1) → Entered turn number m1 m2 → m3 ≡ (m2.0, (0, None) ∷ rest m2.1)
+      → m3.1 ≡ carried_by m3.0.has_gate
+  has_seat m bare looked_is e after =
+      carries_none (ap (λ (x : Mine W). x.1) looked_is ∙ bare) e after
+      ∙ sym (ap (λ (v : View W). carried_by v.has_gate) (ap (λ (x : Mine W). x.0) after ∙ e.enters.new_is))
+
+  -- the same of an end as it is handed out
+  pub handed : {turn : ℕ → W → W → Type 0} {most number : ℕ} {value : W} (old new : View W)
+      → Enters turn most number value old new → Enters turn most number value (handed_out old) (handed_out new)
+  handed old new e = record {
+    by = e.by;
+    past = e.past;
+    goes_on = e.goes_on;
+    turns = e.turns;
+    number_is = e.number_is;
+    times = e.times;
+    few = e.few;
+    new_is = ap handed_out e.new_is;
+  }
+
+  -- what carries the value, and nothing after it
+  pub is_full : (m m' : Mine W) (w : W) → m.1 ≡ carried_by m.0.has_gate → m.0.has_gate ≡ true
+      → m' ≡ (m.0, (0, Some w) ∷ rest m.1) → m' ≡ (m.0, (0, Some w) ∷ [])
+  is_full m m' w seated gate after =
+      after ∙ ap (λ (l : List (ℕ × Option W)). (m.0, (0, Some w) ∷ rest l)) (seated ∙ ap carried_by gate)
+
+  pub has_left : (m m' m'' : Mine W) (w : W) (number : ℕ) → m' ≡ (m.0, (0, Some w) ∷ [])
+      → left (step 0 0 number 0 none) m' number m'' → m'' ≡ (gave_back w m.0, [])
+  has_left m m' m'' w number full did =
+      did w (ap (λ (z : Mine W). z.1) full) ∙ ap (λ (z : Mine W). (gave_back w z.0, [])) full
+
+module _ {W : Type 0} (turn : ℕ → W → W → Type 0) where
+  pub leaves_from : (slots id number stored : ℕ) (m m' : Mine W) (w : W) → stored ≡ number + 1
+      → m.0.has_gate ≡ true → length m.0.seen ≡ number → MayLeave turn w m.0 → m' ≡ (m.0, (0, Some w) ∷ [])
+      → Allows (Kept turn) slots id m' 0 (λ _. stored) (λ _. left (step slots 0 stored 0 none) m' stored)
+  leaves_from slots id number stored m m' w is gate long may full =
+      subst (λ (z : ℕ × Mine W). Allows (Kept turn) slots id z.1 0 (λ _. z.0)
+      (λ _. left (step slots 0 z.0 0 none) z.1 z.0)) (λ i. (sym is i, sym full i))
+      (leaves turn slots id number m.0 w gate long may)

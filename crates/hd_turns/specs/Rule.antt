@@ -1,0 +1,66 @@
+-- The rule of the table, and what each step says.
+use Rattle.std.specs.Prelude.{◌≡◌, ◌≢◌, ◌⊎◌, ℕ, ◌+◌, ◌<◌, Bool, true, false, List, [], ◌∷◌, length, slice_index, Option, None, Some}
+use mathlib.Core.Option.{some, none}
+use lib.ListN.{get_elem?}
+use Rattle.atomic_table.specs.Table.{State, Me, Step}
+use Rattle.hd_turns.specs.declared.rule.View.{View}
+use Rattle.hd_turns.specs.Views.{AreTurns, Enters, GoesOn, gave_back, looked}
+
+module _ {W : Type 0} where
+  -- the slots that an end has taken, between two calls
+  abbrev pub carried_by : Bool → List (ℕ × Option W)
+  carried_by true = (0, None) ∷ []
+  carried_by false = []
+
+  abbrev pub IsSeated : Me (Option W) (View W) → Type 0
+  IsSeated m = m.1 ≡ carried_by m.0.has_gate
+
+  -- each turn is that of an end which there is
+  abbrev pub AreBelow : ℕ → List (ℕ × W) → Type 0
+  AreBelow ends [] = Unit {0}
+  AreBelow ends (entry ∷ past) = (entry.0 < ends) × AreBelow ends past
+
+  -- what is so of the end with a number among so many, where the gate is this, the history that, and the end
+  -- that has the gate the holder
+  pub record IsView (gate holder : ℕ) (log : List (ℕ × W)) (ends number : ℕ) (v : View W) : Type 0 where
+    pub number_is : v.number ≡ number
+    pub last : v.is_last ≡ true → number + 1 ≡ ends
+    pub holding : v.has_gate ≡ true → (gate ≡ 0) × (holder ≡ number) × (v.seen ≡ log)
+    pub seeing : GoesOn v.number log v.seen
+
+  -- There is one history of turns. Where the gate is free it is the history's length, and the value that the
+  -- last turn left is stored under it; else it is 0, and the value is out with the one end that has it and has
+  -- seen all. The ends are numbered, each has seen a part of the history from its beginning, and what it has
+  -- not seen are turns of others.
+  pub record Kept (turn : ℕ → W → W → Type 0) (s : State (Option W) (View W)) : Type 0 where
+    pub by : ℕ
+    pub value : W
+    pub past : List (ℕ × W)
+    pub holder : ℕ
+    pub ends : ℕ
+    pub one_word : length s.words ≡ 1
+    pub all_ends : length s.views ≡ ends
+    pub gate : ((slice_index s.words 0 ≡ length past + 1) × (s.homes ≡ some (Some value) ∷ []))
+        ⊎ ((slice_index s.words 0 ≡ 0) × (s.homes ≡ none ∷ []))
+    pub turns : AreTurns turn by value past
+    pub below : AreBelow ends ((by, value) ∷ past)
+    pub each : (i : ℕ) (v : View W) → get_elem? s.views i ≡ some v
+        → IsView (slice_index s.words 0) holder ((by, value) ∷ past) ends i v
+
+  -- a look at the gate changes nothing else
+  abbrev pub looked_at : Step (Option W) → Me (Option W) (View W) → ℕ → Me (Option W) (View W) → Type 0
+  looked_at step m n m' = m' ≡ (looked 1 m.0, m.1)
+
+  -- The gate was what the end had found at its look, before which it had looked once less, and the end has the
+  -- value; or nothing changed.
+  pub record Entered (turn : ℕ → W → W → Type 0) (number : ℕ) (m m' : Me (Option W) (View W)) : Type 0 where
+    pub value : W
+    pub enters : Enters turn 0 number value m.0 m'.0
+    pub taken : m'.1 ≡ (0, Some value) ∷ m.1
+
+  abbrev pub entered : (ℕ → W → W → Type 0) → Step (Option W) → Me (Option W) (View W) → ℕ
+      → Me (Option W) (View W) → Type 0
+  entered turn step m n m' = (n ≡ step.first → Entered turn n m m') × (n ≢ step.first → m' ≡ m)
+
+  abbrev pub left : Step (Option W) → Me (Option W) (View W) → ℕ → Me (Option W) (View W) → Type 0
+  left step m n m' = (value : W) → m.1 ≡ (0, Some value) ∷ [] → m' ≡ (gave_back value m.0, [])

@@ -1,0 +1,177 @@
+// The gate: one word of the table, and one slot with the value.
+ghost use Rattle.std.specs.Prelude.{◌≡◌, ◌<◌, ◌+◌, true, false, [], ◌∷◌, length, IfOk, IfSome, IfNone, Some};
+ghost use Rattle.std.specs.Bool.{OnTrue, OnFalse};
+ghost use Rattle.hd_turns.specs.Rule.{Entered};
+ghost use Rattle.hd_turns.specs.declared.gate.TheConstants.{FULL, LOOKS};
+ghost use Rattle.hd_turns.specs.Views.{Enters, MayLeave, gave_back, looked, next_of, passed_on, starting};
+
+use crate::pauses::pause_after;
+use crate::rule::{Cut, Enter, Law, Leave, Look, Turn, View};
+use atomic_table::{Seat as Place, Table};
+use std::alloc::{AllocError, Global};
+use std::marker::Model;
+use std::snapshot::Snapshot;
+
+/// How often a call looks at the gate before it says that another end has its turn.
+pub const LOOKS: u32 = 16;
+
+// The word of the gate, and the slot of the value.
+const GATE: usize = 0;
+
+const VALUE: usize = 0;
+
+// The gate while an end has its turn.
+const TAKEN: u64 = 0;
+
+/// The gate after so many turns that none may follow.
+pub(crate) const FULL: u64 = u64::MAX;
+
+/// The gate, and the value under it. Seen as the table.
+#[derive(Drop)]
+pub(crate) struct Gate<W: Turn> {
+    table: Table<Option<W>, View<W>, Snapshot<W>, Law, Global>,
+}
+
+impl<W: Turn> Model for Gate<W> {
+    ghost use Rattle.std.specs.Prelude.{◌≡◌};
+    ghost use Rattle.atomic_table.specs.Seated.{TableId, table_id_coded};
+
+    ghost Value = { TableId };
+
+    ghost coded = { table_id_coded };
+
+    ghost view = { λ g. g.table.shared.table_id };
+
+    ghost invariant = { λ g. (g.table.shared.table_id.words ≡ 1) × (g.table.shared.table_id.slots ≡ 1) };
+}
+
+/// An end's token. It has no bytes. Seen as its table and what the end knows.
+#[derive(Drop)]
+pub(crate) struct Seat<W: Turn> {
+    place: Place<Option<W>, View<W>>,
+}
+
+impl<W: Turn> Model for Seat<W> {
+    ghost use Rattle.hd_turns.specs.{Views.Known, Rule.IsSeated};
+
+    ghost Value = { Known W };
+
+    ghost view = { λ s. record { table = s.place.table_id; view = s.place.me.0 } };
+
+    ghost invariant = { λ s. IsSeated s.place.me };
+}
+
+fn single<W: Turn>(alloc: Global, value: W) -> Result<Vec<Option<W>>, AllocError>
+    ensures { IfOk result (λ v. v.items ≡ Some value ∷ []) }
+{
+    let mut slots = Vec::with_capacity(alloc, 1)?;
+    slots.push_reserved(Some(value));
+    Ok(slots)
+}
+
+// Whether a gate is free, and a turn may follow.
+fn is_free(gate: u64) -> bool
+    ensures { OnTrue result ((0 < gate) × (gate < FULL)) }
+{
+    TAKEN < gate && gate < FULL
+}
+
+impl<W: Turn> Gate<W> {
+    /// A free gate over a value, and the first seat, from which the next is made.
+    pub(crate) fn open(alloc: Global, value: W) -> Result<(Gate<W>, Seat<W>), AllocError>
+        ensures { IfOk result (λ r. r.1 ≡ record { table = r.0; view = starting value 0 true }) }
+    {
+        let about = Snapshot::of(&value);
+        let slots = single(alloc, value)?;
+        let Ok((table, place)) = Table::new(alloc, &[1], slots, &about) else {
+            return Err(AllocError);
+        };
+        Ok((Gate { table }, Seat { place }))
+    }
+
+    /// A seat with the next number.
+    pub(crate) fn split(&self, last: &mut Seat<W>) -> Seat<W>
+        requires seat { last.old.table ≡ self.now }
+        requires last { last.old.view.is_last ≡ true }
+        ensures last { last.new ≡ record last.old { view = passed_on last.old.view } }
+        ensures new { result ≡ record { table = last.old.table; view = next_of last.old.view } }
+    {
+        Seat {
+            place: self.table.shared.split_seat::<Cut>(&mut last.place),
+        }
+    }
+
+    // A look at the gate.
+    fn look_at(&self, place: &mut Place<Option<W>, View<W>>) -> u64
+        requires { place.old.table_id ≡ self.now }
+        ensures table { place.new.table_id ≡ place.old.table_id }
+        ensures looked { place.new.me ≡ (looked 1 place.old.me.0, place.old.me.1) }
+    {
+        self.table.shared.load::<Look>(place, GATE)
+    }
+
+    // Whether the gate was what was found, and is taken by this end now.
+    fn win(&self, place: &mut Place<Option<W>, View<W>>, found: u64) -> bool
+        requires table { place.old.table_id ≡ self.now }
+        requires free { 0 < found }
+        ensures table { place.new.table_id ≡ place.old.table_id }
+        ensures won { OnTrue result (Entered W.turn found place.old.me place.new.me) }
+        ensures lost { OnFalse result (place.new.me ≡ place.old.me) }
+    {
+        let before = self
+            .table
+            .shared
+            .compare_exchange::<Enter>(place, GATE, found, TAKEN);
+        before == found
+    }
+
+    // One look, and a try where the gate is free. The number is that of the turn.
+    fn look(&self, seat: &mut Seat<W>) -> Option<(u64, W)>
+        requires seat { seat.old.table ≡ self.now }
+        requires gate { seat.old.view.has_gate ≡ false }
+        ensures lost { IfNone result
+            (seat.new ≡ record seat.old { view = looked 1 seat.old.view }) }
+        ensures won { IfSome result (λ r. (seat.new.table ≡ seat.old.table) × (r.0 < FULL)
+            × Enters W.turn 1 r.0 r.1 seat.old.view seat.new.view) }
+    {
+        let found = self.look_at(&mut seat.place);
+        if !is_free(found) || !self.win(&mut seat.place, found) {
+            return None;
+        }
+        let Some(value) = self.table.shared.exchange(&mut seat.place, VALUE, None) else {
+            unreachable!()
+        };
+        Some((found, value))
+    }
+
+    /// The value, with the number of the turn, where the gate was free at one of the looks.
+    pub(crate) fn try_enter(&self, seat: &mut Seat<W>) -> Option<(u64, W)>
+        requires seat { seat.old.table ≡ self.now }
+        requires gate { seat.old.view.has_gate ≡ false }
+        ensures lost { IfNone result
+            (seat.new ≡ record seat.old { view = looked LOOKS seat.old.view }) }
+        ensures won { IfSome result (λ r. (seat.new.table ≡ seat.old.table) × (r.0 < FULL)
+            × Enters W.turn LOOKS r.0 r.1 seat.old.view seat.new.view) }
+    {
+        for look in 0..LOOKS {
+            if let Some(taken) = self.look(seat) {
+                return Some(taken);
+            }
+            pause_after(look);
+        }
+        None
+    }
+
+    /// Gives the gate back with what a turn left, whose number this is.
+    pub(crate) fn leave(&self, seat: &mut Seat<W>, turn: u64, value: W)
+        requires seat { seat.old.table ≡ self.now }
+        requires gate { seat.old.view.has_gate ≡ true }
+        requires number { (length seat.old.view.seen ≡ turn) × (turn < FULL) }
+        requires turn { MayLeave W.turn value seat.old.view }
+        ensures { seat.new ≡ record seat.old { view = gave_back value seat.old.view } }
+    {
+        let shared = &self.table.shared;
+        shared.exchange(&mut seat.place, VALUE, Some(value));
+        shared.store::<Leave>(&mut seat.place, GATE, turn + 1);
+    }
+}
