@@ -14,7 +14,6 @@ pub struct Found {
 }
 
 /// The found nodes, each once.
-#[derive(Drop)]
 pub struct Trail {
     nodes: IndexSet<u64>,
     // For each the index of the one before it, and 1; or 0, where there is none.
@@ -32,6 +31,16 @@ impl Model for Trail {
     ghost view = { λ t. found_by t.nodes.keys t.marks.items };
 
     ghost invariant = { λ t. IsTrail t.nodes.keys t.marks.items (contains nat_eq t.nodes) };
+}
+
+// Not derived: what a derived one does is proved again wherever a trail is let go.
+impl Drop for Trail {
+    fn drop(self) {
+        let Trail {
+            nodes: _nodes,
+            marks: _marks,
+        } = self;
+    }
 }
 
 impl Trail {
