@@ -18,7 +18,6 @@ use std::marker::Model;
 const INDEXES: usize = REGISTERS as usize;
 
 /// The state: objects by identity, handles by slot, and what references them.
-#[derive(Drop)]
 pub struct Machine {
     pub(crate) alloc: Global,
     heap: u32,
@@ -47,6 +46,27 @@ impl Model for Machine {
     ghost view = { judge_of };
 
     ghost invariant = { IsMachine };
+}
+
+// Not derived: what a derived one does is proved again wherever a machine is let go.
+impl Drop for Machine {
+    fn drop(self) {
+        let Machine {
+            alloc: _,
+            heap: _,
+            callers: _,
+            objects: _objects,
+            table: _table,
+            weak: _weak,
+            registers: _registers,
+            handle_registers: _handle_registers,
+            serials: _serials,
+            statics: _,
+            board: _,
+            queue: _queue,
+            pinned: _pinned,
+        } = self;
+    }
 }
 
 // What each caller has: its registers, and its last serial.
