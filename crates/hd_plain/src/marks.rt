@@ -17,9 +17,15 @@ use std::collections::VecDeque;
 use std::marker::Model;
 
 /// Secondaries by their target.
-#[derive(Drop)]
 pub(crate) struct Attached {
     lists: Numbered<Vec<u64>>,
+}
+
+// Not derived, as that of a machine.
+impl Drop for Attached {
+    fn drop(self) {
+        let Attached { lists: _lists } = self;
+    }
 }
 
 // The list that was found, or an empty one.
@@ -96,7 +102,6 @@ impl Attached {
 }
 
 /// A set of objects, and those of them whose edges are still to be followed.
-#[derive(Drop)]
 pub(crate) struct Marks {
     marked: Numbered<()>,
     left: Vec<u64>,
@@ -110,6 +115,16 @@ impl Model for Marks {
     ghost coded = { marked_code };
 
     ghost view = { λ m. record { marked = m.marked; left = m.left.items } };
+}
+
+// Not derived, as that of a machine.
+impl Drop for Marks {
+    fn drop(self) {
+        let Marks {
+            marked: _marked,
+            left: _left,
+        } = self;
+    }
 }
 
 impl Marks {
