@@ -6,28 +6,10 @@ use Rattle.hd_model.specs.declared.data.Refusal.TheVariants as refusal
 use Rattle.hd_model.specs.State as model
 use Rattle.hd_model.specs.State.{State, block_of, rename_handle, secondary_of, handle_register_of, handle_at}
 use Rattle.hd_model.specs.{Ages.age_of, Table.fits}
-use Rattle.hd_model.specs.Role.{Role, holds, short, long, attaches, pins}
-use Rattle.hd_commands.specs.declared.handle.Extra.{Extra}
-use Rattle.hd_commands.specs.declared.handle.Extra.TheVariants.{Nothing, Strength, Secondary, Count}
-use Rattle.hd_commands.specs.declared.handle.Handle.{Handle}
-use Rattle.hd_commands.specs.declared.handle.Role.{Role as RoleName}
-use Rattle.hd_commands.specs.declared.handle.Role.TheVariants as played
+use Rattle.hd_model.specs.Role.{pins}
+use Rattle.hd_model.specs.declared.handle.Handle.{Handle}
+use Rattle.hd_model.specs.Handles.{handle_of}
 use Rattle.hd_commands.specs.Seen.{Seen, name_in, IsNamed, object_named}
-
-abbrev pub extra_of : {N : Type 0} → Extra N → model.Extra N
-extra_of Nothing = model.nothing
-extra_of (Strength given) = model.strength given
-extra_of (Secondary o) = model.secondary o
-extra_of (Count c) = model.count c
-
-abbrev pub handle_of : {N : Type 0} → Handle N → model.Handle N
-handle_of h = record { kind = h.kind; target = h.target; extra = extra_of h.extra }
-
-abbrev pub role_as : RoleName → Role
-role_as played.Holds = holds
-role_as played.Short = short
-role_as played.Long = long
-role_as played.Attaches = attaches
 
 -- a handle with its names read as identities
 abbrev pub handle_named : {N R : Type 0} → Seen N R → Handle N → model.Handle Id
@@ -60,15 +42,15 @@ abbrev pub as_found : {N R : Type 0} → Seen N R → Result (Slot × Handle N) 
 as_found p (Ok found) = Ok (found.0, handle_named p found.1)
 as_found p (Err refused) = Err refused
 
+-- what a handle pins, or why it pins nothing
+abbrev pub pinned_of : model.Handle Id → Result Id Refusal
+pinned_of handle =
+    if pins handle then option_map_or Ok handle.target (Err refusal.Null) else Err refusal.WrongKind
+
 -- what the handle in a handle register pins, or why it pins nothing
 abbrev pub pinned_in : State → ℕ → ℕ → Result Id Refusal
 pinned_in s caller h =
-    option_map_or
-    (λ slot.
-    option_map_or
-    (λ handle.
-    if pins handle then option_map_or Ok handle.target (Err refusal.Null) else Err refusal.WrongKind)
-    (handle_at s slot) (Err refusal.NotLive))
+    option_map_or (λ slot. option_map_or pinned_of (handle_at s slot) (Err refusal.NotLive))
     (handle_register_of s caller h) (Err refusal.EmptyRegister)
 
 -- the object that a command finds pinned, in the words of the machine

@@ -2,11 +2,12 @@
 #![tactic(auto)]
 
 mod done;
-mod handle;
 pub mod on_handles;
 pub mod on_objects;
 mod parts;
 
-pub use done::{CommandResult, Done, entry_of};
-pub use handle::{Extra, Handle, Role, pins_by, role_by};
+pub use done::{
+    CommandResult, Done, addressing, aging, counting, entry_of, freeing, load_reply, loading, made,
+    making, plainly, queued_reply, reading,
+};
 pub use parts::Parts;

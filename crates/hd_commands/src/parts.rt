@@ -4,10 +4,10 @@ ghost use Rattle.hd_model.specs.declared.limits.TheConstants.{REGISTERS};
 ghost use Rattle.hd_model.specs.State.{register_of, handle_register_of, static_of, board_of, field_of, handle_at, with_register, with_handle_register, with_static, with_board, with_object, with_queue, with_handle, without_handle};
 ghost use Rattle.hd_model.specs.{Ages.lowered, WellFormed.HasHandles};
 ghost use Rattle.hd_commands.specs.Seen.{name_in, named_in, IsNamed, IsThere, MayUse, object_named};
-ghost use Rattle.hd_commands.specs.Handles.{handle_named, handle_of, IsWithin, MayBeStored};
+ghost use Rattle.hd_commands.specs.Handles.{handle_named, IsWithin, MayBeStored};
+ghost use Rattle.hd_model.specs.Handles.{handle_of};
 
-use crate::handle::Handle;
-use hd_model::{Id, Slot};
+use hd_model::{Handle, Id, Slot};
 
 /// The parts of a machine, whatever its objects are referenced by. A write changes what commands
 /// see of it in the one part that it names.

@@ -1,14 +1,13 @@
 // How handles look, by what they are to a collection.
 ghost use Rattle.std.specs.Prelude.{◌≡◌};
-ghost use Rattle.hd_commands.specs.Handles.{role_as};
+ghost use Rattle.hd_model.specs.Handles.{role_as};
 ghost use Rattle.hd_model.specs.State.{secondary_of};
 ghost use Rattle.hd_links.specs.Links.{extra_again};
 ghost use Rattle.hd_graph.specs.Marks.{role_seen, style_of};
 
 use crate::dot::Style;
-use hd_commands::Role;
 use hd_links::handle_again;
-use hd_model::Id;
+use hd_model::{Id, Role};
 use hd_seen::SeenHandle;
 
 /// How a line from a handle to its target looks.

@@ -3,7 +3,7 @@ use Rattle.std.proofs.Common.{Some, ap, is_some, ◌<◌, ◌≡◌, ◌≤◌, 
 use Rattle.std.proofs.lemmas.Bool.{cases_lt}
 use Rattle.std.specs.Prelude.{IsSome}
 use Rattle.hd_model.specs.{declared.data.Slot.Slot, State.handle_at}
-use Rattle.hd_commands.specs.Handles.{handle_of as handle_seen}
+use Rattle.hd_model.specs.Handles.{handle_of as handle_seen}
 use Rattle.hd_host.specs.declared.observing.Listed.{Listed}
 use Rattle.hd_host.specs.{Handles.IsNextFrom, Handles.handle_of, View.HostView}
 

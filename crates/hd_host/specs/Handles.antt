@@ -4,7 +4,7 @@
 use Rattle.std.specs.Prelude.{◌≡◌, ℕ, ◌+◌, ◌*◌, ◌≤◌, ◌^◌, slice_index, Some, IsSome}
 use Rattle.hd_model.specs.declared.data.Slot.{Slot}
 use Rattle.hd_model.specs.State.{handle_at}
-use Rattle.hd_commands.specs.Handles.{handle_of as handle_seen}
+use Rattle.hd_model.specs.Handles.{handle_of as handle_seen}
 use Rattle.hd_host.specs.declared.handle.Handle.{Handle}
 use Rattle.hd_host.specs.declared.observing.Listed.{Listed}
 use Rattle.hd_host.specs.View.{HostView}

@@ -6,7 +6,7 @@ ghost use Rattle.hd_model.specs.{declared.data.Id.Id, declared.data.Slot.Slot, C
 ghost use Rattle.hd_model.specs.State.{Handle as Held, count_of, handle_at};
 ghost use Rattle.hd_host.specs.Calls.{FailsOf, FailsBy, MakesHandle, FreesHandle, TriesOf};
 ghost use Rattle.hd_host.specs.declared.stamps.TheConstants.{END as end_stamp};
-ghost use Rattle.hd_commands.specs.Handles.{extra_of};
+ghost use Rattle.hd_model.specs.Handles.{extra_of};
 ghost use Rattle.hd_host.specs.{Handles.IsOf, Handles.handle_of, Handles.stamp_of, View.IsAsItWas};
 
 use crate::change::Change;

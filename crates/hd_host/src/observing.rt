@@ -3,7 +3,7 @@ ghost use Rattle.std.specs.Prelude.{◌≡◌, ◌<◌, ◌^◌, length, IfSome,
 ghost use Rattle.std.specs.FinMap.{len};
 ghost use Rattle.hd_model.specs.declared.data.Slot.{Slot};
 ghost use Rattle.hd_model.specs.State.{given_of, handle_at, register_of, total_size};
-ghost use Rattle.hd_commands.specs.Handles.{handle_of};
+ghost use Rattle.hd_model.specs.Handles.{handle_of};
 ghost use Rattle.hd_host.specs.declared.fault.Fault.TheVariants.{Stale};
 ghost use Rattle.hd_host.specs.Handles.{IsOf, IsStale, IsNextFrom, HasNoneFrom};
 

@@ -1,11 +1,10 @@
 // What handles and entries of the weak table do for chains.
 ghost use Rattle.std.specs.Prelude.{◌≡◌, ◌++◌, IfOk, map};
-ghost use Rattle.hd_commands.specs.Handles.{extra_of, handle_of, role_as};
+ghost use Rattle.hd_model.specs.Handles.{extra_of, handle_of, role_as};
 ghost use Rattle.hd_links.specs.Links.{entry_link, extra_again, handle_again, handle_link, held_by};
 ghost use Rattle.hd_links.specs.Links.{is_at, links_in, source_by};
 
-use hd_commands::{Extra, Handle, Role};
-use hd_model::{Id, Kind, Slot};
+use hd_model::{Extra, Handle, Id, Kind, Role, Slot};
 use hd_seen::{SeenEntry, SeenExtra, SeenHandle};
 use std::alloc::{AllocError, Global};
 

@@ -3,7 +3,7 @@ use Rattle.hd_model.proofs.Basics.{FinMap, IsSome, None, Option, Some, ap, arith
 use Rattle.hd_model.proofs.MapBuild.{had_source}
 use Rattle.hd_model.proofs.ReadAfterWrite.{remove_cases, some_cases}
 use Rattle.hd_model.specs.declared.limits.TheConstants.{BLOCKS}
-use Rattle.hd_commands.specs.Handles.{handle_of}
+use Rattle.hd_model.specs.Handles.{handle_of}
 use Rattle.hd_maps.specs.declared.data.BlockUse.{BlockUse as Use}
 use Rattle.hd_maps.specs.Inside.{IsTable}
 use Rattle.hd_maps.specs.TableViews.{slots_of, TableView, Row}

@@ -8,8 +8,8 @@ use Rattle.hd_model.specs.declared.data.Id.{Id}
 use Rattle.hd_model.specs.State.{Handle, BlockUse}
 use Rattle.hd_model.specs.Code.{id_code, handle_code, use_code}
 use Rattle.hd_model.specs.declared.limits.TheConstants.{ROWS}
-use Rattle.hd_commands.specs.declared.handle.Handle.{Handle as CommandHandle}
-use Rattle.hd_commands.specs.Handles.{handle_of}
+use Rattle.hd_model.specs.declared.handle.Handle.{Handle as CommandHandle}
+use Rattle.hd_model.specs.Handles.{handle_of}
 
 -- the handles by slot, and the use of each block that has one
 pub record TableView : Type 0 where

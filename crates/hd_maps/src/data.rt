@@ -59,7 +59,7 @@ impl Object {
 }
 
 /// A handle, whose objects are referenced by identity.
-pub type Handle = hd_commands::Handle<Id>;
+pub type Handle = hd_model::Handle<Id>;
 
 /// An entry of the weak table.
 #[derive(Clone, Copy)]

@@ -4,7 +4,7 @@ ghost use Rattle.std.specs.FinMap as map;
 ghost use Rattle.std.specs.FinMap.{get, insert, keys, len};
 ghost use Rattle.hd_model.specs.State.{handles_of};
 ghost use Rattle.hd_model.specs.declared.limits.TheConstants.{BLOCKS, ROWS};
-ghost use Rattle.hd_commands.specs.Handles.{handle_of};
+ghost use Rattle.hd_model.specs.Handles.{handle_of};
 ghost use Rattle.hd_maps.specs.View.{use_of};
 ghost use Rattle.hd_maps.specs.TableViews.{slots_of, IsLeast, AreLive};
 
@@ -24,7 +24,7 @@ pub struct Table {
 }
 
 impl Model for Table {
-    ghost use Rattle.hd_commands.specs.Handles.{handle_of};
+    ghost use Rattle.hd_model.specs.Handles.{handle_of};
     ghost use Rattle.hd_maps.specs.View.{use_of};
     ghost use Rattle.hd_maps.specs.TableViews.{TableView, table_view_code};
     ghost use Rattle.hd_maps.specs.Fields.{seen_as};

@@ -51,11 +51,15 @@ on_handle s caller h act =
     option_map_or (λ slot. option_map_or (act slot) (handle_at s slot) (refuses refusal.NotLive s))
     (handle_register_of s caller h) (refuses refusal.EmptyRegister s)
 
+-- what is done with a handle of a kind, which is refused where the handle is of another
+abbrev pub on_kind : State → Kind → Handle Id → Outcome → Outcome
+on_kind s wanted handle does =
+    if is_kind handle.kind wanted then does else refuses refusal.WrongKind s
+
 -- on such a handle, which is refused where it is of another kind
 abbrev pub on_handle_of : State → ℕ → ℕ → Kind → (Slot → Handle Id → Outcome) → Outcome
 on_handle_of s caller h wanted act =
-    on_handle s caller h
-    (λ slot handle. if is_kind handle.kind wanted then act slot handle else refuses refusal.WrongKind s)
+    on_handle s caller h (λ slot handle. on_kind s wanted handle (act slot handle))
 
 -- a new object: its fields are null and its value is 0
 abbrev pub fresh_object : ℕ → Bool → Object Id
@@ -135,41 +139,56 @@ take_first s caller d (id ∷ rest) =
 abbrev pub take_queued : State → ℕ → ℕ → Outcome
 take_queued s caller d = take_first s caller d s.queue
 
+-- Of each command on a handle, what it comes to for the handle in a live slot has a name of its own, `.._of`.
+
 -- `hget rD hS`: rD gets the target, which is null where it was never set or is cleared
+abbrev pub get_target_of : State → ℕ → ℕ → Slot → Handle Id → Outcome
+get_target_of s caller d slot handle =
+    reply_with (load_reply handle.target) (with_register s caller d handle.target)
+
 abbrev pub get_target : State → ℕ → ℕ → ℕ → Outcome
-get_target s caller d h =
-    on_handle s caller h
-    (λ slot handle. reply_with (load_reply handle.target) (with_register s caller d handle.target))
+get_target s caller d h = on_handle s caller h (get_target_of s caller d)
 
 -- `hset hS rT`: the target becomes what rT references. A dependent handle may get null alone, and then its
 -- secondary is null too (the setter of .NET's DependentHandle.Target takes null alone).
-abbrev pub set_target : State → ℕ → ℕ → ℕ → Outcome
-set_target s caller h t =
-    on_handle s caller h (λ slot handle.
+abbrev pub set_target_of : State → ℕ → ℕ → Slot → Handle Id → Outcome
+set_target_of s caller t slot handle =
     let target = register_of s caller t in
     if is_kind handle.kind kind.Dependent && is_some target then refuses refusal.WrongKind s
     else reply_with reply.Done
-    (with_handle s slot (record handle { target = target; extra = without_secondary handle.extra })))
+    (with_handle s slot (record handle { target = target; extra = without_secondary handle.extra }))
+
+abbrev pub set_target : State → ℕ → ℕ → ℕ → Outcome
+set_target s caller h t = on_handle s caller h (set_target_of s caller t)
 
 -- `hsec hS rS`: the secondary of a dependent handle, whose target is not null, becomes what rS references
 -- (.NET's DependentHandle.Dependent)
-abbrev pub set_secondary : State → ℕ → ℕ → ℕ → Outcome
-set_secondary s caller h r =
-    on_handle_of s caller h kind.Dependent (λ slot handle.
+abbrev pub set_secondary_of : State → ℕ → ℕ → Slot → Handle Id → Outcome
+set_secondary_of s caller r slot handle =
     let after = with_handle s slot (record handle { extra = secondary (register_of s caller r) }) in
-    option_map_or (λ _. reply_with reply.Done after) handle.target (refuses refusal.Null s))
+    on_kind s kind.Dependent handle
+    (option_map_or (λ _. reply_with reply.Done after) handle.target (refuses refusal.Null s))
+
+abbrev pub set_secondary : State → ℕ → ℕ → ℕ → Outcome
+set_secondary s caller h r = on_handle s caller h (set_secondary_of s caller r)
 
 -- `hdep rD hS`: rD gets the secondary of a dependent handle
+abbrev pub get_secondary_of : State → ℕ → ℕ → Slot → Handle Id → Outcome
+get_secondary_of s caller d slot handle =
+    let v = secondary_of handle.extra in
+    on_kind s kind.Dependent handle (reply_with (load_reply v) (with_register s caller d v))
+
 abbrev pub get_secondary : State → ℕ → ℕ → ℕ → Outcome
-get_secondary s caller d h =
-    on_handle_of s caller h kind.Dependent (λ slot handle.
-    let v = secondary_of handle.extra in reply_with (load_reply v) (with_register s caller d v))
+get_secondary s caller d h = on_handle s caller h (get_secondary_of s caller d)
 
 -- `hvar hS STRENGTH`: a variable handle gets the strength
+abbrev pub set_strength_of : State → Strength → Slot → Handle Id → Outcome
+set_strength_of s given slot handle =
+    on_kind s kind.Variable handle
+    (reply_with reply.Done (with_handle s slot (record handle { extra = strength given })))
+
 abbrev pub set_strength : State → ℕ → ℕ → Strength → Outcome
-set_strength s caller h given =
-    on_handle_of s caller h kind.Variable
-    (λ slot handle. reply_with reply.Done (with_handle s slot (record handle { extra = strength given })))
+set_strength s caller h given = on_handle s caller h (set_strength_of s given)
 
 -- a ref-counted handle gets a count, which is returned
 abbrev pub with_count : State → Slot → Handle Id → ℕ → Outcome
@@ -178,25 +197,33 @@ with_count s slot handle c = reply_with (reply.Value c)
 
 -- `hup hS`: the count of a ref-counted handle rises by one (CoreCLR's ref-counted handles ask their object's
 -- count; a count in the handle is this project's own)
+abbrev pub raise_count_of : State → Slot → Handle Id → Outcome
+raise_count_of s slot handle =
+    on_kind s kind.Counted handle (with_count s slot handle (count_of handle.extra + 1))
+
 abbrev pub raise_count : State → ℕ → ℕ → Outcome
-raise_count s caller h =
-    on_handle_of s caller h kind.Counted (λ slot handle. with_count s slot handle (count_of handle.extra + 1))
+raise_count s caller h = on_handle s caller h (raise_count_of s)
 
 -- `hdown hS`: the count of a ref-counted handle falls by one, which is refused where it is 0
-abbrev pub lower_count : State → ℕ → ℕ → Outcome
-lower_count s caller h =
-    on_handle_of s caller h kind.Counted (λ slot handle.
-    if count_of handle.extra == 0 then refuses refusal.CountZero s
+abbrev pub lower_count_of : State → Slot → Handle Id → Outcome
+lower_count_of s slot handle =
+    on_kind s kind.Counted handle
+    (if count_of handle.extra == 0 then refuses refusal.CountZero s
     else with_count s slot handle (count_of handle.extra - 1))
 
+abbrev pub lower_count : State → ℕ → ℕ → Outcome
+lower_count s caller h = on_handle s caller h (lower_count_of s)
+
 -- `hfree hS`: the handle is freed and hS is empty. Copies of the slot elsewhere stay.
+abbrev pub free_handle_of : State → ℕ → ℕ → Slot → Handle Id → Outcome
+free_handle_of s caller h slot handle = record {
+  reply = reply.Done;
+  slot = Some slot;
+  after = with_handle_register (without_handle s slot) caller h None;
+}
+
 abbrev pub free_handle : State → ℕ → ℕ → Outcome
-free_handle s caller h =
-    on_handle s caller h (λ slot handle. record {
-      reply = reply.Done;
-      slot = Some slot;
-      after = with_handle_register (without_handle s slot) caller h None;
-    })
+free_handle s caller h = on_handle s caller h (free_handle_of s caller h)
 
 -- `hput k hS`: board index k gets the slot in hS
 abbrev pub put_board : State → ℕ → ℕ → ℕ → Outcome
@@ -207,13 +234,15 @@ abbrev pub pick_board : State → ℕ → ℕ → ℕ → Outcome
 pick_board s caller d k = reply_with reply.Done (with_handle_register s caller d (board_of s k))
 
 -- `addr hS` with p as the address of the object that the handle pins: it becomes the object's pinned address
-abbrev pub reply_address : State → ℕ → ℕ → ℕ → Outcome
-reply_address s caller h p =
-    on_handle s caller h (λ slot handle.
+abbrev pub reply_address_of : State → ℕ → Slot → Handle Id → Outcome
+reply_address_of s p slot handle =
     if pins handle then (
     option_map_or (λ id. reply_with (reply.Place p) (with_address s id p)) handle.target
     (refuses refusal.Null s))
-    else refuses refusal.WrongKind s)
+    else refuses refusal.WrongKind s
+
+abbrev pub reply_address : State → ℕ → ℕ → ℕ → Outcome
+reply_address s caller h p = on_handle s caller h (reply_address_of s p)
 
 -- `gcroot rS` with the reply that a search for rS has
 abbrev pub reply_root : State → ℕ → ℕ → Reply → Outcome

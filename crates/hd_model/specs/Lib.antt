@@ -13,6 +13,7 @@ pub mod Run
 pub mod Text
 pub mod WellFormed
 pub mod Role
+pub mod Handles
 pub mod PinnedAddresses
 pub mod Compact
 pub mod Aging

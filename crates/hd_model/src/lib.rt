@@ -7,6 +7,7 @@ pub mod collection_laws;
 mod command;
 mod data;
 mod forward;
+mod handle;
 mod held;
 mod journal;
 pub mod laws;
@@ -23,6 +24,7 @@ pub use data::{
     Addr, Entry, Grown, Id, Kind, Make, Memory, Refusal, Reply, Report, RootId, Slot, Strength,
 };
 pub use forward::Forward;
+pub use handle::{Extra, Handle, Role, pins_by, role_by};
 pub use held::Held;
 pub use journal::Journal;
 pub use lists::filled;

@@ -8,7 +8,8 @@ use Rattle.hd_model.specs.declared.limits.TheConstants.{ROWS}
 use Rattle.hd_model.specs.State.{BlockUse, Extra, Handle, nothing, strength, secondary, count, handle_at, object_by_id, rename_extra, rename_handle, secondary_of}
 use Rattle.hd_model.specs.{Ages.age_of, Table.fits, WellFormed.FitsKind, WellFormed.HasHandles}
 use Rattle.hd_commands.specs.Seen.{named_in, name_in}
-use Rattle.hd_commands.specs.Handles.{IsWithin, MayBeStored, extra_of, handle_named, handle_of}
+use Rattle.hd_commands.specs.Handles.{IsWithin, MayBeStored, handle_named}
+use Rattle.hd_model.specs.Handles.{extra_of, handle_of}
 use Rattle.hd_maps.specs.TableViews.{Row}
 use Rattle.hd_plain.specs.MachineViews.{MachineView, seen_by}
 

@@ -10,13 +10,12 @@ ghost use Rattle.hd_plain.specs.Attaching.{ListsAttached};
 ghost use Rattle.hd_plain.specs.Inside.{Gains, HasReached, IsRootId};
 ghost use Rattle.hd_plain.specs.Inside.{is_marked, with_rows, with_targets, no_marks, older_at, pinned_at, resurrected_at, AreFew, HavePassed, IsWalk, report_of, cleared_one, cleared_to, counted, emptied, no_fates, no_losses, one_if, pass, settled_one, settled_to, swept_one, swept_to, wakes, without_one};
 ghost use Rattle.hd_maps.specs.StoredObjects.{IsYoungest};
-ghost use Rattle.hd_commands.specs.Handles.{handle_of, role_as};
+ghost use Rattle.hd_model.specs.Handles.{handle_of, role_as};
 
 use crate::machine::Machine;
 use crate::marks::{Attached, Marks, mark_anchors};
-use hd_commands::{Extra, Role};
 use hd_maps::{Edit, Handle, Object, Objects, PinnedAddresses, Table, Weak, raised};
-use hd_model::{Id, Memory, Report};
+use hd_model::{Extra, Id, Memory, Report, Role};
 use std::alloc::Global;
 use std::collections::VecDeque;
 

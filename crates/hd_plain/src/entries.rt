@@ -13,7 +13,7 @@ use crate::choice::Choice;
 use crate::machine::Machine;
 use crate::making::{may_give, table_full, use_blocks};
 use hd_commands::on_objects::{load, object_in};
-use hd_commands::{Done, Parts};
+use hd_commands::{Done, Parts, load_reply};
 use hd_maps::WeakEntry;
 use hd_model::limits::REGISTERS;
 use hd_model::{Grown, Id, Kind, Memory, Refusal, Reply, Slot};
@@ -67,7 +67,7 @@ impl Machine {
             return Ok(self.assign(caller, d, None, Reply::Absent));
         };
         let value = self.weak_value(slot);
-        Ok(load(self, caller, d, value))
+        Ok(Done::of(load_reply(load(self, caller, d, value))))
     }
 
     /// `cremove rK`.

@@ -5,17 +5,17 @@ ghost use Rattle.hd_model.specs.State.{register_of, given_of, first_slot, IsFree
 ghost use Rattle.hd_model.specs.Command.{extra_by};
 ghost use Rattle.hd_model.specs.Step.{MayGive, IsLeastUnused, blocks_needed, with_growth, makes_handle, gives_back, replies_address};
 ghost use Rattle.hd_model.specs.{WellFormed.IsWellFormed, Valid.IsValidMake, UserLaws.HasPinnedApart};
-ghost use Rattle.hd_commands.specs.Handles.{extra_of};
+ghost use Rattle.hd_model.specs.Handles.{extra_of};
 ghost use Rattle.hd_plain.specs.Inside.{Grows};
 ghost use Rattle.hd_plain.specs.ChosenSteps.{WayComesTo};
 
 use crate::choice::Choice;
 use crate::machine::Machine;
 use hd_commands::on_handles::pinned_in;
-use hd_commands::{Done, Extra, Handle, Parts};
+use hd_commands::{Done, Parts};
 use hd_maps::BlockUse;
 use hd_model::limits::{BLOCKS, REGISTERS, ROWS};
-use hd_model::{Grown, Id, Kind, Make, Memory, Refusal, Reply, Slot};
+use hd_model::{Extra, Grown, Handle, Id, Kind, Make, Memory, Refusal, Reply, Slot};
 
 // The extra of a handle with a target. Without one a dependent handle has no secondary either.
 fn extra_by(machine: &Machine, caller: u32, make: Make, target: Option<Id>) -> Extra<Id>

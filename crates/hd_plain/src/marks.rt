@@ -5,13 +5,12 @@ ghost use Rattle.std.specs.FinMap as map;
 ghost use Rattle.std.specs.FinMap.{get};
 ghost use Rattle.hd_model.specs.{Anchors.EdgeOf, Collect.is_lost, Scene.fields_in, WellFormed.IsWellFormed};
 ghost use Rattle.hd_plain.specs.Inside.{IsAnchorId, referenced, Adds, pair_in, pair_of, pairs_in, attaching_at, held_at, held_by, Gains, is_marked, with_mark, with_target, with_marks, with_targets, Awaits, Closes};
-ghost use Rattle.hd_commands.specs.Handles.{handle_of};
+ghost use Rattle.hd_model.specs.Handles.{handle_of};
 ghost use Rattle.hd_plain.specs.Attaching.{ListsAttached, secondaries};
 
 use crate::machine::Machine;
-use hd_commands::Role;
 use hd_maps::{Handle, Numbered, Table, Weak, copied};
-use hd_model::{Id, Memory};
+use hd_model::{Id, Memory, Role};
 use std::alloc::Global;
 use std::collections::VecDeque;
 use std::marker::Model;

@@ -3,7 +3,7 @@ ghost use Rattle.std.specs.Prelude.{◌≡◌, ◌<◌, length, slice_set, Some,
 ghost use Rattle.std.specs.FinMap.{get};
 ghost use Rattle.hd_model.specs.declared.limits.TheConstants.{REGISTERS};
 ghost use Rattle.hd_model.specs.State.{handle_at, object_by_id, register_of, with_handle, with_handle_register, with_object, with_register, with_static};
-ghost use Rattle.hd_commands.specs.Handles.{handle_of};
+ghost use Rattle.hd_model.specs.Handles.{handle_of};
 ghost use Rattle.hd_plain.specs.MachineViews.{Becomes};
 ghost use Rattle.hd_plain.specs.Commands.{MayUse};
 

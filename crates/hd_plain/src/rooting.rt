@@ -12,7 +12,7 @@ ghost use Rattle.hd_plain.specs.Commands.{ComesToRoot};
 ghost use Rattle.hd_plain.specs.Edges.{IsNode, in_any_order, leads_in};
 ghost use Rattle.hd_plain.specs.Inside.{Gains, IsAnchorId, nodes_in, held_by};
 ghost use Rattle.hd_walk.specs.{Trail.with_all, Walk.HasEnded};
-ghost use Rattle.hd_commands.specs.Handles.{handle_of};
+ghost use Rattle.hd_model.specs.Handles.{handle_of};
 ghost use Rattle.hd_maps.specs.TableViews.{Row};
 
 use crate::machine::Machine;

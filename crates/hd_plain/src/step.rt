@@ -11,7 +11,10 @@ ghost use Rattle.hd_model.specs.{Class.class_of, Touched.touched_by};
 use crate::choice::Choice;
 use crate::machine::Machine;
 use crate::{entries, making};
-use hd_commands::{Done, entry_of, on_handles, on_objects};
+use hd_commands::{
+    Done, aging, counting, entry_of, freeing, loading, on_handles, on_objects, plainly,
+    queued_reply, reading,
+};
 use hd_model::{Cmd, Entry, Memory, Refusal, Reply};
 
 impl Machine {
@@ -240,9 +243,9 @@ fn rewrite_handle(machine: &mut Machine, caller: u32, cmd: Cmd) -> Result<Done, 
     ensures { DecidedBy (way_of machine.old.state caller cmd) machine.old machine.new result }
 {
     match cmd {
-        Cmd::HSet { s, t } => on_handles::set_target(machine, caller, s, t),
-        Cmd::HSec { h, s } => on_handles::set_secondary(machine, caller, h, s),
-        Cmd::HFree { s } => on_handles::free_handle(machine, caller, s),
+        Cmd::HSet { s, t } => plainly(on_handles::set_target(machine, caller, s, t)),
+        Cmd::HSec { h, s } => plainly(on_handles::set_secondary(machine, caller, h, s)),
+        Cmd::HFree { s } => freeing(on_handles::free_handle(machine, caller, s)),
         _ => unreachable!(),
     }
 }
@@ -274,8 +277,8 @@ fn load_from_handle(machine: &mut Machine, caller: u32, cmd: Cmd) -> Result<Done
     ensures { DecidedBy (way_of machine.old.state caller cmd) machine.old machine.new result }
 {
     match cmd {
-        Cmd::HGet { d, s } => on_handles::get_target(machine, caller, d, s),
-        Cmd::HDep { d, s } => on_handles::get_secondary(machine, caller, d, s),
+        Cmd::HGet { d, s } => loading(on_handles::get_target(machine, caller, d, s)),
+        Cmd::HDep { d, s } => loading(on_handles::get_secondary(machine, caller, d, s)),
         _ => unreachable!(),
     }
 }
@@ -291,9 +294,11 @@ fn change_handle(machine: &mut Machine, caller: u32, cmd: Cmd) -> Result<Done, R
     ensures { DecidedBy (way_of machine.old.state caller cmd) machine.old machine.new result }
 {
     match cmd {
-        Cmd::HVar { s, strength } => on_handles::set_strength(machine, caller, s, strength),
-        Cmd::HUp { s } => on_handles::raise_count(machine, caller, s),
-        Cmd::HDown { s } => on_handles::lower_count(machine, caller, s),
+        Cmd::HVar { s, strength } => plainly(on_handles::set_strength(
+            machine, caller, s, strength,
+        )),
+        Cmd::HUp { s } => counting(on_handles::raise_count(machine, caller, s)),
+        Cmd::HDown { s } => counting(on_handles::lower_count(machine, caller, s)),
         _ => unreachable!(),
     }
 }
@@ -307,10 +312,10 @@ fn write_object(machine: &mut Machine, caller: u32, cmd: Cmd) -> Result<Done, Re
     ensures { DecidedBy (way_of machine.old.state caller cmd) machine.old machine.new result }
 {
     match cmd {
-        Cmd::Set { o, i, v } => on_objects::set_field(machine, caller, o, i, v),
-        Cmd::Val { o, n } => on_objects::set_value(machine, caller, o, n),
-        Cmd::Suppress { s } => on_objects::set_registered(machine, caller, s, false),
-        Cmd::Reregister { s } => on_objects::set_registered(machine, caller, s, true),
+        Cmd::Set { o, i, v } => plainly(on_objects::set_field(machine, caller, o, i, v)),
+        Cmd::Val { o, n } => plainly(on_objects::set_value(machine, caller, o, n)),
+        Cmd::Suppress { s } => plainly(on_objects::set_registered(machine, caller, s, false)),
+        Cmd::Reregister { s } => plainly(on_objects::set_registered(machine, caller, s, true)),
         _ => unreachable!(),
     }
 }
@@ -344,8 +349,8 @@ fn copy_or_take(machine: &mut Machine, caller: u32, cmd: Cmd) -> Result<Done, Re
     ensures { DecidedBy (way_of machine.old.state caller cmd) machine.old machine.new result }
 {
     match cmd {
-        Cmd::Copy { d, s } => Ok(on_objects::copy_register(machine, caller, d, s)),
-        Cmd::Final { d } => Ok(on_objects::take_queued(machine, caller, d)),
+        Cmd::Copy { d, s } => plainly(Ok(on_objects::copy_register(machine, caller, d, s))),
+        Cmd::Final { d } => Ok(Done::of(queued_reply(on_objects::take_queued(machine, caller, d)))),
         _ => unreachable!(),
     }
 }
@@ -362,9 +367,9 @@ fn load(machine: &mut Machine, caller: u32, cmd: Cmd) -> Result<Done, Refusal>
     ensures { DecidedBy (way_of machine.old.state caller cmd) machine.old machine.new result }
 {
     match cmd {
-        Cmd::Get { d, o, i } => on_objects::get_field(machine, caller, d, o, i),
-        Cmd::Clear { d } => Ok(on_objects::clear_register(machine, caller, d)),
-        Cmd::SGet { d, k } => Ok(on_objects::get_static(machine, caller, d, k)),
+        Cmd::Get { d, o, i } => loading(on_objects::get_field(machine, caller, d, o, i)),
+        Cmd::Clear { d } => plainly(Ok(on_objects::clear_register(machine, caller, d))),
+        Cmd::SGet { d, k } => loading(Ok(on_objects::get_static(machine, caller, d, k))),
         Cmd::CFind { d, k } => machine.find_entry(caller, d, k),
         _ => unreachable!(),
     }
@@ -399,9 +404,9 @@ fn put_or_pick(machine: &mut Machine, caller: u32, cmd: Cmd) -> Result<Done, Ref
     ensures { DecidedBy (way_of machine.old.state caller cmd) machine.old machine.new result }
 {
     match cmd {
-        Cmd::SPut { k, s } => Ok(on_objects::put_static(machine, caller, k, s)),
-        Cmd::HPut { k, s } => Ok(on_handles::put_board(machine, caller, k, s)),
-        Cmd::HPick { d, k } => Ok(on_handles::pick_board(machine, caller, d, k)),
+        Cmd::SPut { k, s } => plainly(Ok(on_objects::put_static(machine, caller, k, s))),
+        Cmd::HPut { k, s } => plainly(Ok(on_handles::put_board(machine, caller, k, s))),
+        Cmd::HPick { d, k } => plainly(Ok(on_handles::pick_board(machine, caller, d, k))),
         _ => unreachable!(),
     }
 }
@@ -418,8 +423,8 @@ fn read_object(machine: &mut Machine, caller: u32, cmd: Cmd) -> Result<Done, Ref
     ensures { DecidedBy (way_of machine.old.state caller cmd) machine.old machine.new result }
 {
     match cmd {
-        Cmd::Read { o } => on_objects::read_value(machine, caller, o),
-        Cmd::Gen { s } => on_objects::read_generation(machine, caller, s),
+        Cmd::Read { o } => reading(on_objects::read_value(machine, caller, o)),
+        Cmd::Gen { s } => aging(on_objects::read_generation(machine, caller, s)),
         _ => unreachable!(),
     }
 }

@@ -11,7 +11,7 @@ use Rattle.hd_model.specs.Heap.{Heap, has_object, object_at}
 use Rattle.hd_model.specs.Table.{Table, row_at}
 use Rattle.hd_ages.specs.Clumps.{clump_at}
 use Rattle.hd_seg.specs.declared.row.Row.{Row}
-use Rattle.hd_commands.specs.Handles.{extra_of}
+use Rattle.hd_model.specs.Handles.{extra_of}
 use Rattle.hd_seg.specs.Row.{extra_from, row_of}
 use Rattle.hd_rows.specs.Inside.{IsPlain}
 

@@ -2,7 +2,7 @@
 ghost use Rattle.std.specs.Prelude.{◌≡◌, ◌≢◌, ℕ, ◌*◌, ◌<◌, ◌≤◌, true, Some, None, length, Contains};
 ghost use Rattle.hd_model.specs.declared.data.Addr.{Addr};
 ghost use Rattle.hd_model.specs.State.{Handle, secondary_of};
-ghost use Rattle.hd_commands.specs.Handles.{extra_of};
+ghost use Rattle.hd_model.specs.Handles.{extra_of};
 ghost use Rattle.hd_model.specs.Heap.{has_object, object_at, id_at};
 ghost use Rattle.hd_model.specs.Table.{row_at};
 ghost use Rattle.hd_rows.specs.Inside.{HasNullFields, IsBare, IsAlone, AreAlone, IsPlain, ArePlain};

@@ -39,6 +39,6 @@ pub use Rattle.hd_scan.specs.declared.task.Task.{Task}
 pub use Rattle.hd_seg.proofs.RowRewrite.{extra_again, fits_secondary, live_row, put_row}
 pub use Rattle.hd_seg.specs.Mapped.{entries_of, with_entry}
 pub use Rattle.hd_seg.specs.Rewriting.{Rewrites}
-pub use Rattle.hd_commands.specs.Handles.{extra_of}
+pub use Rattle.hd_model.specs.Handles.{extra_of}
 pub use Rattle.hd_seg.specs.Row.{block_kind_of, row_of}
 pub use Rattle.hd_seg.specs.declared.row.Row.{Row}

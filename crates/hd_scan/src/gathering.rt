@@ -4,9 +4,8 @@ ghost use Rattle.std.specs.Option.{option_to_list};
 ghost use Rattle.hd_model.specs.{declared.data.Addr.Addr, RootText.held_of, State.Handle, State.handles_of, Table.row_at};
 ghost use Rattle.hd_scan.specs.{Gathering.roots_of, Inside.roots_of_block, Inside.root_at};
 
-use hd_commands::{Role, role_by};
 use hd_model::limits::ROWS;
-use hd_model::{Addr, Kind, Memory, Slot};
+use hd_model::{Addr, Kind, Memory, Role, Slot, role_by};
 use hd_seg::{BlockKind, Seg};
 use rayon::prelude::*;
 use std::alloc::{AllocError, Global};

@@ -6,9 +6,8 @@ ghost use Rattle.hd_scan.specs.{Inside.IsTargetBy, Inside.PinsBy, Passes.RootPas
 
 use crate::task::Task;
 use hd_ages::{AgeMap, DueRows};
-use hd_commands::pins_by;
 use hd_model::limits::{BLOCKS, ROWS};
-use hd_model::{Marker, Slot, Steps};
+use hd_model::{Marker, Slot, Steps, pins_by};
 use hd_seg::Seg;
 use std::sync::ledger::Ledger;
 

@@ -1,11 +1,10 @@
 ghost use Rattle.std.specs.Prelude.{◌≡◌};
 ghost use Rattle.hd_model.specs.{declared.data.Addr.Addr, Kinds.is_paired, State.Handle, Role.role_of};
-ghost use Rattle.hd_commands.specs.Handles.{extra_of, role_as};
+ghost use Rattle.hd_model.specs.Handles.{extra_of, role_as};
 ghost use Rattle.hd_scan.specs.Tasks.{takes, task_kind, task_role, is_clearing, is_role};
 ghost use Rattle.hd_seg.specs.Row.{row_of};
 
-use hd_commands::{Extra, Role, role_by};
-use hd_model::{Addr, Kind};
+use hd_model::{Addr, Extra, Kind, Role, role_by};
 use hd_seg::Row;
 
 /// What a pass does, and to which handles. The first four promote the targets of the handles that

@@ -2,7 +2,7 @@
 use Rattle.hd_seg.proofs.Basics.{Addr, BlockUse, Cell, Extra, Handle, IsPaired, IsSeg, IsTable, Kind, List, None, Option, ROWS, Some, Table, Uses, [], ap, arith, cell_at, cell_in, drop, extra_data, extra_from, extra_held, extra_of, extra_index, fits, get, get_or-set_other, get_or-set_same, handles_of, inl, inr, is_some, length, length-set, mapped, extra_index_in, refl, row_by, row_in, set, subst, suc, sym, table_in, take, take_at, true, with_cell, zero, ℕ, ◌%◌, ◌*◌, ◌++◌, ◌+◌, ◌/◌, ◌<◌, ◌∙◌, ◌∷◌, ◌≡◌, ◌≢◌, ◌≤◌, ◌⊎◌}
 use Rattle.hd_seg.proofs.FunctionMaps.{get-mapped, get-mapped_out, cases_within, len-mapped_le}
 use Rattle.hd_seg.proofs.{ChainLinks.some_of, BlockAdd.extras_apart, RowRewrite.single_nothing}
-use Rattle.hd_commands.specs.declared.handle.Extra.TheVariants as extra
+use Rattle.hd_model.specs.declared.handle.Extra.TheVariants as extra
 use Rattle.hd_seg.specs.declared.cells.Cell.TheVariants as cell
 
 pub cases_option : {A : Type 0} (o : Option A) → (o ≡ None) ⊎ ((x : A) × (o ≡ Some x))

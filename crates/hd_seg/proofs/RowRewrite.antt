@@ -1,6 +1,6 @@
 -- A row that is written, once or twice.
 use Rattle.hd_seg.proofs.Basics.{Addr, Bool, Handle, IsSome, Kind, None, Option, Some, Table, ap, extra_from, extra_of, false, false≢true, fits, get, get_beside, is_count, is_nothing, is_paired, is_secondary, is_strength, live_at, refl, row_at, secondary, sym, true, unwrap_or, with_row, ℕ, ◌∙◌, ◌≡◌}
-use Rattle.hd_commands.specs.declared.handle.Extra.TheVariants.{Nothing}
+use Rattle.hd_model.specs.declared.handle.Extra.TheVariants.{Nothing}
 use Rattle.hd_seg.specs.Rewriting.{Rewrites}
 use Rattle.hd_seg.proofs.FunctionMaps.{get-insert_same}
 use Rattle.hd_model.specs.declared.data.Kind.TheVariants as kind

@@ -6,11 +6,11 @@ use Rattle.hd_model.specs.declared.data.Addr.{Addr}
 use Rattle.hd_model.specs.declared.limits.TheConstants.{ROWS}
 use Rattle.hd_model.specs.State.{Handle, BlockUse, handles_of, extra_data}
 use Rattle.hd_model.specs.Table.{Table}
-use Rattle.hd_commands.specs.declared.handle.Extra.{Extra}
+use Rattle.hd_model.specs.declared.handle.Extra.{Extra}
 use Rattle.hd_seg.specs.declared.cells.Cell.{Cell}
 use Rattle.hd_seg.specs.declared.cells.Cell.TheVariants as cell
-use Rattle.hd_commands.specs.declared.handle.Extra.TheVariants.{Nothing}
-use Rattle.hd_commands.specs.Handles.{extra_of}
+use Rattle.hd_model.specs.declared.handle.Extra.TheVariants.{Nothing}
+use Rattle.hd_model.specs.Handles.{extra_of}
 use Rattle.hd_seg.specs.Mapped.{mapped}
 use Rattle.hd_seg.specs.Blocks.{Uses}
 

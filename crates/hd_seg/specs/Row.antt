@@ -4,9 +4,9 @@ use Rattle.hd_model.specs.declared.data.Addr.{Addr}
 use Rattle.hd_model.specs.declared.data.Kind.{Kind}
 use Rattle.hd_model.specs.State as state
 use Rattle.hd_model.specs.State.{Handle, BlockUse, handles_of, extra_data}
-use Rattle.hd_commands.specs.Handles.{extra_of}
-use Rattle.hd_commands.specs.declared.handle.Extra.{Extra}
-use Rattle.hd_commands.specs.declared.handle.Extra.TheVariants.{Nothing, Strength, Secondary, Count}
+use Rattle.hd_model.specs.Handles.{extra_of}
+use Rattle.hd_model.specs.declared.handle.Extra.{Extra}
+use Rattle.hd_model.specs.declared.handle.Extra.TheVariants.{Nothing, Strength, Secondary, Count}
 use Rattle.hd_seg.specs.declared.row.Row.{Row}
 use Rattle.hd_seg.specs.declared.row.BlockKind.{BlockKind}
 use Rattle.hd_seg.specs.declared.row.BlockKind.TheVariants as block

@@ -1,7 +1,6 @@
 // The cells of blocks. A block has 64 of them, for the targets of its rows or for their extras.
 
-use hd_commands::Extra;
-use hd_model::Addr;
+use hd_model::{Addr, Extra};
 
 /// One cell of a block.
 #[derive(Clone, Copy)]

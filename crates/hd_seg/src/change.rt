@@ -1,7 +1,7 @@
 ghost use Rattle.std.specs.Prelude.{◌≡◌, true, IsSome};
 ghost use Rattle.std.specs.FinMap.{get};
 ghost use Rattle.hd_model.specs.Table.{fits, live_at};
-ghost use Rattle.hd_commands.specs.Handles.{extra_of};
+ghost use Rattle.hd_model.specs.Handles.{extra_of};
 ghost use Rattle.hd_seg.specs.Row.{handle_of};
 ghost use Rattle.hd_seg.specs.Rewriting.{Rewrites};
 

@@ -14,6 +14,6 @@ mod seg;
 mod writes;
 
 pub use change::rewrite_row;
-pub use hd_commands::Extra;
+pub use hd_model::Extra;
 pub use row::{BlockKind, Full, Row};
 pub use seg::Seg;

@@ -1,5 +1,4 @@
-use hd_commands::Extra;
-use hd_model::{Addr, Kind};
+use hd_model::{Addr, Extra, Kind};
 
 /// A live row: the address that its handle references, or null, and its extra.
 #[derive(Clone, Copy, Debug, PartialEq, Eq)]

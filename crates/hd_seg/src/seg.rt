@@ -7,17 +7,16 @@ ghost use Rattle.hd_model.specs.Step.{blocks_needed};
 ghost use Rattle.hd_model.specs.Table.{IsTable, IsGrowth, chain_of, empty_table, fits, fits_in, grown_by};
 ghost use Rattle.hd_model.specs.Table.{has_handles, is_single, kind_at, live_at, with_row, without_row};
 ghost use Rattle.hd_model.specs.Table.{without_block};
-ghost use Rattle.hd_commands.specs.Handles.{extra_of};
+ghost use Rattle.hd_model.specs.Handles.{extra_of};
 ghost use Rattle.hd_seg.specs.Row.{handle_of, row_of, block_kind_of};
 
 use crate::blocks::Blocks;
 use crate::cells::Cell;
 use crate::row::{BlockKind, Full, Row};
 use crate::writes::{cell_of, extra_in, extra_index, extra_index_of, write_cell, write_row};
-use hd_commands::Extra;
 use hd_mask::bit;
 use hd_model::limits::{BLOCKS, CLUMP, CLUMPS, ROWS};
-use hd_model::{Addr, Grown, Kind, Memory, Slot, filled};
+use hd_model::{Addr, Extra, Grown, Kind, Memory, Slot, filled};
 use std::alloc::Global;
 use std::marker::Model;
 

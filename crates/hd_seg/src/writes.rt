@@ -5,9 +5,8 @@ ghost use Rattle.hd_seg.specs.{Cells.cell_at, Cells.cell_in, Cells.extra_held, C
 
 use crate::blocks::Blocks;
 use crate::cells::Cell;
-use hd_commands::Extra;
 use hd_model::limits::{BLOCKS, ROWS};
-use hd_model::{Addr, Slot};
+use hd_model::{Addr, Extra, Slot};
 
 /// The cell index of the extra of a slot's row, if its block has a data block.
 pub(crate) fn extra_index(blocks: &Blocks, slot: Slot) -> Option<usize>

@@ -3,7 +3,7 @@ ghost use Rattle.std.specs.Prelude.{◌≡◌, ◌/◌, ◌≤◌, map, option_m
 ghost use Rattle.std.specs.FinMap.{entries, get};
 ghost use Rattle.hd_model.specs.declared.limits.TheConstants.{ROWS};
 ghost use Rattle.hd_store.specs.declared.info.EntryInfo.{EntryInfo as EntryInfoValue};
-ghost use Rattle.hd_commands.specs.Handles.{extra_of};
+ghost use Rattle.hd_model.specs.Handles.{extra_of};
 ghost use Rattle.hd_seen.specs.Seen.{age_of, entry_seen, extra_seen, handle_seen};
 
 use crate::growing::add;

@@ -1,6 +1,6 @@
 -- What a search of the weak table of a store finds is what the machine finds in its state.
 use Rattle.hd_store.proofs.StoreWords.{Addr, Bool, FinMap, Handle, HasKey, Heap, Id, IfSome, IsIdle, IsLeastIdle, IsNamed, IsNone, IsSome, IsStored, IsTied, IsWeakTable, List, LooksAt, Machine, None, Option, Parts, Row, SearchSteps, Slot, Some, WeakEntry, [], ap, arith, bucket_of, cond, entries, entries_beside, entries_in, entry_named, entry_value, extra_of, false, filter, get, id_at, idle_found, idle_slot, is_idle, is_in_bucket, is_some, key_found, key_none, length, machine_of, map, named_in, nat_cmp, option_and_then, option_map, refl, same_Some, secondary_of, slot_of_key, subst, suc, sym, true, true≢false, value_at, weak_by_id, where_least, where_none, ℕ, ◌↔◌, ◌∙◌, ◌∷◌, ◌≡◌}
-use Rattle.hd_commands.specs.declared.handle.Extra.TheVariants.{Secondary}
+use Rattle.hd_model.specs.declared.handle.Extra.TheVariants.{Secondary}
 use Rattle.hd_seg.specs.Row.{row_of}
 use Rattle.hd_model.proofs.StepWrites.{same_slot}
 use Rattle.hd_store.proofs.IdentityReadings.{no_some, is_some-map, named-is}

@@ -35,3 +35,5 @@ pub mod OfferAddresses
 mod HeldEntries
 mod QueueIndexes
 mod TargetLoads
+mod ValueCalls
+mod SlotCalls

@@ -1,6 +1,6 @@
 -- A new handle may be stored once the age of its clump is lowered for it.
 use Rattle.hd_store.proofs.StoreWords.{Addr, FinMap, Grown, Handle, Id, IfSome, IsSome, Kind, List, Machine, Make, MayBeStored, None, Object, Option, Slot, Some, State, [], age_of, ap, arith, false, generation_at, generation_in, get, lowered_at, lowered_by_new, lowered_here, lowered_to, made_secondary, name_in, named_in, nat_cmp, object_by_id, option_and_then, option_map, option_map_or, refl, scene_of, secondary_of, secondary_register, subst, sym, true≢false, unwrap_or, with_growth, ℕ, ◌∙◌, ◌≡◌, ◌≤◌, IsMadeHandle, seen_by}
-use Rattle.hd_commands.specs.{declared.handle.Handle.Handle as Made, Handles.extra_of, Handles.handle_of}
+use Rattle.hd_model.specs.{declared.handle.Handle.Handle as Made, Handles.extra_of, Handles.handle_of}
 use Rattle.hd_model.proofs.RenamedReach.{secondary_renamed}
 use Rattle.hd_store.proofs.IdentityReadings.{no_some}
 

@@ -69,7 +69,9 @@ pub use Rattle.hd_scan.specs.declared.gathering.Root.{Root}
 pub use Rattle.hd_seg.specs.Row.{extra_from, handle_of}
 pub use Rattle.hd_seg.specs.declared.row.Row.{Row}
 pub use Rattle.hd_commands.specs.Done.{done_of, entry_by}
-pub use Rattle.hd_commands.specs.Handles.{MayBeStored, extra_of, pinned_in}
+pub use Rattle.hd_commands.specs.Handles.{MayBeStored}
+pub use Rattle.hd_model.specs.Handles.{extra_of}
+pub use Rattle.hd_commands.specs.Handles.{pinned_in}
 pub use Rattle.hd_store.specs.Inside.{HasRun, IsPlainStep, MayRun}
 pub use Rattle.hd_store.specs.Inside.{MayHaveEntry, entry_at}
 pub use Rattle.hd_store.specs.{Inside.GrowsBy, Growth.kind_in_use}

@@ -12,7 +12,7 @@ use Rattle.hd_store.specs.Calls.{HasCalled, IsSound, load_entry, pointed}
 use Rattle.hd_store.proofs.{AddressSteps.plain-kept, SoundCalls.may-run, SoundCalls.sound-pointed, SoundCalls.unplaced, StateHeap.keeps-address, StateHeap.keeps-pinned, StateHeap.returns-stored}
 
 -- a slot in a handle register makes no difference to the heap and the table
-over-pointed : (m : Machine) (caller : ℕ) (slot : Option Slot) → IsOverHeap m
+pub over-pointed : (m : Machine) (caller : ℕ) (slot : Option Slot) → IsOverHeap m
     → IsOverHeap (pointed m caller slot)
 over-pointed m caller slot over = record {
   names = over.names;

@@ -1,10 +1,12 @@
 -- What a call of a store takes, and what it comes to.
-use Rattle.std.specs.Prelude.{◌≡◌, ℕ, ◌+◌, ◌<◌, ◌^◌, Bool, Option, None}
+use Rattle.std.specs.Prelude.{◌≡◌, ℕ, ◌+◌, ◌<◌, ◌^◌, Bool, Option, None, Some, Result, Ok, Err}
 use Rattle.std.specs.{Option.ForSome, FinMap.empty}
-use Rattle.hd_model.specs.{declared.data.Entry.Entry, declared.data.Id.Id, declared.data.Slot.Slot, declared.data.Grown.TheVariants.Zero, declared.command.Cmd.Cmd, Command.load_reply, PinnedAddresses.with_pinned, Valid.IsValid, WellFormed.IsWellFormed}
+use Rattle.hd_model.specs.{declared.data.Entry.Entry, declared.data.Id.Id, declared.data.Slot.Slot, declared.data.Grown.Grown, declared.data.Grown.TheVariants.Zero, declared.data.Refusal.Refusal, declared.data.Reply.Reply, declared.command.Cmd.Cmd, Command.load_reply, PinnedAddresses.with_pinned, Valid.IsValid, WellFormed.IsWellFormed}
 use Rattle.hd_model.specs.declared.command.Cmd.TheVariants as cmd
 use Rattle.hd_model.specs.State.{State, last_serial, with_handle_register}
+use Rattle.hd_model.specs.declared.data.Reply.TheVariants as reply
 use Rattle.hd_commands.specs.Counts.{MayCountUp}
+use Rattle.hd_commands.specs.Done.{done_of, done_with, entry_by}
 use Rattle.hd_store.specs.{PinnedAddresses.KeepsPinned, StateHeap.KeepsStored, Store.Machine}
 use Rattle.hd_store.specs.Offers.{HasLimits, IsOffer, GrowsUnoffered, Takes}
 
@@ -52,3 +54,22 @@ pub record HasCalled (old : Machine) (caller : ℕ) (command_is : Cmd) (offered 
   pub offer : ForSome offered (Takes old.state caller e command_is)
   pub growth : GrowsUnoffered old.numbers old.state caller command_is offered e
   pub addresses : KeepsStored e old.state old.heap new.heap
+
+-- what a call by value returned is what the command of a caller came to, whose reply is a function of the
+-- value. It takes no offer.
+abbrev pub HasReturned : {T : Type 0} → Machine → ℕ → Cmd → (T → Reply) → Machine → Result T Refusal → Type 0
+HasReturned old caller c reply_of new result =
+    HasCalled old caller c None new (entry_by caller c (done_of (done_with reply_of result)))
+
+-- so it is of a call about the handle in a slot, of the command by the first handle register of the caller
+-- that has the slot
+abbrev pub HasReturnedOf : {T : Type 0} → Machine → ℕ → Slot → Cmd → (T → Reply) → Machine → Result T Refusal
+    → Type 0
+HasReturnedOf old caller slot c reply_of new result =
+    HasReturned (pointed old caller (Some slot)) caller c reply_of (pointed new caller (Some slot)) result
+
+-- a store with the slot of a made handle in a handle register of a caller
+abbrev pub pointed_made : Machine → ℕ → ℕ → Result (Slot × Grown) Refusal → Machine
+pointed_made m caller h (Ok made) =
+    record m { state = with_handle_register m.state caller h (Some made.0) }
+pointed_made m caller h (Err refused) = m

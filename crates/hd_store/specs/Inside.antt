@@ -13,7 +13,8 @@ use Rattle.hd_plan.specs.{Plan.HasNoEmptyRegion, Commit.NeedsCard}
 use Rattle.hd_model.specs.PinnedAddresses.{is_pinned, with_pinned, MayReturn}
 use Rattle.hd_model.specs.Step.{StepOf, IsLeastUnused, blocks_needed, with_growth, MayGive}
 use Rattle.hd_model.specs.WellFormed.{HasHandles, HasWeakTable, Names}
-use Rattle.hd_commands.specs.{Counts.MayCountUp, declared.handle.Handle.Handle as CommandHandle, Handles.extra_of, Handles.handle_named}
+use Rattle.hd_commands.specs.{Counts.MayCountUp, Handles.handle_named}
+use Rattle.hd_model.specs.{declared.handle.Handle.Handle as CommandHandle, Handles.extra_of}
 use Rattle.hd_model.specs.declared.data.Grown.TheVariants.{Zero, One, Two, Back}
 use Rattle.hd_heap.specs.{declared.fault.NewFault.NewFault, declared.fault.NewFault.TheVariants.Full, declared.fault.NewFault.TheVariants.Memory}
 use Rattle.hd_store.specs.{Stored.Parts, Stored.callers_of, Store.Machine, Store.seen_by, StateHeap.IsCompactStore, PinnedAddresses.AreAddresses}

@@ -6,8 +6,11 @@ ghost use Rattle.hd_store.specs.Inside.{MayRun, HasRun, IsPlainStep};
 ghost use Rattle.hd_store.specs.{PinnedAddresses.KeepsPinned, Visited.key_register, Visited.TakesSteps, Offers.RanOut};
 
 use crate::contents::Contents;
-use crate::{collection, making, on_entries, pinned_addresses, rooting};
-use hd_commands::{Done, entry_of, on_handles, on_objects};
+use crate::{collection, making as makes, on_entries, pinned_addresses, rooting};
+use hd_commands::{
+    Done, addressing, aging, counting, entry_of, freeing, loading, made, making, on_handles,
+    on_objects, plainly, queued_reply, reading,
+};
 use hd_model::{Cmd, Entry, Memory, Refusal, Slot, Steps};
 use std::sync::ledger::Ledger;
 
@@ -32,31 +35,35 @@ fn carry_out(
     ensures no_key { key_register (class_of cmd) ≡ None }
 {
     match cmd {
-        Cmd::New { d, fields, fin } => making::new_object(store, caller, d, fields, fin),
-        Cmd::Set { o, i, v } => Ok(on_objects::set_field(store, caller, o, i, v)),
-        Cmd::Get { d, o, i } => Ok(on_objects::get_field(store, caller, d, o, i)),
-        Cmd::Val { o, n } => Ok(on_objects::set_value(store, caller, o, n)),
-        Cmd::Read { o } => Ok(on_objects::read_value(store, caller, o)),
-        Cmd::Copy { d, s } => Ok(Ok(on_objects::copy_register(store, caller, d, s))),
-        Cmd::Clear { d } => Ok(Ok(on_objects::clear_register(store, caller, d))),
-        Cmd::SPut { k, s } => Ok(Ok(on_objects::put_static(store, caller, k, s))),
-        Cmd::SGet { d, k } => Ok(Ok(on_objects::get_static(store, caller, d, k))),
-        Cmd::Gen { s } => Ok(on_objects::read_generation(store, caller, s)),
-        Cmd::Suppress { s } => Ok(on_objects::set_registered(store, caller, s, false)),
-        Cmd::Reregister { s } => Ok(on_objects::set_registered(store, caller, s, true)),
-        Cmd::Final { d } => Ok(Ok(on_objects::take_queued(store, caller, d))),
-        Cmd::HNew { d, make, t } => Ok(making::new_handle(store, caller, d, make, t, offer)),
-        Cmd::HGet { d, s } => Ok(on_handles::get_target(store, caller, d, s)),
-        Cmd::HSet { s, t } => Ok(on_handles::set_target(store, caller, s, t)),
-        Cmd::HSec { h, s } => Ok(on_handles::set_secondary(store, caller, h, s)),
-        Cmd::HDep { d, s } => Ok(on_handles::get_secondary(store, caller, d, s)),
-        Cmd::HVar { s, strength } => Ok(on_handles::set_strength(store, caller, s, strength)),
-        Cmd::HFree { s } => Ok(on_handles::free_handle(store, caller, s)),
-        Cmd::HPut { k, s } => Ok(Ok(on_handles::put_board(store, caller, k, s))),
-        Cmd::HPick { d, k } => Ok(Ok(on_handles::pick_board(store, caller, d, k))),
-        Cmd::HUp { s } => Ok(on_handles::raise_count(store, caller, s)),
-        Cmd::HDown { s } => Ok(on_handles::lower_count(store, caller, s)),
-        Cmd::Trim { kind } => Ok(Ok(making::trim(store, caller, kind, offer))),
+        Cmd::New { d, fields, fin } => Ok(made(makes::new_object(store, caller, d, fields, fin)?)),
+        Cmd::Set { o, i, v } => Ok(plainly(on_objects::set_field(store, caller, o, i, v))),
+        Cmd::Get { d, o, i } => Ok(loading(on_objects::get_field(store, caller, d, o, i))),
+        Cmd::Val { o, n } => Ok(plainly(on_objects::set_value(store, caller, o, n))),
+        Cmd::Read { o } => Ok(reading(on_objects::read_value(store, caller, o))),
+        Cmd::Copy { d, s } => Ok(plainly(Ok(on_objects::copy_register(store, caller, d, s)))),
+        Cmd::Clear { d } => Ok(plainly(Ok(on_objects::clear_register(store, caller, d)))),
+        Cmd::SPut { k, s } => Ok(plainly(Ok(on_objects::put_static(store, caller, k, s)))),
+        Cmd::SGet { d, k } => Ok(loading(Ok(on_objects::get_static(store, caller, d, k)))),
+        Cmd::Gen { s } => Ok(aging(on_objects::read_generation(store, caller, s))),
+        Cmd::Suppress { s } => Ok(plainly(on_objects::set_registered(store, caller, s, false))),
+        Cmd::Reregister { s } => Ok(plainly(on_objects::set_registered(store, caller, s, true))),
+        Cmd::Final { d } => Ok(Ok(Done::of(queued_reply(on_objects::take_queued(
+            store, caller, d,
+        ))))),
+        Cmd::HNew { d, make, t } => Ok(making(makes::new_handle(store, caller, d, make, t, offer))),
+        Cmd::HGet { d, s } => Ok(loading(on_handles::get_target(store, caller, d, s))),
+        Cmd::HSet { s, t } => Ok(plainly(on_handles::set_target(store, caller, s, t))),
+        Cmd::HSec { h, s } => Ok(plainly(on_handles::set_secondary(store, caller, h, s))),
+        Cmd::HDep { d, s } => Ok(loading(on_handles::get_secondary(store, caller, d, s))),
+        Cmd::HVar { s, strength } => Ok(plainly(on_handles::set_strength(
+            store, caller, s, strength,
+        ))),
+        Cmd::HFree { s } => Ok(freeing(on_handles::free_handle(store, caller, s))),
+        Cmd::HPut { k, s } => Ok(plainly(Ok(on_handles::put_board(store, caller, k, s)))),
+        Cmd::HPick { d, k } => Ok(plainly(Ok(on_handles::pick_board(store, caller, d, k)))),
+        Cmd::HUp { s } => Ok(counting(on_handles::raise_count(store, caller, s))),
+        Cmd::HDown { s } => Ok(counting(on_handles::lower_count(store, caller, s))),
+        Cmd::Trim { kind } => Ok(Ok(makes::trim(store, caller, kind, offer))),
         Cmd::GcRoot { s } => rooting::return_root(store, caller, s),
         // These use the pinned addresses, or the weak table.
         Cmd::Collect { .. }
@@ -91,7 +98,7 @@ pub(crate) fn run<L: Ledger>(
         return Ok(entry_of(
             caller,
             cmd,
-            pinned_addresses::reply_address(store, caller, s),
+            addressing(pinned_addresses::reply_address(store, caller, s)),
         ));
     }
     if let Cmd::CAdd { k, v } = cmd {

@@ -1,16 +1,17 @@
 // What a store does with handles and blocks.
-ghost use Rattle.std.specs.Prelude.{◌≡◌, ◌+◌, ◌/◌, ◌<◌, ◌≤◌, false, Some, None, IfOk, IfErr, OnOk, OnErr, IfSome, option_map};
-ghost use Rattle.hd_commands.specs.Handles.{extra_of, handle_of, handle_named, MayBeStored};
+ghost use Rattle.std.specs.Prelude.{◌≡◌, ◌+◌, ◌/◌, ◌<◌, ◌≤◌, false, Some, None, IfOk, IfErr, OnOk, OnErr, IfSome, IsSome, option_map};
+ghost use Rattle.hd_commands.specs.Handles.{handle_named, IsWithin, MayBeStored};
+ghost use Rattle.hd_model.specs.Handles.{extra_of, handle_of};
 ghost use Rattle.hd_store.specs.{Reading.name_in, Reading.named_in, Reading.IsNamed, Store.seen_by};
 ghost use Rattle.hd_model.specs.declared.data.Id.{Id};
 ghost use Rattle.hd_model.specs.State.{Handle as Held, rename_extra, secondary_of, handle_at, use_of, given_of, without_use, with_handle, block_of, IsFree, IsAllFree};
-ghost use Rattle.hd_model.specs.{Kinds.is_paired, Step.blocks_needed, Step.with_growth};
+ghost use Rattle.hd_model.specs.{WellFormed.HasHandles, Kinds.is_paired, Step.blocks_needed, Step.with_growth};
 ghost use Rattle.hd_store.specs.{Inside.GrowsBy, Growth.kind_in_use};
 
 use crate::contents::Contents;
-use hd_commands::{Extra, Handle, Parts};
+use hd_commands::Parts;
 use hd_model::limits::{BLOCKS, ROWS};
-use hd_model::{Addr, Grown, Id, Kind, Slot};
+use hd_model::{Addr, Extra, Grown, Handle, Id, Kind, Slot};
 use hd_seg::{BlockKind, Full, Row};
 
 impl Contents {
@@ -41,6 +42,21 @@ impl Contents {
         }
         let row = self.table.row(slot)?;
         Some(row.target)
+    }
+
+    /// The handle in a live slot.
+    #[inline(always)]
+    pub(crate) fn live_handle(&self, slot: Slot) -> Handle<Addr>
+        requires handles { HasHandles self.now.numbers self.now.state }
+        requires live { IsSome (handle_at self.now.state slot) }
+        ensures is { handle_at self.now.state slot ≡ Some (handle_named (seen_by self.now) result) }
+        ensures may { MayBeStored (seen_by self.now) slot (handle_of result) }
+        ensures within { IsWithin (seen_by self.now) slot }
+    {
+        match self.handle(slot) {
+            Some(handle) => handle,
+            None => unreachable!(),
+        }
     }
 
     /// A handle with what it references by identity.

@@ -7,14 +7,16 @@ ghost use Rattle.std.specs.FinMap.{get};
 ghost use Rattle.hd_model.specs.Command.{new_object};
 ghost use Rattle.hd_model.specs.State.{given_of, block_of, first_slot, identity_of, last_serial, total_size, IsFree, IsAllFree};
 ghost use Rattle.hd_store.specs.{Reading.named_in, Reading.IsNamed, Store.seen_by, Offers.IsOffer, Inside.KeepsNames, Inside.IsSlotGiven, Inside.IsMadeHandle};
-ghost use Rattle.hd_commands.specs.Done.{done_of, entry_by, ComesTo};
+ghost use Rattle.hd_model.specs.declared.data.Reply.TheVariants as reply;
+ghost use Rattle.hd_commands.specs.Done.{done_making, done_of, done_with, entry_by, ComesTo};
+ghost use Rattle.hd_store.specs.Calls.{pointed_made};
 ghost use Rattle.hd_store.specs.Inside.{HasRun, IsPlainStep};
 
 use crate::contents::Contents;
-use hd_commands::{Done, Extra, Handle, Parts};
+use hd_commands::{Done, Parts};
 use hd_heap::NewFault;
 use hd_model::limits::{BLOCKS, FIELDS, REGISTERS, ROWS};
-use hd_model::{Addr, Grown, Kind, Make, Memory, Refusal, Reply, Slot};
+use hd_model::{Addr, Extra, Grown, Handle, Id, Kind, Make, Memory, Refusal, Reply, Slot};
 use hd_seg::Full;
 
 /// `new rD F`. A full heap is reported before memory is taken.
@@ -25,7 +27,7 @@ pub(crate) fn new_object(
     d: u8,
     fields: u8,
     fin: bool,
-) -> Result<Result<Done, Refusal>, Memory>
+) -> Result<Result<Id, Refusal>, Memory>
     requires caller { caller < store.old.numbers.callers }
     requires register { d < REGISTERS }
     requires fields { fields ≤ FIELDS }
@@ -35,7 +37,8 @@ pub(crate) fn new_object(
     ensures done { let n = store.old.numbers in
         let wanted = new_object n store.old.state caller d fields fin in
         let before = record store.old { names = store.new.names } in
-        IfOk result (ComesTo wanted (seen_by before) (seen_by store.new)) }
+        IfOk result (λ came. ComesTo wanted (seen_by before) (seen_by store.new)
+        (done_with reply.Object came)) }
     ensures names { KeepsNames store.old.names store.new.names }
     ensures fits { OnErr result
         (total_size store.old.state + (fields + 3) ≤ store.old.numbers.heap) }
@@ -44,7 +47,7 @@ pub(crate) fn new_object(
     match store.add_object(caller, fields, fin) {
         Ok(at) => {
             store.set_register(caller, d, Some(at));
-            Ok(Ok(Done::of(Reply::Object(store.id(at)))))
+            Ok(Ok(store.id(at)))
         }
         Err(NewFault::Full { used, size }) => Ok(Err(Refusal::HeapFull { used, size })),
         Err(NewFault::Memory) => Err(Memory),
@@ -161,24 +164,26 @@ fn lower_for(store: &mut Contents, slot: Slot, make: Make, target: Option<Addr>)
     }
 }
 
-/// `hnew hD KIND rT ..`: takes the offered slot or, without one, the first slot of a new block.
+/// An `hnew` but for the handle register: takes the offered slot or, without one, the first slot of
+/// a new block.
 #[inline(always)]
-pub(crate) fn new_handle(
+pub(crate) fn make_handle(
     store: &mut Contents,
     caller: u32,
-    d: u8,
     make: Make,
     t: u8,
     offer: Option<Slot>,
-) -> Result<Done, Refusal>
+) -> Result<(Slot, Grown), Refusal>
     requires handles { HasHandles store.old.numbers store.old.state }
     requires weak { HasWeakTable store.old.state }
     requires caller { caller < store.old.numbers.callers }
-    requires registers { (d < REGISTERS) × (t < REGISTERS) }
+    requires register { t < REGISTERS }
     requires make { IsValidMake make }
     requires offer { IfSome offer (IsFree store.old.state (kind_of make)) }
-    ensures { let c = cmds.HNew d make t in let e = entry_by caller c (done_of result) in
-        HasRun store.old caller c offer e (IsPlainStep store.old c store.new e) }
+    ensures { (d : ℕ) → let c = cmds.HNew d make t in
+        let e = entry_by caller c (done_of (done_making result)) in
+        let after = pointed_made store.new caller d result in
+        HasRun store.old caller c offer e (IsPlainStep store.old c after e) }
 {
     let handle = made(store, caller, make, t);
     let (slot, grown) = match slot_given(store, handle.kind, offer) {
@@ -187,8 +192,32 @@ pub(crate) fn new_handle(
     };
     lower_for(store, slot, make, handle.target);
     store.put_handle(slot, handle);
+    Ok((slot, grown))
+}
+
+/// `hnew hD KIND rT ..`.
+#[inline(always)]
+pub(crate) fn new_handle(
+    store: &mut Contents,
+    caller: u32,
+    d: u8,
+    make: Make,
+    t: u8,
+    offer: Option<Slot>,
+) -> Result<(Slot, Grown), Refusal>
+    requires handles { HasHandles store.old.numbers store.old.state }
+    requires weak { HasWeakTable store.old.state }
+    requires caller { caller < store.old.numbers.callers }
+    requires registers { (d < REGISTERS) × (t < REGISTERS) }
+    requires make { IsValidMake make }
+    requires offer { IfSome offer (IsFree store.old.state (kind_of make)) }
+    ensures { let c = cmds.HNew d make t in
+        let e = entry_by caller c (done_of (done_making result)) in
+        HasRun store.old caller c offer e (IsPlainStep store.old c store.new e) }
+{
+    let (slot, grown) = make_handle(store, caller, make, t, offer)?;
     store.set_handle_register(caller, d, Some(slot));
-    Ok(Done::in_slot(slot, grown))
+    Ok((slot, grown))
 }
 
 /// `trim KIND`: gives back the block of the offered slot or, without one, none.

@@ -9,7 +9,7 @@ ghost use Rattle.hd_store.specs.{Visited.TakesSteps, Offers.IsOffer, Offers.need
 use crate::contents::Contents;
 use crate::making::slot_given;
 use hd_commands::on_objects::{load, object_in};
-use hd_commands::{Done, Parts};
+use hd_commands::{Done, Parts, load_reply};
 use hd_model::limits::REGISTERS;
 use hd_model::{Cmd, Grown, Kind, Refusal, Reply, Slot, Steps};
 use std::sync::ledger::Ledger;
@@ -72,7 +72,7 @@ pub(crate) fn find_entry<L: Ledger>(
     match store.slot_of_key(at, steps) {
         Some(slot) => {
             let value = store.entry_value(slot);
-            Ok(load(store, caller, d, value))
+            Ok(Done::of(load_reply(load(store, caller, d, value))))
         }
         None => {
             store.set_register(caller, d, None);

@@ -2,13 +2,14 @@
 ghost use Rattle.std.specs.Prelude.{◌≡◌, ◌<◌, ◌≤◌, length, slice_set, Some, IsSome, option_map};
 ghost use Rattle.std.specs.FinMap.{get};
 ghost use Rattle.hd_model.specs.{Ages.lowered, State.block_of, State.handle_at, State.with_handle, State.with_handle_register, State.with_object, State.with_register, State.with_static};
-ghost use Rattle.hd_commands.specs.Handles.{handle_of, handle_named, MayBeStored};
+ghost use Rattle.hd_commands.specs.Handles.{handle_named, MayBeStored};
+ghost use Rattle.hd_model.specs.Handles.{handle_of};
 ghost use Rattle.hd_store.specs.{Objects.object_named, Reading.IsNamed, Reading.name_in, Reading.named_in, Store.seen_by};
 
 use crate::contents::{Contents, INDEXES};
-use hd_commands::{Handle, Parts};
+use hd_commands::Parts;
 use hd_model::limits::{CLUMP, CLUMPS, REGISTERS, ROWS};
-use hd_model::{Addr, Id, Slot};
+use hd_model::{Addr, Handle, Id, Slot};
 
 impl Parts for Contents {
     ghost use Rattle.std.specs.FinMap.{FinMap};

@@ -1,7 +1,7 @@
 ghost use Rattle.std.specs.Prelude.{◌≡◌, ◌*◌, ◌<◌, ◌≤◌, length, replicate, slice_index_or, true, IsTrue, IfOk, IfNone, IfSome, None, OnErr, MatchResult, Some, option_map};
 ghost use Rattle.std.specs.FinMap.{get};
 ghost use Rattle.hd_model.specs.declared.command.Cmd.TheVariants as cmd;
-ghost use Rattle.hd_commands.specs.Handles.{handle_of};
+ghost use Rattle.hd_model.specs.Handles.{handle_of};
 ghost use Rattle.hd_model.specs.State.{Handle as Held, Numbers, start_of, handle_at, register_of, handle_register_of, static_of, board_of, with_register, with_handle_register};
 ghost use Rattle.hd_model.specs.{Valid.IsValid, Valid.takes_memory};
 ghost use Rattle.hd_model.specs.declared.data.{Id.Id};
@@ -11,9 +11,9 @@ ghost use Rattle.hd_store.specs.Offers.{IsOffer, needs_slot, FitsHeap, RanOut};
 
 use crate::contents::Contents;
 use crate::{commands, on_entries};
-use hd_commands::{Handle, Parts};
+use hd_commands::Parts;
 use hd_model::limits::{BLOCKS, CALLERS, CLUMPS, HEAP, OLDEST, REGISTERS};
-use hd_model::{Cmd, Entry, Id, Memory, Slot, Steps};
+use hd_model::{Cmd, Entry, Handle, Id, Memory, Slot, Steps};
 use std::alloc::Global;
 use std::marker::{Brand, Model};
 use std::sync::ledger::{Blank, Ledger};
@@ -23,7 +23,7 @@ use std::sync::ledger::{Blank, Ledger};
 /// its table. Its state is well formed.
 #[derive(Drop)]
 pub struct Store {
-    contents: Contents,
+    pub(crate) contents: Contents,
 }
 
 impl Model for Store {

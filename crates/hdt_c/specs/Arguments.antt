@@ -4,8 +4,8 @@ use Rattle.hd_model.specs.declared.data.{Grown.Grown, Id.Id, Make.Make, Slot.Slo
 use Rattle.hd_model.specs.declared.data.Make.TheVariants as make
 use Rattle.hd_model.specs.declared.data.Strength.TheVariants as strength
 use Rattle.hd_model.specs.declared.data.Grown.TheVariants.{Zero, One, Two, Back}
-use Rattle.hd_commands.specs.declared.handle.Extra.{Extra}
-use Rattle.hd_commands.specs.declared.handle.Extra.TheVariants as extra
+use Rattle.hd_model.specs.declared.handle.Extra.{Extra}
+use Rattle.hd_model.specs.declared.handle.Extra.TheVariants as extra
 use Rattle.hd_host.specs.declared.change.Change.{Change as Changed}
 use Rattle.hdt_c.specs.declared.parts.Change.{Change}
 

@@ -1,16 +1,8 @@
-use Rattle.std.proofs.Common.{ap, arith, ◌+◌, ◌<◌, ◌^◌, ◌≡◌}
-use Rattle.hd_model.specs.State.{count_of, rename_extra}
-use Rattle.hd_commands.specs.Seen.{name_in}
-use Rattle.hd_commands.specs.Handles.{extra_of, handle_named}
+use Rattle.hd_commands.specs.Handles.{handle_named}
 use Rattle.hd_commands.proofs.on_handles.raise_count.Goals as goal
 
-pub overflow_add-count : goal.overflow_add-count
-overflow_add-count g c =
-    let p = g.P.Parts.seen c.args.parts.now in
+pub raise_count_of-requires-clause-small : goal.raise_count_of-requires-clause-small
+raise_count_of-requires-clause-small g c =
     let found = c.in_ok-slot in
-    let low : count_of (handle_named p found.handle).extra + 1 < 2 ^ 32 =
-    c.requires.small found.slot (handle_named p found.handle) found.ensures.found.0 found.ensures.found.1 in
-    let is : count_of (handle_named p found.handle).extra ≡ c.in-Count.count =
-    ap (λ e. count_of (rename_extra (name_in p) (extra_of e))) c.in-Count.is in
-    let small : c.in-Count.count + 1 < 2 ^ 32 = omega (arith, low, is) in
-    record { fits = small }
+    c.requires.small found.slot (handle_named (g.P.Parts.seen c.args.parts.now) found.handle)
+    found.ensures.found.0 found.ensures.found.1

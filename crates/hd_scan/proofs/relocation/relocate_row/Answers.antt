@@ -2,7 +2,7 @@ use Rattle.hd_scan.proofs.Basics.{Addr, Handle, None, Rewrites, Row, Some, Table
 use Rattle.hd_model.specs.declared.data.Strength.{Strength}
 use Rattle.hd_scan.proofs.HandleRelocate.{handle_moved, extra_stays, same_row}
 use Rattle.hd_model.specs.State as state
-use Rattle.hd_commands.specs.declared.handle.Extra.TheVariants as extra
+use Rattle.hd_model.specs.declared.handle.Extra.TheVariants as extra
 use Rattle.hd_scan.proofs.relocation.relocate_row.Given.{Over}
 use Rattle.hd_scan.proofs.relocation.relocate_row.Goals.{In-Nothing}
 use Rattle.hd_scan.proofs.relocation.relocate_row.Goals as goal

@@ -1,7 +1,7 @@
 use Rattle.std.proofs.Common.{Some, ap, option_map, sym, ◌∙◌}
 use Rattle.hd_model.specs.declared.data.Id.{Id}
 use Rattle.hd_model.specs.State.{Handle}
-use Rattle.hd_commands.specs.Handles.{extra_of}
+use Rattle.hd_model.specs.Handles.{extra_of}
 use Rattle.hd_seen.specs.Seen.{extra_seen, handle_seen}
 use Rattle.hd_snapshot.proofs.StoreSlots.{handle_block}
 use Rattle.hd_snapshot.proofs.rows.handle_in.Goals as goal

@@ -1,6 +1,8 @@
-use Rattle.hd_store.proofs.StoreWords.{Ok, TakesSteps, arith, done_of, entry_by, is_collect, refl, subst}
+use Rattle.hd_store.proofs.StoreWords.{Ok, TakesSteps, ap, arith, done_of, entry_by, is_collect, refl, subst, ◌∙◌}
 use Rattle.hd_store.proofs.AddressSteps.{as-asked, plain-kept, plain-runs, others-run, others-steps, looked-run}
 use Rattle.hd_model.specs.declared.command.Cmd.TheVariants as cmd
+use Rattle.hd_model.specs.declared.data.Reply.TheVariants as reply
+use Rattle.hd_commands.specs.Done.{done_with}
 use Rattle.hd_store.proofs.commands.run.Goals as goal
 
 pub returns-in-Collect : goal.returns-in-Collect
@@ -20,9 +22,11 @@ returns-in-AddrOf g c =
     let m = c.args.store.now in
     let steps = c.args.steps.now in
     let asked = cmd.AddrOf c.in-AddrOf.s in
-    let r = c.reply_address.result in
+    let r = done_with reply.Place c.reply_address.result in
     as-asked m m c.args.caller c.args.cmd asked c.args.offer r steps steps c.entry_of-in-AddrOf.result
-    c.in-AddrOf.is c.entry_of-in-AddrOf.ensures c.requires
+    c.in-AddrOf.is
+    (c.entry_of-in-AddrOf.ensures
+    ∙ ap (λ came. entry_by c.args.caller asked (done_of came)) c.addressing.ensures) c.requires
     (others-run m m c.args.caller asked c.args.offer r steps steps refl c.reply_address.ensures
     (others-steps (entry_by c.args.caller asked (done_of r)) is_collect refl (λ n. refl) m steps refl))
 

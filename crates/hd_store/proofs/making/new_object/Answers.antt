@@ -51,8 +51,7 @@ returns-in-Ok-clause-done c =
     ∙ ap (λ (m : Machine). m.numbers) c.in-Ok.ensures.made in
     let ages = ap (λ (m : Machine). m.ages) c.set_register.ensures
     ∙ ap (λ (m : Machine). m.ages) c.in-Ok.ensures.made in (
-      c.of.ensures
-          ∙ ap (λ i. replied (reply_with (reply.Object i) c.args.store.now.state)) id
+      ap (λ i. replied (reply_with (reply.Object i) c.args.store.now.state)) id
           ∙ ap (λ b. replied (if b then full at else made at)) (sym (has_room at)),
       (numbers, state, ages, refl, refl),
     )

@@ -1,6 +1,6 @@
 use Rattle.std.proofs.Common.{Some, ap, is_some, subst, ◌≡◌}
 use Rattle.hd_model.specs.State.{handle_at}
-use Rattle.hd_commands.specs.Handles.{handle_of as handle_seen}
+use Rattle.hd_model.specs.Handles.{handle_of as handle_seen}
 use Rattle.hd_host.specs.View.{HostView}
 use Rattle.hd_host.proofs.{NextHandle.is_next, SlotOfHandle.live_small, WholeHost.whole}
 use Rattle.hd_host.proofs.host.Host.next_handle.Goals as goal

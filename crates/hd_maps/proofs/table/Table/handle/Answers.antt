@@ -1,5 +1,5 @@
 use Rattle.std.proofs.Common.{ap, option_map, ◌∙◌}
-use Rattle.hd_commands.specs.Handles.{handle_of}
+use Rattle.hd_model.specs.Handles.{handle_of}
 use Rattle.hd_maps.proofs.TableCalls.{handle_read}
 use Rattle.hd_maps.proofs.table.Table.handle.Goals as goal
 

@@ -2,7 +2,7 @@ use Rattle.std.proofs.Common.{ap, option_map, subst, sym, ◌∙◌}
 use Rattle.std.specs.List.{Contains}
 use Rattle.std.proofs.lemmas.Result.{IfOk-weaker}
 use Rattle.hd_model.proofs.MapEntries.{value_found}
-use Rattle.hd_commands.specs.Handles.{handle_of}
+use Rattle.hd_model.specs.Handles.{handle_of}
 use Rattle.hd_maps.proofs.TableCalls.{handle_read}
 use Rattle.hd_maps.proofs.table.Table.handles.Goals as goal
 

@@ -1,6 +1,6 @@
 use Rattle.hd_store.proofs.StoreWords.{Addr, Id, IsNamed, Machine, ap, name_in, rename_extra, subst, sym, ◌∙◌}
 use Rattle.hd_model.specs.State.{Extra as ExtraIn, secondary, secondary_of}
-use Rattle.hd_commands.specs.{declared.handle.Extra.Extra, Handles.extra_of}
+use Rattle.hd_model.specs.{declared.handle.Extra.Extra, Handles.extra_of}
 use Rattle.hd_store.proofs.contents.Contents.extra_info.Goals as goal
 
 -- what an extra is by identity

@@ -1,6 +1,6 @@
 use Rattle.hd_store.proofs.StoreWords.{Some, ap, extra_of, fits_in, handles_of, parts, subst, sym, true, with_row, ◌/◌, ◌∙◌, ◌≡◌}
 use Rattle.hd_seg.specs.Row.{handle_of as row_handle}
-use Rattle.hd_commands.specs.Handles.{handle_of}
+use Rattle.hd_model.specs.Handles.{handle_of}
 use Rattle.hd_store.proofs.StoreRows.{vacant-row, not-held, use-read, kind-read, row-put}
 use Rattle.hd_store.proofs.contents.Contents.put_handle.Goals.{After-put_row}
 use Rattle.hd_store.proofs.contents.Contents.put_handle.Goals as goal

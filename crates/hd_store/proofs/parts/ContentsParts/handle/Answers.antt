@@ -1,5 +1,6 @@
 use Rattle.hd_store.proofs.StoreWords.{Addr, ap, get, id_at, not_there, option_map, parts, refl, rename_handle, seen_by, sym, ◌∙◌}
-use Rattle.hd_commands.specs.{declared.handle.Handle.Handle, Handles.handle_named}
+use Rattle.hd_commands.specs.{Handles.handle_named}
+use Rattle.hd_model.specs.{declared.handle.Handle.Handle}
 use Rattle.hd_store.proofs.{StoreRows.row-read, StoreRows.held-read}
 use Rattle.hd_store.proofs.SlotHandle.{no_row, kind-there, handle-is, handle-may}
 use Rattle.hd_store.proofs.parts.ContentsParts.handle.Goals as goal

@@ -1,5 +1,5 @@
 use Rattle.hd_store.proofs.StoreWords.{extra_of, parts, with_row, ◌≡◌}
-use Rattle.hd_commands.specs.Handles.{handle_of}
+use Rattle.hd_model.specs.Handles.{handle_of}
 use Rattle.hd_store.proofs.StoreRows.{still-live, still-fits, rewritten, live-kinded, live-kind, live-unheld, row-put}
 use Rattle.hd_store.proofs.parts.ContentsParts.replace_handle.Goals.{After-set_extra}
 use Rattle.hd_store.proofs.parts.ContentsParts.replace_handle.Goals as goal

@@ -1,5 +1,5 @@
 use Rattle.hd_store.proofs.StoreWords.{Machine, Some, ap, handle_at, option_map, sym, ◌∙◌}
-use Rattle.hd_commands.specs.Handles.{handle_of}
+use Rattle.hd_model.specs.Handles.{handle_of}
 use Rattle.hd_store.proofs.SoundCalls.{has-handles}
 use Rattle.hd_store.proofs.store.Store.handle.Goals as goal
 

@@ -2,9 +2,9 @@
 ghost use Rattle.std.specs.Prelude.{◌≡◌, None};
 ghost use Rattle.hd_model.specs.State.{secondary_of, without_secondary};
 ghost use Rattle.hd_model.specs.Role as roles;
-ghost use Rattle.hd_commands.specs.Handles.{extra_of, handle_of, role_as};
+ghost use Rattle.hd_model.specs.Handles.{extra_of, handle_of, role_as};
 
-use hd_model::{Kind, Strength};
+use crate::data::{Kind, Strength};
 
 /// What a handle has beside its target, by its kind. An object is referenced by a name of type N.
 #[derive(Clone, Copy, Debug, PartialEq, Eq)]

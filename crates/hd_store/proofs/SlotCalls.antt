@@ -1,0 +1,418 @@
+-- A call about the handle in a live slot is the command by a handle register that has the slot.
+use Rattle.hd_store.proofs.StoreWords.{Addr, Bool, Cmd, Done, Entry, Err, FinMap, Grown, Handle, HasRun, Id, IfSome, IsFree, IsOffer, IsOverHeap, IsPlainStep, IsSome, HasAddress, IsValid, KeepsPinned, List, Machine, Make, MatchResult, MayRun, None, Ok, Option, Outcome, Refusal, Result, Slot, Some, State, aged_by, ap, arith, asks_of, count_of, cond, done_of, entry_by, false, handle_at, handle_register_of, if◌then◌else◌, is_kind, is_some, kind_of, length, name_in, nat_cmp, pinned_in, length-set, get_or, no_room, option_map_or, refl, refuses, register_of, reply_with, secondary_of, seen_by, set, suc, sym, touched_by, true, Zero, zero, [], ℕ, ◌&&◌, same_Some, subst, ◌+◌, ◌-◌, ◌<◌, ◌^◌, ◌∙◌, ◌∷◌, ◌≡◌}
+use Rattle.std.specs.Prelude.{◌==◌}
+use Rattle.hd_model.specs.State.{secondary, strength, with_handle, with_handle_register, with_register, without_handle, without_secondary}
+use Rattle.hd_model.specs.Command.{free_handle, get_secondary, load_reply, lower_count, on_handle, raise_count, set_secondary, set_strength, set_target, with_count}
+use Rattle.hd_model.specs.Command.{free_handle_of, get_secondary_of, lower_count_of, raise_count_of, set_secondary_of, set_strength_of, set_target_of}
+use Rattle.hd_model.specs.declared.data.Strength.{Strength}
+use Rattle.hd_model.specs.declared.command.Cmd.TheVariants as cmd
+use Rattle.hd_model.specs.declared.data.Kind.TheVariants as kind
+use Rattle.hd_model.specs.declared.data.Refusal.TheVariants as refusal
+use Rattle.hd_model.specs.declared.data.Reply.TheVariants as reply
+use Rattle.hd_model.specs.Step.{decided, way_of}
+use Rattle.hd_model.specs.Aging.{is_refused, lowered_at, lowered_to}
+use Rattle.hd_model.proofs.ReadAfterWrite.{cell_here}
+use Rattle.hd_commands.specs.{Counts.MayCountUp, Seen.Seen}
+use Rattle.hd_commands.specs.Done.{ComesToAged, done_freeing, done_making, done_with}
+use Rattle.hd_commands.specs.Handles.{pinned_of}
+use Rattle.hd_store.specs.Calls.{HasCalled, IsSound, StaysWithin, pointed, pointed_made}
+use Rattle.hd_store.proofs.{AddressSteps.addr-refused, AddressSteps.addr-replies, SoundCalls.may-run, SoundCalls.sound-pointed, TargetLoads.over-pointed, ValueCalls.called, ValueCalls.has-called, ValueCalls.kept-called, ValueCalls.sound-on, ValueCalls.stays-sound}
+
+-- ---- a slot in a handle register is no part of what makes a store sound
+
+abbrev Rows : Type 0
+Rows = List (List (Option Slot))
+
+rows-keep : (rows : Rows) (c d i : ℕ) (v : Option Slot)
+    → length (get_or (set rows c (set (get_or rows c []) d v)) i []) ≡ length (get_or rows i [])
+rows-keep [] c d i v = refl
+rows-keep (row ∷ rows) zero d zero v = length-set row d v
+rows-keep (row ∷ rows) zero d (suc i) v = refl
+rows-keep (row ∷ rows) (suc c) d zero v = refl
+rows-keep (row ∷ rows) (suc c) d (suc i) v = rows-keep rows c d i v
+
+pub sound-unpointed : (k : Machine) (caller : ℕ) (slot : Option Slot) → IsSound (pointed k caller slot) → IsSound k
+sound-unpointed k caller slot sound =
+    let w = sound.well_formed in
+    let rows = k.state.handle_registers in
+    record {
+      limits = sound.limits;
+      well_formed = record {
+        shape = record {
+          registers = w.shape.registers;
+          each_registers = w.shape.each_registers;
+          handle_registers = sym (length-set rows caller _) ∙ w.shape.handle_registers;
+          each_handle_registers = λ i low.
+              sym (rows-keep rows caller 0 i slot) ∙ w.shape.each_handle_registers i low;
+          statics = w.shape.statics;
+          board = w.shape.board;
+          serials = w.shape.serials;
+        };
+        names = record {
+          fields = w.names.fields;
+          registers = w.names.registers;
+          statics = w.names.statics;
+          targets = w.names.targets;
+          secondaries = w.names.secondaries;
+          queue = w.names.queue;
+          pinned = w.names.pinned;
+          keys = w.names.keys;
+          values = w.names.values;
+        };
+        objects = record {
+          sizes = w.objects.sizes;
+          generations = w.objects.generations;
+          queued_once = w.objects.queued_once;
+        };
+        serials = record {
+          from_one = w.serials.from_one;
+          to_last = w.serials.to_last;
+          limit = w.serials.limit;
+        };
+        handles = record {
+          kinds = w.handles.kinds;
+          extras = w.handles.extras;
+          dependents = w.handles.dependents;
+          blocks = w.handles.blocks;
+        };
+        weak = record { kinds = w.weak.kinds; apart = w.weak.apart; once = w.weak.once };
+      };
+    }
+
+-- a slot that is written and then another is the other alone
+cell-twice : (row : List (Option Slot)) (d : ℕ) (u v : Option Slot) → set (set row d u) d v ≡ set row d v
+cell-twice [] d u v = refl
+cell-twice (slot ∷ row) zero u v = refl
+cell-twice (slot ∷ row) (suc d) u v = ap (λ rest. slot ∷ rest) (cell-twice row d u v)
+
+rows-twice : (rows : Rows) (c d : ℕ) (u v : Option Slot)
+    → set (set rows c (set (get_or rows c []) d u)) c
+    (set (get_or (set rows c (set (get_or rows c []) d u)) c []) d v)
+    ≡ set rows c (set (get_or rows c []) d v)
+rows-twice [] c d u v = refl
+rows-twice (row ∷ rows) zero d u v = ap (λ first. first ∷ rows) (cell-twice row d u v)
+rows-twice (row ∷ rows) (suc c) d u v = ap (λ rest. row ∷ rest) (rows-twice rows c d u v)
+
+-- ---- a command on a handle, with the slot in the first handle register
+
+-- an outcome with a slot in the first handle register after it
+abbrev pub pointed_outcome : ℕ → Slot → Outcome → Outcome
+pointed_outcome caller slot w = record w { after = with_handle_register w.after caller 0 (Some slot) }
+
+module _ (caller : ℕ) (slot : Slot) where
+  by_test : (b : Bool) (x y : Outcome)
+      → (if b then pointed_outcome caller slot x else pointed_outcome caller slot y)
+      ≡ pointed_outcome caller slot (if b then x else y)
+  by_test true x y = refl
+  by_test false x y = refl
+
+  by_target : (o : Option Id) (x y : Outcome)
+      → option_map_or (λ _. pointed_outcome caller slot x) o (pointed_outcome caller slot y)
+      ≡ pointed_outcome caller slot (option_map_or (λ _. x) o y)
+  by_target None x y = refl
+  by_target (Some id) x y = refl
+
+module _ (m : Machine) (caller : ℕ) (slot : Slot) (handle : Handle Id) (sound : IsSound m)
+    (known : caller < m.numbers.callers) (live : handle_at m.state slot ≡ Some handle) where
+  abbrev asking : State
+  asking = (pointed m caller (Some slot)).state
+
+  pub named : handle_register_of asking caller 0 ≡ Some slot
+  named =
+      let shape = sound.well_formed.shape in
+      cell_here m.state.handle_registers caller 0 (Some slot) None (omega (arith, known, shape.handle_registers))
+      (omega (arith, shape.each_handle_registers caller known))
+
+  -- a command on a handle finds the one in the slot
+  pub found : (act : Slot → Handle Id → Outcome) → on_handle asking caller 0 act ≡ act slot handle
+  found act =
+      ap (λ o. option_map_or (λ at. option_map_or (act at) (handle_at m.state at) (refuses refusal.NotLive asking))
+      o (refuses refusal.EmptyRegister asking)) named
+      ∙ ap (λ o. option_map_or (act slot) o (refuses refusal.NotLive asking)) live
+
+  abbrev up_register : Cmd → ℕ
+  up_register (cmd.HUp h) = h
+  up_register c = 0
+
+  -- the count of the handle may rise where it is below its end
+  pub counts-up : ((h : Handle Id) → handle_at m.state slot ≡ Some h → count_of h.extra + 1 < 2 ^ 32)
+      → (h : ℕ) → cmd.HUp 0 ≡ cmd.HUp h → MayCountUp asking caller h
+  counts-up small h same at held names here =
+      let first = subst (λ x. handle_register_of asking caller x ≡ Some at) (sym (ap up_register same)) names in
+      small held (subst (λ x. handle_at m.state x ≡ Some held) (same_Some at slot (sym first ∙ named)) here)
+
+  pub target_set : (t : ℕ) → set_target asking caller 0 t
+      ≡ pointed_outcome caller slot (set_target_of m.state caller t slot handle)
+  target_set t =
+      found (set_target_of asking caller t)
+      ∙ by_test caller slot (is_kind handle.kind kind.Dependent && is_some (register_of m.state caller t))
+      (refuses refusal.WrongKind m.state) (reply_with reply.Done (with_handle m.state slot (record handle {
+        target = register_of m.state caller t;
+        extra = without_secondary handle.extra;
+      })))
+
+  pub secondary_set : (r : ℕ) → set_secondary asking caller 0 r
+      ≡ pointed_outcome caller slot (set_secondary_of m.state caller r slot handle)
+  secondary_set r =
+      let done = reply_with reply.Done
+      (with_handle m.state slot (record handle { extra = secondary (register_of m.state caller r) })) in
+      let none = refuses refusal.Null m.state in
+      let other = refuses refusal.WrongKind m.state in
+      let is_dependent = is_kind handle.kind kind.Dependent in
+      found (set_secondary_of asking caller r)
+      ∙ ap (λ x. if is_dependent then x else pointed_outcome caller slot other)
+      (by_target caller slot handle.target done none)
+      ∙ by_test caller slot is_dependent (option_map_or (λ _. done) handle.target none) other
+
+  pub secondary_got : (d : ℕ) → get_secondary asking caller d 0
+      ≡ pointed_outcome caller slot (get_secondary_of m.state caller d slot handle)
+  secondary_got d =
+      let v = secondary_of handle.extra in
+      found (get_secondary_of asking caller d)
+      ∙ by_test caller slot (is_kind handle.kind kind.Dependent)
+      (reply_with (load_reply v) (with_register m.state caller d v)) (refuses refusal.WrongKind m.state)
+
+  pub strength_set : (given : Strength) → set_strength asking caller 0 given
+      ≡ pointed_outcome caller slot (set_strength_of m.state given slot handle)
+  strength_set given =
+      found (set_strength_of asking given)
+      ∙ by_test caller slot (is_kind handle.kind kind.Variable)
+      (reply_with reply.Done (with_handle m.state slot (record handle { extra = strength given })))
+      (refuses refusal.WrongKind m.state)
+
+  pub count_raised : raise_count asking caller 0
+      ≡ pointed_outcome caller slot (raise_count_of m.state slot handle)
+  count_raised =
+      found (raise_count_of asking)
+      ∙ by_test caller slot (is_kind handle.kind kind.Counted)
+      (with_count m.state slot handle (count_of handle.extra + 1)) (refuses refusal.WrongKind m.state)
+
+  pub count_lowered : lower_count asking caller 0
+      ≡ pointed_outcome caller slot (lower_count_of m.state slot handle)
+  count_lowered =
+      let none = refuses refusal.CountZero m.state in
+      let less = with_count m.state slot handle (count_of handle.extra - 1) in
+      let other = refuses refusal.WrongKind m.state in
+      let is_counted = is_kind handle.kind kind.Counted in
+      found (lower_count_of asking)
+      ∙ ap (λ x. if is_counted then x else pointed_outcome caller slot other)
+      (by_test caller slot (count_of handle.extra == 0) none less)
+      ∙ by_test caller slot is_counted (if count_of handle.extra == 0 then none else less) other
+
+-- what came of a handle came of the command, from a store with the slot in the register to one with it
+module _ {m k : Machine} {caller : ℕ} {slot : Slot} {handle : Handle Id} {c : Cmd} {w : Outcome} {ages : List ℕ}
+    {r : Result Done Refusal} (sound : IsSound m) (known : caller < m.numbers.callers) (valid : IsValid c)
+    (within : StaysWithin (pointed m caller (Some slot)).state caller c) (before : IsOverHeap m) (now : IsOverHeap k)
+    (plain : (touched_by c).pinned ≡ false) (makes : (touched_by c).makes_object ≡ false)
+    (room : asks_of (pointed m caller (Some slot)).state caller c ≡ no_room)
+    (way : way_of (pointed m caller (Some slot)).state caller c ≡ decided (pointed_outcome caller slot w))
+    (came : ComesToAged w ages (seen_by m) (seen_by k) r)
+    (aged : ages ≡ aged_by (pointed m caller (Some slot)).state (entry_by caller c (done_of r)) m.ages) where
+  came_pointed : ComesToAged (pointed_outcome caller slot w) ages (seen_by (pointed m caller (Some slot)))
+      (seen_by (pointed k caller (Some slot))) r
+  came_pointed = (
+    came.0,
+    (
+      came.1.0,
+      ap (λ (s : State). with_handle_register s caller 0 (Some slot)) came.1.1,
+      came.1.2,
+      came.1.3,
+      came.1.4,
+    ),
+  )
+
+  pub called-of : HasCalled (pointed m caller (Some slot)) caller c None (pointed k caller (Some slot))
+      (entry_by caller c (done_of r))
+  called-of = called (sound-pointed m caller 0 (Some slot) sound known) known valid within
+      (over-pointed m caller (Some slot) before) (over-pointed k caller (Some slot) now) plain makes room way
+      came_pointed aged
+
+  pub sound-of : IsSound k
+  sound-of = sound-unpointed k caller (Some slot)
+      (sound-on (sound-pointed m caller 0 (Some slot) sound known) known valid within
+      (over-pointed m caller (Some slot) before) (over-pointed k caller (Some slot) now) plain makes room way
+      came_pointed aged)
+
+-- ---- the ages of a stored target or secondary
+
+module _ (m : Machine) (caller : ℕ) (slot : Slot) (handle : Handle Id) (sound : IsSound m)
+    (known : caller < m.numbers.callers) (live : handle_at m.state slot ≡ Some handle) where
+  abbrev from : State
+  from = (pointed m caller (Some slot)).state
+
+  pub target-aged : (t : ℕ) (w : Outcome) (r : Result Done Refusal)
+      → done_of r ≡ record { reply = w.reply; slot = w.slot; grown = Zero }
+      → cond (is_refused w.reply) m.ages (lowered_to m.state m.ages (Some slot) (register_of m.state caller t))
+      ≡ aged_by from (entry_by caller (cmd.HSet 0 t) (done_of r)) m.ages
+  target-aged t w r is =
+      ap (λ (d : Done). cond (is_refused d.reply) m.ages
+      (lowered_to m.state m.ages (Some slot) (register_of m.state caller t))) (sym is)
+      ∙ ap (λ o. cond (is_refused (done_of r).reply) m.ages
+      (lowered_to m.state m.ages o (register_of m.state caller t)))
+      (sym (named m caller slot handle sound known live))
+      ∙ ap (cond (is_refused (done_of r).reply) m.ages)
+      (alike (handle_register_of from caller 0) (register_of m.state caller t))
+    where
+      alike : (o : Option Slot) (x : Option Id) → lowered_to m.state m.ages o x ≡ lowered_to from m.ages o x
+      alike o None = refl
+      alike o (Some x) = refl
+
+  pub secondary-aged : (s : ℕ) (w : Outcome) (r : Result Done Refusal)
+      → done_of r ≡ record { reply = w.reply; slot = w.slot; grown = Zero }
+      → cond (is_refused w.reply) m.ages (lowered_at m.ages (Some slot) 0)
+      ≡ aged_by from (entry_by caller (cmd.HSec 0 s) (done_of r)) m.ages
+  secondary-aged s w r is =
+      ap (λ (d : Done). cond (is_refused d.reply) m.ages (lowered_at m.ages (Some slot) 0)) (sym is)
+      ∙ ap (λ o. cond (is_refused (done_of r).reply) m.ages (lowered_at m.ages o 0))
+      (sym (named m caller slot handle sound known live))
+
+-- the handle in a live slot
+pub live-one : (o : Option (Handle Id)) → IsSome o → (h : Handle Id) × (o ≡ Some h)
+live-one None live = absurd live
+live-one (Some h) live = (h, refl)
+
+-- ---- the handle in a slot is freed
+
+module _ (m k : Machine) (caller : ℕ) (slot : Slot) (handle : Handle Id) (sound : IsSound m)
+    (before : IsOverHeap m) (now : IsOverHeap k) (known : caller < m.numbers.callers)
+    (live : handle_at m.state slot ≡ Some handle)
+    (left : seen_by k ≡ record (seen_by m) { state = without_handle m.state slot }) where
+  abbrev asked : Machine
+  asked = pointed m caller (Some slot)
+
+  abbrev after : Machine
+  after = pointed k caller None
+
+  abbrev freed : Entry
+  freed = entry_by caller (cmd.HFree 0) (done_of (done_freeing (Ok slot)))
+
+  freed-after : after.state ≡ (free_handle asked.state caller 0).after
+  freed-after =
+      ap (λ (p : Seen Addr (FinMap nat_cmp Id)). with_handle_register p.state caller 0 None) left
+      ∙ ap (λ rows. record m.state {
+        handles = (without_handle m.state slot).handles;
+        handle_registers = rows;
+      }) (sym (rows-twice m.state.handle_registers caller 0 (Some slot) None))
+      ∙ ap (λ (w : Outcome). w.after)
+      (sym (found m caller slot handle sound known live (free_handle_of asked.state caller 0)))
+
+  free-ran : HasRun asked caller (cmd.HFree 0) None freed (IsPlainStep asked (cmd.HFree 0) after freed)
+  free-ran =
+      let is = found m caller slot handle sound known live (free_handle_of asked.state caller 0) in
+      record {
+        caller = refl;
+        command = refl;
+        effect = record {
+          plain = refl;
+          step = record {
+            reply = ap (λ (w : Outcome). w.reply) (sym is);
+            slot = ap (λ (w : Outcome). w.slot) (sym is);
+            grown = refl;
+            after = freed-after;
+          };
+          numbers = ap (λ (p : Seen Addr (FinMap nat_cmp Id)). p.numbers) left;
+          names = ap (λ (p : Seen Addr (FinMap nat_cmp Id)). p.rest) left;
+          ages = ap (λ (p : Seen Addr (FinMap nat_cmp Id)). p.ages) left;
+        };
+        offer = λ at none. absurd (cc none);
+        growth = tt;
+      }
+
+  may-free : MayRun asked caller (cmd.HFree 0) None
+  may-free =
+      may-run asked caller (cmd.HFree 0) None (sound-pointed m caller 0 (Some slot) sound known) known
+      (omega arith) tt (record { serial = λ d fields fin same. absurd (cc same); count = λ h same. absurd (cc same) })
+
+  pub free-called : HasCalled asked caller (cmd.HFree 0) None after freed
+  free-called =
+      has-called (sound-pointed m caller 0 (Some slot) sound known) may-free (over-pointed m caller (Some slot) before)
+      (over-pointed k caller None now) free-ran
+
+  pub free-sound : IsSound k
+  free-sound =
+      sound-unpointed k caller None
+      (stays-sound (sound-pointed m caller 0 (Some slot) sound known) may-free
+      (over-pointed m caller (Some slot) before) (over-pointed k caller None now) free-ran)
+
+-- ---- a handle is made
+
+made-over : (k : Machine) (caller : ℕ) (r : Result (Slot × Grown) Refusal) → IsOverHeap k
+    → IsOverHeap (pointed_made k caller 0 r)
+made-over k caller (Ok made) over = over-pointed k caller (Some made.0) over
+made-over k caller (Err refused) over = over
+
+made-sound : (k : Machine) (caller : ℕ) (r : Result (Slot × Grown) Refusal) → IsSound (pointed_made k caller 0 r)
+    → IsSound k
+made-sound k caller (Ok made) sound = sound-unpointed k caller (Some made.0) sound
+made-sound k caller (Err refused) sound = sound
+
+made-offer : (s : State) (caller : ℕ) (make : Make) (t : ℕ) (offer : Option Slot)
+    → IfSome offer (IsFree s (kind_of make)) → IsOffer s caller (cmd.HNew 0 make t) offer
+made-offer s caller make t None free = tt
+made-offer s caller make t (Some slot) free = free
+
+module _ (m k : Machine) (caller : ℕ) (make : Make) (t : ℕ) (offer : Option Slot)
+    (r : Result (Slot × Grown) Refusal) (sound : IsSound m) (before : IsOverHeap m) (now : IsOverHeap k)
+    (known : caller < m.numbers.callers) (valid : IsValid (cmd.HNew 0 make t))
+    (free : IfSome offer (IsFree m.state (kind_of make)))
+    (ran : HasRun m caller (cmd.HNew 0 make t) offer
+    (entry_by caller (cmd.HNew 0 make t) (done_of (done_making r)))
+    (IsPlainStep m (cmd.HNew 0 make t) (pointed_made k caller 0 r)
+    (entry_by caller (cmd.HNew 0 make t) (done_of (done_making r))))) where
+  may-make : MayRun m caller (cmd.HNew 0 make t) offer
+  may-make =
+      may-run m caller (cmd.HNew 0 make t) offer sound known valid
+      (made-offer m.state caller make t offer free)
+      (record { serial = λ d fields fin same. absurd (cc same); count = λ h same. absurd (cc same) })
+
+  pub make-called : HasCalled m caller (cmd.HNew 0 make t) offer (pointed_made k caller 0 r)
+      (entry_by caller (cmd.HNew 0 make t) (done_of (done_making r)))
+  make-called = has-called sound may-make before (made-over k caller r now) ran
+
+  pub make-sound : IsSound k
+  make-sound = made-sound k caller r (stays-sound sound may-make before (made-over k caller r now) ran)
+
+-- ---- the address of what the handle in a slot pins
+
+module _ (m : Machine) (caller : ℕ) (slot : Slot) (handle : Handle Id) (sound : IsSound m) (over : IsOverHeap m)
+    (known : caller < m.numbers.callers) (live : handle_at m.state slot ≡ Some handle) where
+  abbrev pinning : Machine
+  pinning = pointed m caller (Some slot)
+
+  pins-it : pinned_in pinning.state caller 0 ≡ pinned_of handle
+  pins-it =
+      ap (λ o. option_map_or (λ at. option_map_or pinned_of (handle_at m.state at) (Err refusal.NotLive)) o
+      (Err refusal.EmptyRegister)) (named m caller slot handle sound known live)
+      ∙ ap (λ o. option_map_or pinned_of o (Err refusal.NotLive)) live
+
+  address-ran : (r : Result ℕ Refusal)
+      → KeepsPinned pinning (entry_by caller (cmd.AddrOf 0) (done_of (done_with reply.Place r))) pinning
+      → HasCalled pinning caller (cmd.AddrOf 0) None pinning
+      (entry_by caller (cmd.AddrOf 0) (done_of (done_with reply.Place r)))
+  address-ran (Ok a) kept =
+      kept-called (over-pointed m caller (Some slot) over) (over-pointed m caller (Some slot) over) (record {
+        caller = refl;
+        command = refl;
+        effect = kept;
+        offer = λ at none. absurd (cc none);
+        growth = tt;
+      })
+  address-ran (Err refused) kept =
+      kept-called (over-pointed m caller (Some slot) over) (over-pointed m caller (Some slot) over) (record {
+        caller = refl;
+        command = refl;
+        effect = kept;
+        offer = λ at none. absurd (cc none);
+        growth = tt;
+      })
+
+  pub address-called : (r : Result ℕ Refusal)
+      → MatchResult r (λ a. (pinned_of handle ≡ Ok (name_in m.names (record { 0 = a })))
+      × HasAddress m (record { 0 = a })) (λ refused. pinned_of handle ≡ Err refused)
+      → HasCalled pinning caller (cmd.AddrOf 0) None pinning
+      (entry_by caller (cmd.AddrOf 0) (done_of (done_with reply.Place r)))
+  address-called (Ok a) is =
+      address-ran (Ok a) (addr-replies pinning caller 0 known (omega arith) (record { 0 = a })
+      (record { may = is.1.may; addresses = is.1.addresses }) (sym (pins-it ∙ is.0)))
+  address-called (Err refused) is =
+      address-ran (Err refused) (addr-refused pinning caller 0 known (omega arith) refused (sym (pins-it ∙ is)))

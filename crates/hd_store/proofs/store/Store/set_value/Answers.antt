@@ -1,0 +1,28 @@
+use Rattle.hd_store.proofs.StoreWords.{Machine, refl, subst, sym, ◌<◌}
+use Rattle.hd_model.specs.declared.command.Cmd.TheVariants as cmd
+use Rattle.hd_model.specs.declared.data.Reply.TheVariants as reply
+use Rattle.hd_store.specs.Calls.{HasReturned}
+use Rattle.hd_store.proofs.ValueCalls.{called, endless, sound-on, unaged}
+use Rattle.hd_store.proofs.store.Store.set_value.Goals as goal
+
+pub set_value-came-requires-clause-object : goal.set_value-came-requires-clause-object
+set_value-came-requires-clause-object c = c.self.invariant.well_formed.names.registers c.args.caller
+    c.args.o
+
+pub invariant_of-self : goal.invariant_of-self
+invariant_of-self c =
+    sound-on c.self.invariant
+    (subst (λ (m : Machine). c.args.caller < m.numbers.callers) (sym c.self.view_is) c.requires.caller)
+    (c.requires.register, c.ranges.n) (endless refl)
+    c.objects-before.ensures.heap c.objects-after.ensures.heap refl refl refl refl c.set_value-came.ensures
+    (unaged _ _)
+
+pub returns : goal.returns
+returns c =
+    subst (λ (m : Machine). HasReturned m c.args.caller (cmd.Val c.args.o c.args.n) (λ _. reply.Done)
+    c.set_value-came.new.parts c.set_value-came.result) c.self.view_is
+    (called c.self.invariant
+    (subst (λ (m : Machine). c.args.caller < m.numbers.callers) (sym c.self.view_is) c.requires.caller)
+    (c.requires.register, c.ranges.n) (endless refl)
+    c.objects-before.ensures.heap c.objects-after.ensures.heap refl refl refl refl c.set_value-came.ensures
+    (unaged _ _))
