@@ -20,12 +20,12 @@ pub use Rattle.hd_model.specs.Table.{IsLeastWithout, IsTable, Table, chain_of, e
 pub use Rattle.hd_model.specs.declared.data.Addr.{Addr}
 pub use Rattle.hd_model.specs.declared.data.Kind.{Kind}
 pub use Rattle.hd_seg.specs.{Inside.HasUnused, Inside.IsBlocks, Inside.IsLinked, Inside.IsListed, Inside.numbered, Blocks.Uses, Blocks.block_at, Blocks.extras_at, Blocks.use_at, Blocks.use_of, Blocks.uses_in}
-pub use Rattle.hd_seg.specs.{Inside.IsPaired, Inside.IsSeg, Inside.with_cell, Cells.cell_at, Cells.cell_in, Cells.extra_held, Cells.extra_index, Cells.extra_index_in, Cells.row_by, Cells.row_in, Cells.table_in}
+pub use Rattle.hd_seg.specs.{Inside.IsPaired, Inside.IsSeg, Inside.with_extra}
+pub use Rattle.hd_seg.specs.Rows.{Vectors, extra_at, extra_index, extra_index_in, live_bit, row_by, row_in, table_in, target_at}
 pub use Rattle.hd_seg.specs.Mapped.{mapped, with_entry}
 pub use Rattle.hd_model.specs.Handles.{extra_of}
 pub use Rattle.hd_seg.specs.Row.{block_kind_of, extra_from, handle_of, row_of}
 pub use Rattle.hd_seg.specs.declared.block.Block.{Block}
-pub use Rattle.hd_seg.specs.declared.cells.Cell.{Cell}
 pub use Rattle.hd_model.specs.declared.handle.Extra.{Extra}
 pub use Rattle.hd_seg.specs.declared.row.Row.{Row}
 pub use Rattle.hd_model.specs.declared.limits.TheConstants.{BLOCKS, CLUMP, CLUMPS, KINDS, ROWS}

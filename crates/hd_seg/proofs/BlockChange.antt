@@ -1,48 +1,39 @@
 -- Rows are unchanged where a block comes into use or is taken back.
-use Rattle.hd_seg.proofs.Basics.{Addr, BlockUse, Cell, IsPaired, IsSeg, IsTable, Kind, List, None, Option, ROWS, Some, Table, Uses, ap, arith, cases_eq, cell_at, cell_in, cond, extra_data, extra_index, false, get, get_beside, get_left, handles_of, has_handles, inl, inr, insert, is_paired, is_single, is_some, kind_in, len, mapped, not-true, extra_index_in, refl, row_by, row_in, same_Some, sym, table_in, true, true≢false, with_block, with_data, without_block, ℕ, ◌%◌, ◌*◌, ◌+◌, ◌/◌, ◌∙◌, ◌≡◌, ◌≢◌, ◌≤◌}
+use Rattle.hd_seg.proofs.Basics.{BlockUse, IsPaired, IsSeg, IsTable, Kind, None, Option, ROWS, Some, Table, Uses, Vectors, ap, arith, cases_eq, cond, extra_at, extra_data, extra_index, false, get, get_beside, get_left, handles_of, has_handles, inl, inr, insert, is_paired, is_single, is_some, kind_in, len, live_bit, mapped, not-true, extra_index_in, refl, row_by, row_in, same_Some, sym, table_in, target_at, true, true≢false, with_block, with_data, without_block, ℕ, ◌%◌, ◌*◌, ◌/◌, ◌∙◌, ◌≡◌, ◌≢◌, ◌≤◌}
 use Rattle.hd_seg.proofs.FunctionMaps.{mapped-same, get-insert_same, get-remove_same}
 use Rattle.hd_seg.proofs.ChainLinks.{none_is_some, some_of, one_kind}
-use Rattle.hd_seg.proofs.{BlockAdd.extras_apart, RowCells.row-unused, RowCells.row-empty}
-use Rattle.hd_seg.specs.declared.cells.Cell.TheVariants as cell
+use Rattle.hd_seg.proofs.{BlockAdd.extras_apart, RowVectors.bit_is, RowVectors.row-clear, RowVectors.row-unused}
 
 -- a use is not nothing
 unused_apart : (o : Option BlockUse) (k : BlockUse) → o ≡ None → o ≡ Some k → ⊥
 unused_apart o k none is = none_is_some _ none (some_of _ _ is)
 
-module _ {u : Uses} {cells : List Cell} {masks : List ℕ} {live : ℕ} (inv : IsSeg u cells masks live) where
+module _ {u : Uses} {v : Vectors} {live : ℕ} (inv : IsSeg u v live) where
   -- other uses and data blocks of the same number of blocks, under which each row is as it was
-  module _ (v : Uses) (blocks : v.table.blocks ≡ u.table.blocks)
-      (rows : (q : ℕ) → row_in v cells q ≡ row_in u cells q) where
-    pub rows-same : mapped ROWS (ROWS * v.table.blocks) (row_in v cells) ≡ mapped ROWS (ROWS * u.table.blocks)
-        (row_in u cells)
-    rows-same = mapped-same ROWS (ROWS * v.table.blocks) (row_in u cells) (row_in v cells)
-        (λ q low high. rows q)
-        ∙ ap (λ n. mapped ROWS (ROWS * n) (row_in u cells)) blocks
+  module _ (w : Uses) (blocks : w.table.blocks ≡ u.table.blocks)
+      (rows : (q : ℕ) → row_in w v q ≡ row_in u v q) where
+    pub rows-same : mapped ROWS (ROWS * w.table.blocks) (row_in w v) ≡ mapped ROWS (ROWS * u.table.blocks)
+        (row_in u v)
+    rows-same = mapped-same ROWS (ROWS * w.table.blocks) (row_in u v) (row_in w v) (λ q low high. rows q)
+        ∙ ap (λ n. mapped ROWS (ROWS * n) (row_in u v)) blocks
 
-    pub seg-same : IsTable v.table
-        → ((q : ℕ) → row_in u cells q ≡ None → (get v.table.uses (q / ROWS) ≡ Some extra_data → ⊥)
-        → cell_at cells q ≡ cell.Empty)
-        → ((q : ℕ) (t : Option Addr) → cell_at cells q ≡ cell.Target t
-        → has_handles (get v.table.uses (q / ROWS)) ≡ true)
-        → ((q : ℕ) → row_in u cells q ≡ None → cell_in cells (extra_index v q) ≡ cell.Empty)
-        → IsPaired v → IsSeg v cells masks live
-    seg-same table vacant targets cleared paired = record {
+    pub seg-same : IsTable w.table
+        → ((q : ℕ) → has_handles (get w.table.uses (q / ROWS)) ≡ false → live_bit v.masks q ≡ 0)
+        → IsPaired w → IsSeg w v live
+    seg-same table placed paired = record {
       table = table;
-      room = omega (arith, inv.room, blocks);
-      words = omega (arith, inv.words, blocks);
+      targets = omega (arith, inv.targets, blocks);
+      extras = omega (arith, inv.extras, blocks);
+      masks = omega (arith, inv.masks, blocks);
       counted = inv.counted ∙ sym (ap len rows-same);
-      bits = λ b i last lt. inv.bits b i (omega (arith, last, blocks)) lt
-          ∙ sym (ap (λ o. cond (is_some o) 1 0) (rows (ROWS * b + i)));
+      placed = placed;
       fitting = λ q h is. inv.fitting q h (sym (rows q) ∙ is);
-      vacant = λ q none plain. vacant q (sym (rows q) ∙ none) plain;
-      targets = targets;
-      cleared = λ q none. cleared q (sym (rows q) ∙ none);
       paired = paired;
     }
 
-  -- a cell of an unused block
-  unused_cell : (q : ℕ) → get u.table.uses (q / ROWS) ≡ None → cell_at cells q ≡ cell.Empty
-  unused_cell q none = inv.vacant q (row-unused _ _ _ none) (unused_apart _ extra_data none)
+  -- no bit of an unused block is set
+  unused_bit : (q : ℕ) → get u.table.uses (q / ROWS) ≡ None → live_bit v.masks q ≡ 0
+  unused_bit q none = inv.placed q (ap has_handles none)
 
   -- ---- a block of handles
   module _ (k : Kind) (b : ℕ) (none : get u.table.uses b ≡ None) (plain : get u.extras b ≡ None) where
@@ -58,21 +49,20 @@ module _ {u : Uses} {cells : List Cell} {masks : List ℕ} {live : ℕ} (inv : I
     was_none : (q : ℕ) → q ≡ b → get u.table.uses q ≡ None
     was_none q same = ap (get u.table.uses) same ∙ none
 
-    pub one_rows : (q : ℕ) → row_in one cells q ≡ row_in u cells q
+    pub one_rows : (q : ℕ) → row_in one v q ≡ row_in u v q
     one_rows q =
         elim (cases_eq (q / ROWS) b) [
-          | inl same ↦ row-empty _ _ _ (unused_cell q (was_none (q / ROWS) same))
-              ∙ sym (row-empty _ _ _ (unused_cell q (was_none (q / ROWS) same)))
-          | inr apart ↦ ap (λ o. row_by o (cell_at cells q) (cell_in cells (extra_index u q)))
-              (one_use (q / ROWS) apart)
+          | inl same ↦ row-clear _ _ _ _ (unused_bit q (was_none (q / ROWS) same))
+              ∙ sym (row-unused _ (live_bit v.masks q) _ _ (was_none (q / ROWS) same))
+          | inr apart ↦ ap (λ o. row_by o (live_bit v.masks q) (target_at v.targets q)
+              (extra_at v.extras (extra_index u q))) (one_use (q / ROWS) apart)
         ]
 
-    one_targets : (q : ℕ) (t : Option Addr) → cell_at cells q ≡ cell.Target t
-        → has_handles (get one.table.uses (q / ROWS)) ≡ true
-    one_targets q t is =
+    one_placed : (q : ℕ) → has_handles (get one.table.uses (q / ROWS)) ≡ false → live_bit v.masks q ≡ 0
+    one_placed q none =
         elim (cases_eq (q / ROWS) b) [
-          | inl same ↦ ap has_handles (one_here (q / ROWS) same)
-          | inr apart ↦ ap has_handles (one_use (q / ROWS) apart) ∙ inv.targets q t is
+          | inl same ↦ unused_bit q (was_none (q / ROWS) same)
+          | inr apart ↦ inv.placed q (ap has_handles (sym (one_use (q / ROWS) apart)) ∙ none)
         ]
 
     one_paired : is_paired k ≡ false → IsPaired one
@@ -90,17 +80,10 @@ module _ {u : Uses} {cells : List Cell} {masks : List ℕ} {live : ℕ} (inv : I
       apart = inv.paired.apart;
     }
 
-    pub one-seg : is_paired k ≡ false → IsTable (with_block u.table k b) → IsSeg one cells masks live
-    one-seg single table =
-        seg-same one refl one_rows table
-        (λ q nothing not_data.
-        elim (cases_eq (q / ROWS) b) [
-          | inl same ↦ unused_cell q (was_none (q / ROWS) same)
-          | inr apart ↦ inv.vacant q nothing (λ extras. not_data (one_use (q / ROWS) apart ∙ extras))
-        ])
-        one_targets inv.cleared (one_paired single)
+    pub one-seg : is_paired k ≡ false → IsTable (with_block u.table k b) → IsSeg one v live
+    one-seg single table = seg-same one refl one_rows table one_placed (one_paired single)
 
-    pub one-view : {t : Table} → table_in u cells ≡ t → table_in one cells ≡ with_block t k b
+    pub one-view : {t : Table} → table_in u v ≡ t → table_in one v ≡ with_block t k b
     one-view is =
         ap (λ m. let s : Table = record (with_block u.table k b) { rows = m } in s)
         (rows-same one refl one_rows) ∙ ap (λ s. with_block s k b) is
@@ -126,54 +109,27 @@ module _ {u : Uses} {cells : List Cell} {masks : List ℕ} {live : ℕ} (inv : I
       index_other : (q : ℕ) → q / ROWS ≢ b → extra_index two q ≡ extra_index u q
       index_other q not_b = ap (λ o. extra_index_in o (q % ROWS)) (get_beside u.extras b d (q / ROWS) not_b)
 
-      pub two_rows : (q : ℕ) → row_in two cells q ≡ row_in u cells q
+      pub two_rows : (q : ℕ) → row_in two v q ≡ row_in u v q
       two_rows q =
           elim (cases_eq (q / ROWS) b) [
-            | inl same ↦ row-empty _ _ _ (unused_cell q (was_none (q / ROWS) same))
-                ∙ sym (row-empty _ _ _ (unused_cell q (was_none (q / ROWS) same)))
+            | inl same ↦ row-clear _ _ _ _ (unused_bit q (was_none (q / ROWS) same))
+                ∙ sym (row-unused _ (live_bit v.masks q) _ _ (was_none (q / ROWS) same))
             | inr not_b ↦ elim (cases_eq (q / ROWS) d) [
-              | inl same ↦ row-empty _ _ _ (unused_cell q (d_none (q / ROWS) same))
-                  ∙ sym (row-empty _ _ _ (unused_cell q (d_none (q / ROWS) same)))
-              | inr not_d ↦
-                  ap (λ o. row_by o (cell_at cells q) (cell_in cells (extra_index two q)))
-                  (two_use (q / ROWS) not_b not_d)
-                  ∙ ap (λ o. row_by (get u.table.uses (q / ROWS)) (cell_at cells q) (cell_in cells o))
-                  (index_other q not_b)
+              | inl same ↦ row-clear _ _ _ _ (unused_bit q (d_none (q / ROWS) same))
+                  ∙ sym (row-unused _ (live_bit v.masks q) _ _ (d_none (q / ROWS) same))
+              | inr not_d ↦ λ i. row_by (two_use (q / ROWS) not_b not_d i) (live_bit v.masks q)
+                  (target_at v.targets q) (extra_at v.extras (index_other q not_b i))
             ]
           ]
 
-      two_vacant : (q : ℕ) → row_in u cells q ≡ None → (get two.table.uses (q / ROWS) ≡ Some extra_data → ⊥)
-          → cell_at cells q ≡ cell.Empty
-      two_vacant q nothing not_data =
+      two_placed : (q : ℕ) → has_handles (get two.table.uses (q / ROWS)) ≡ false → live_bit v.masks q ≡ 0
+      two_placed q none =
           elim (cases_eq (q / ROWS) b) [
-            | inl same ↦ unused_cell q (was_none (q / ROWS) same)
+            | inl same ↦ unused_bit q (was_none (q / ROWS) same)
             | inr not_b ↦ elim (cases_eq (q / ROWS) d) [
-              | inl same ↦ unused_cell q (d_none (q / ROWS) same)
-              | inr not_d ↦ inv.vacant q nothing
-                  (λ extras. not_data (two_use (q / ROWS) not_b not_d ∙ extras))
+              | inl same ↦ unused_bit q (d_none (q / ROWS) same)
+              | inr not_d ↦ inv.placed q (ap has_handles (sym (two_use (q / ROWS) not_b not_d)) ∙ none)
             ]
-          ]
-
-      two_targets : (q : ℕ) (t : Option Addr) → cell_at cells q ≡ cell.Target t
-          → has_handles (get two.table.uses (q / ROWS)) ≡ true
-      two_targets q t is =
-          elim (cases_eq (q / ROWS) b) [
-            | inl same ↦ ap has_handles (two_here (q / ROWS) same)
-            | inr not_b ↦ elim (cases_eq (q / ROWS) d) [
-              | inl same ↦ let no : cell.Empty ≡ cell.Target t = sym (unused_cell q (d_none (q / ROWS) same))
-                  ∙ is in absurd (cc)
-              | inr not_d ↦ ap has_handles (two_use (q / ROWS) not_b not_d) ∙ inv.targets q t is
-            ]
-          ]
-
-      two_cleared : (q : ℕ) → row_in u cells q ≡ None → cell_in cells (extra_index two q) ≡ cell.Empty
-      two_cleared q nothing =
-          elim (cases_eq (q / ROWS) b) [
-            | inl same ↦
-                let at : (d * ROWS + q % ROWS) / ROWS ≡ d = omega arith in
-                ap (λ o. cell_in cells (extra_index_in o (q % ROWS))) (get-insert_same u.extras b d
-                (q / ROWS) same) ∙ unused_cell (d * ROWS + q % ROWS) (d_none _ at)
-            | inr not_b ↦ ap (cell_in cells) (index_other q not_b) ∙ inv.cleared q nothing
           ]
 
       old_data : (q e : ℕ) → q ≢ b → get two.extras q ≡ Some e → get u.extras q ≡ Some e
@@ -222,20 +178,18 @@ module _ {u : Uses} {cells : List Cell} {masks : List ℕ} {live : ℕ} (inv : I
         ];
       }
 
-      pub two-seg : is_paired k ≡ true → IsTable (with_data (with_block u.table k b) d)
-          → IsSeg two cells masks live
-      two-seg paired table = seg-same two refl two_rows table two_vacant two_targets two_cleared
-          (two_paired paired)
+      pub two-seg : is_paired k ≡ true → IsTable (with_data (with_block u.table k b) d) → IsSeg two v live
+      two-seg paired table = seg-same two refl two_rows table two_placed (two_paired paired)
 
-      pub two-view : {t : Table} → table_in u cells ≡ t
-          → table_in two cells ≡ with_data (with_block t k b) d
+      pub two-view : {t : Table} → table_in u v ≡ t
+          → table_in two v ≡ with_data (with_block t k b) d
       two-view is =
           ap (λ m. let s : Table = record (with_data (with_block u.table k b) d) { rows = m } in s)
           (rows-same two refl two_rows) ∙ ap (λ s. with_data (with_block s k b) d) is
 
   -- ---- a block that is taken back
   module _ (b : ℕ) (k : Kind) (in_use : get u.table.uses b ≡ Some (handles_of k))
-      (vacant : (q : ℕ) → q / ROWS ≡ b → row_in u cells q ≡ None) where
+      (vacant : (q : ℕ) → q / ROWS ≡ b → row_in u v q ≡ None) where
     abbrev pub back : Uses
     back = record u { table = without_block u.table k b }
 
@@ -245,32 +199,24 @@ module _ {u : Uses} {cells : List Cell} {masks : List ℕ} {live : ℕ} (inv : I
     back_none : (q : ℕ) → q ≡ b → get back.table.uses q ≡ None
     back_none q same = get-remove_same u.table.uses b q same
 
-    pub back_rows : (q : ℕ) → row_in back cells q ≡ row_in u cells q
+    pub back_rows : (q : ℕ) → row_in back v q ≡ row_in u v q
     back_rows q =
         elim (cases_eq (q / ROWS) b) [
-          | inl same ↦ row-unused _ _ _ (back_none (q / ROWS) same) ∙ sym (vacant q same)
-          | inr apart ↦ ap (λ o. row_by o (cell_at cells q) (cell_in cells (extra_index u q)))
-              (back_use (q / ROWS) apart)
+          | inl same ↦ row-unused _ (live_bit v.masks q) _ _ (back_none (q / ROWS) same) ∙ sym (vacant q same)
+          | inr apart ↦ ap (λ o. row_by o (live_bit v.masks q) (target_at v.targets q)
+              (extra_at v.extras (extra_index u q))) (back_use (q / ROWS) apart)
         ]
 
-    bare_cell : (q : ℕ) → q / ROWS ≡ b → cell_at cells q ≡ cell.Empty
-    bare_cell q same = inv.vacant q (vacant q same)
-        (λ extras. extras_apart _ k extras (ap (get u.table.uses) same ∙ in_use))
+    back_placed : (q : ℕ) → has_handles (get back.table.uses (q / ROWS)) ≡ false → live_bit v.masks q ≡ 0
+    back_placed q none =
+        elim (cases_eq (q / ROWS) b) [
+          | inl same ↦ bit_is inv q ∙ ap (λ o. let n : ℕ = cond (is_some o) 1 0 in n) (vacant q same)
+          | inr apart ↦ inv.placed q (ap has_handles (sym (back_use (q / ROWS) apart)) ∙ none)
+        ]
 
-    pub back-seg : IsTable (without_block u.table k b) → IsSeg back cells masks live
+    pub back-seg : IsTable (without_block u.table k b) → IsSeg back v live
     back-seg table =
-        seg-same back refl back_rows table
-        (λ q nothing not_data.
-        elim (cases_eq (q / ROWS) b) [
-          | inl same ↦ bare_cell q same
-          | inr apart ↦ inv.vacant q nothing (λ extras. not_data (back_use (q / ROWS) apart ∙ extras))
-        ])
-        (λ q t is.
-        elim (cases_eq (q / ROWS) b) [
-          | inl same ↦ let no : cell.Empty ≡ cell.Target t = sym (bare_cell q same) ∙ is in absurd (cc)
-          | inr apart ↦ ap has_handles (back_use (q / ROWS) apart) ∙ inv.targets q t is
-        ])
-        inv.cleared
+        seg-same back refl back_rows table back_placed
         (record {
           paired = λ q j is.
               let apart : q ≢ b = λ same. unused_apart _ (handles_of j) (back_none q same) is in
@@ -282,7 +228,7 @@ module _ {u : Uses} {cells : List Cell} {masks : List ℕ} {live : ℕ} (inv : I
           apart = inv.paired.apart;
         })
 
-    pub back-view : {t : Table} → table_in u cells ≡ t → table_in back cells ≡ without_block t k b
+    pub back-view : {t : Table} → table_in u v ≡ t → table_in back v ≡ without_block t k b
     back-view is =
         ap (λ m. let s : Table = record (without_block u.table k b) { rows = m } in s)
         (rows-same back refl back_rows) ∙ ap (λ s. without_block s k b) is

@@ -3,7 +3,8 @@ pub mod FunctionMaps
 pub mod ChainLinks
 pub mod BlockAdd
 pub mod BlockRemove
-pub mod RowCells
+pub mod RowVectors
+pub mod SegVectors
 pub mod RowChange
 pub mod RowCalls
 pub mod BlockChange

@@ -1,11 +1,11 @@
 -- What the reading calls return, by the fields and the value of a table.
-use Rattle.hd_seg.proofs.Basics.{Addr, BlockUse, CLUMP, CLUMPS, Cell, Contains, Extra, Handle, IfSome, IsLeastWithout, IsSeg, IsSome, IsTable, Kind, List, None, Option, ROWS, Row, Some, Table, Uses, [], ap, arith, bit_and, bit_at, bit_at-shr, cell_at, cell_in, chain_of, cond, contains_key, drop, drop_more, empty, empty_table, extra_held, extra_of, extra_index, get, get-empty, get_beside, get_or, get_or_from_slice_get, handles_of, has_handles, is_some, kind_at, kind_in, len, len-empty, length, length-replicate, live_at, mapped, nat_cmp, option_map, extra_index_in, refl, replicate, row_by, row_in, row_of, same_Some, slice_get, slice_get_within, subst, suc, sym, table_in, take, take-append-drop, true, with_block, zero, ℕ, ◌%◌, ◌*◌, ◌++◌, ◌+◌, ◌/◌, ◌<◌, ◌^◌, ◌∙◌, ◌∷◌, ◌≡◌, ◌≤◌}
+use Rattle.hd_seg.proofs.Basics.{Addr, Bool, BlockUse, CLUMP, CLUMPS, Contains, Handle, IfSome, IsLeastWithout, IsSeg, IsTable, Kind, List, None, Option, ROWS, Some, Table, Uses, Vectors, [], ap, arith, bit_and, bit_at, bit_at-shr, chain_of, cond, contains_key, drop, drop_more, empty, empty_table, false, get, get-empty, get_beside, get_or, get_or_from_slice_get, handles_of, has_handles, is_some, kind_at, len, len-empty, length, length-replicate, live_bit, mapped, nat_cmp, refl, replicate, row_in, slice_get, slice_get_within, subst, suc, sym, table_in, take, take-append-drop, true, with_block, zero, ℕ, ◌%◌, ◌*◌, ◌++◌, ◌+◌, ◌/◌, ◌<◌, ◌==◌, ◌^◌, ◌∙◌, ◌∷◌, ◌≡◌, ◌≤◌}
 use Rattle.std.proofs.lemmas.Nat.Bits.{bit_at-zero, bit_at_and, bit_at_ones, bit_at-lt}
 use Rattle.hd_model.proofs.WholeScenes.{if_some_from}
-use Rattle.hd_seg.proofs.{FunctionMaps.mapped-empty, RowRewrite.live_row}
+use Rattle.hd_seg.proofs.{FunctionMaps.mapped-empty, RowCalls.row_seen}
 use Rattle.hd_seg.proofs.ChainLinks.{none_is_some, some_of, handles_in}
-use Rattle.hd_seg.proofs.RowCells.{extra-from-of, row-empty, row-extra, row_is}
-use Rattle.hd_seg.specs.declared.cells.Cell.TheVariants as cell
+use Rattle.hd_seg.proofs.RowVectors.{bit_is, row-clear}
+use Rattle.hd_model.specs.declared.handle.Extra.TheVariants.{Nothing}
 
 -- an element by its index
 contained : {A : Type 0} (xs : List A) (i : ℕ) (x : A) → slice_get xs i ≡ Some x → Contains xs x
@@ -61,63 +61,28 @@ module _ (t : Table) (is : IsTable t) (b : ℕ) (handles : has_handles (get t.us
 
 -- ---- rows
 
-module _ {u : Uses} {cells : List Cell} {masks : List ℕ} {live : ℕ} (inv : IsSeg u cells masks live)
-    (slot : ℕ) {t : Table} (view_is : table_in u cells ≡ t) where
-  seen : get t.rows slot ≡ row_in u cells slot
-  seen = ap (λ (v : Table). get v.rows slot) (sym view_is) ∙ row_is inv slot
-
-  -- nothing is read where there is no target
-  pub none_read : row_in u cells slot ≡ None → None ≡ option_map row_of (get t.rows slot)
-  none_read none = sym (ap (option_map row_of) (seen ∙ none))
-
-  pub empty_read : cell_at cells slot ≡ cell.Empty → None ≡ option_map row_of (get t.rows slot)
-  empty_read is = none_read (row-empty _ _ _ is)
-
-  pub extra_read : (e : Extra Addr) → cell_at cells slot ≡ cell.Extra e
-      → None ≡ option_map row_of (get t.rows slot)
-  extra_read e is = none_read (row-extra _ _ _ e is)
-
-  -- a target is that of a live row
-  pub row_read : (target : Option Addr) (e : Extra Addr) → cell_at cells slot ≡ cell.Target target
-      → e ≡ extra_held (cell_in cells (extra_index u slot))
-      → Some (record { target = target; extra = e }) ≡ option_map row_of (get t.rows slot)
-  row_read target e is held =
-      let handles : get u.table.uses (slot / ROWS)
-      ≡ Some (handles_of (kind_in (get u.table.uses (slot / ROWS)))) =
-      handles_in _ (inv.targets slot target is) in
-      let row : row_in u cells slot
-      ≡ Some (record {
-        kind = kind_in (get u.table.uses (slot / ROWS));
-        target = target;
-        extra = extra_of (extra_held (cell_in cells (extra_index u slot)));
-      }) =
-      ap (λ o. row_by o (cell_at cells slot) (cell_in cells (extra_index u slot))) handles
-      ∙ ap (λ c. row_by (Some (handles_of (kind_in (get u.table.uses (slot / ROWS))))) c
-      (cell_in cells (extra_index u slot))) is in
-      ap (λ x. let r : Row = record { target = target; extra = x } in Some r)
-      (held ∙ sym (extra-from-of (extra_held (cell_in cells (extra_index u slot)))))
-      ∙ sym (ap (option_map row_of) (seen ∙ row))
-
-  -- the target of a live row, which no other cell has
-  pub target_read : (target : Option Addr) → cell_at cells slot ≡ cell.Target target
-      → IsSome (get t.rows slot) → target ≡ (live_at t slot).target
-  target_read target is live =
-      ap (λ (r : Row). r.target)
-      (same_Some _ _ (row_read target (extra_held (cell_in cells (extra_index u slot))) is refl
-      ∙ ap (option_map row_of) (live_row t slot live)))
-
-  pub live_read : None ≡ option_map row_of (get t.rows slot) → IsSome (get t.rows slot) → ⊥
-  live_read none live = let e = none ∙ ap (option_map row_of) (live_row t slot live) in cc
-
 -- the live rows of a block, by the bits of its mask
-module _ {u : Uses} {cells : List Cell} {masks : List ℕ} {live : ℕ} (inv : IsSeg u cells masks live)
-    {t : Table} (view_is : table_in u cells ≡ t) where
-  pub row_bits : (mask block i : ℕ) → mask ≡ get_or masks block 0 → block ≤ u.table.blocks → i < ROWS
-      → bit_at mask i ≡ cond (contains_key t.rows (ROWS * block + i)) 1 0
-  row_bits mask block i is high lt =
-      ap (λ m. bit_at m i) is ∙ inv.bits block i high lt
-      ∙ ap (λ o. cond (is_some o) 1 0) (sym (row_is inv (ROWS * block + i))
-      ∙ ap (λ (v : Table). get v.rows (ROWS * block + i)) view_is)
+module _ {u : Uses} {v : Vectors} {live : ℕ} (inv : IsSeg u v live) {t : Table} (view_is : table_in u v ≡ t)
+  where
+    bit_seen : (slot : ℕ) → live_bit v.masks slot ≡ cond (contains_key t.rows slot) 1 0
+    bit_seen slot = bit_is inv slot ∙ ap (λ o. let n : ℕ = cond (is_some o) 1 0 in n)
+        (sym (row_seen inv slot view_is))
+
+    pub row_bits : (mask block i : ℕ) → mask ≡ get_or v.masks block 0 → i < ROWS
+        → bit_at mask i ≡ cond (contains_key t.rows (ROWS * block + i)) 1 0
+    row_bits mask block i is lt =
+        let at : (ROWS * block + i) / ROWS ≡ block = omega arith in
+        let row : (ROWS * block + i) % ROWS ≡ i = omega arith in
+        ap (λ m. bit_at m i) is ∙ ap (λ b. bit_at (get_or v.masks b 0) i) (sym at)
+        ∙ ap (bit_at (get_or v.masks ((ROWS * block + i) / ROWS) 0)) (sym row) ∙ bit_seen (ROWS * block + i)
+
+    -- whether a slot is live, by its bit
+    pub live_seen : (slot : ℕ) → (live_bit v.masks slot == 1) ≡ contains_key t.rows slot
+    live_seen slot = ap (λ n. n == 1) (bit_seen slot) ∙ at (contains_key t.rows slot)
+      where
+        at : (b : Bool) → (cond b 1 0 == 1) ≡ b
+        at true = refl
+        at false = refl
 
 -- those of a clump
 pub clump_bits : (t : Table) (mask block clump i : ℕ)
@@ -136,9 +101,9 @@ clump_bits t mask block clump i bits few lt =
 
 -- ---- the lowest unused block, with rows and without
 
-pub with_rows_least : (u : Uses) (cells : List Cell) {t : Table} → table_in u cells ≡ t → {from b : ℕ}
+pub with_rows_least : (u : Uses) (v : Vectors) {t : Table} → table_in u v ≡ t → {from b : ℕ}
     → IsLeastWithout u.table from b → IsLeastWithout t from b
-with_rows_least u cells is {from} {b} least =
+with_rows_least u v is {from} {b} least =
     subst (λ s. IsLeastWithout s from b) is
     (record { low = least.low; high = least.high; unused = least.unused; least = least.least })
 
@@ -155,11 +120,6 @@ next_least s k b d least = record {
 
 -- ---- an empty table
 
-empty_cell : (n : ℕ) (q : ℕ) → cell_at (replicate n cell.Empty) q ≡ cell.Empty
-empty_cell zero q = refl
-empty_cell (suc n) zero = refl
-empty_cell (suc n) (suc q) = empty_cell n q
-
 no_mask : (n : ℕ) (b : ℕ) → get_or (replicate {A = ℕ} n 0) b 0 ≡ 0
 no_mask zero b = refl
 no_mask (suc n) zero = refl
@@ -169,14 +129,18 @@ module _ (blocks : ℕ) where
   abbrev none : Uses
   none = record { table = empty_table blocks; extras = empty }
 
-  abbrev bare : List Cell
-  bare = replicate (ROWS * (blocks + 1)) cell.Empty
+  abbrev pub bare : Vectors
+  bare = record {
+    targets = replicate (ROWS * (blocks + 1)) None;
+    extras = replicate (ROWS * (blocks + 1)) Nothing;
+    masks = replicate (blocks + 1) 0;
+  }
+
+  no_bit : (q : ℕ) → live_bit bare.masks q ≡ 0
+  no_bit q = ap (λ m. bit_at m (q % ROWS)) (no_mask (blocks + 1) (q / ROWS)) ∙ bit_at-zero (q % ROWS)
 
   no_row : (q : ℕ) → row_in none bare q ≡ None
-  no_row q = row-empty _ _ _ (empty_cell (ROWS * (blocks + 1)) q)
-
-  no_extra_cell : (q : ℕ) → cell_in bare (extra_index none q) ≡ cell.Empty
-  no_extra_cell q = ap (λ o. cell_in bare (extra_index_in o (q % ROWS))) (get-empty nat_cmp (q / ROWS))
+  no_row q = row-clear _ _ _ _ (no_bit q)
 
   no_rows : mapped ROWS (ROWS * blocks) (row_in none bare) ≡ empty
   no_rows = mapped-empty ROWS (ROWS * blocks) (row_in none bare) (λ q low high. no_row q)
@@ -188,19 +152,15 @@ module _ (blocks : ℕ) where
   no_data q d is = absurd (none_is_some _ (get-empty nat_cmp q) (some_of _ _ is))
 
   pub seg-none : IsTable (empty_table blocks) → IsSeg (record { table = empty_table blocks; extras = empty })
-      (replicate (ROWS * (blocks + 1)) cell.Empty) (replicate (blocks + 1) 0) 0
+      bare 0
   seg-none table = record {
     table = table;
-    room = length-replicate (ROWS * (blocks + 1)) cell.Empty;
-    words = length-replicate (blocks + 1) 0;
+    targets = length-replicate (ROWS * (blocks + 1)) None;
+    extras = length-replicate (ROWS * (blocks + 1)) Nothing;
+    masks = length-replicate (blocks + 1) 0;
     counted = sym (ap len no_rows ∙ len-empty nat_cmp (Handle Addr));
-    bits = λ b i last lt. ap (λ m. bit_at m i) (no_mask (blocks + 1) b) ∙ bit_at-zero i
-        ∙ sym (ap (λ o. cond (is_some o) 1 0) (no_row (ROWS * b + i)));
+    placed = λ q _. no_bit q;
     fitting = λ q h is. absurd (none_is_some _ (no_row q) (some_of _ _ is));
-    vacant = λ q nothing plain. empty_cell (ROWS * (blocks + 1)) q;
-    targets = λ q t is. let no : cell.Empty ≡ cell.Target t = sym (empty_cell (ROWS * (blocks + 1)) q) ∙ is in
-        absurd (cc);
-    cleared = λ q nothing. no_extra_cell q;
     paired = record {
       paired = λ b k is. no_use b (handles_of k) is;
       used = λ b d is. no_data b d is;
@@ -209,6 +169,5 @@ module _ (blocks : ℕ) where
     };
   }
 
-  pub view-none : table_in (record { table = empty_table blocks; extras = empty })
-      (replicate (ROWS * (blocks + 1)) cell.Empty) ≡ empty_table blocks
+  pub view-none : table_in (record { table = empty_table blocks; extras = empty }) bare ≡ empty_table blocks
   view-none = ap (λ m. let s : Table = record (empty_table blocks) { rows = m } in s) no_rows

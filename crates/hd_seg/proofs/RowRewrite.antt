@@ -1,5 +1,5 @@
 -- A row that is written, once or twice.
-use Rattle.hd_seg.proofs.Basics.{Addr, Bool, Handle, IsSome, Kind, None, Option, Some, Table, ap, extra_from, extra_of, false, false≢true, fits, get, get_beside, is_count, is_nothing, is_paired, is_secondary, is_strength, live_at, refl, row_at, secondary, sym, true, unwrap_or, with_row, ℕ, ◌∙◌, ◌≡◌}
+use Rattle.hd_seg.proofs.Basics.{Addr, Bool, Handle, IsSome, Kind, None, Option, Some, Table, ap, contains_key, extra_from, extra_of, false, false≢true, fits, get, get_beside, is_count, is_nothing, is_paired, is_secondary, is_some, is_strength, live_at, option_map, refl, row_at, row_of, secondary, sym, true, unwrap_or, with_row, ℕ, ◌∙◌, ◌≡◌}
 use Rattle.hd_model.specs.declared.handle.Extra.TheVariants.{Nothing}
 use Rattle.hd_seg.specs.Rewriting.{Rewrites}
 use Rattle.hd_seg.proofs.FunctionMaps.{get-insert_same}
@@ -38,6 +38,13 @@ single_nothing k e =
     (λ no _. absurd (false≢true (sym no))) (λ no _. absurd (false≢true (sym no)))
     (λ no _. absurd (false≢true (sym no))) k
 
+-- and nothing fits it
+pub nothing_fits : (k : Kind) → is_paired k ≡ false → fits {N = Addr} k state.nothing ≡ true
+nothing_fits k =
+    by_fit (λ paired test. paired ≡ false → test state.nothing ≡ true) (λ _. refl)
+    (λ no. absurd (false≢true (sym no))) (λ no. absurd (false≢true (sym no)))
+    (λ no. absurd (false≢true (sym no))) k
+
 -- where one secondary fits, any does
 pub fits_secondary : (k : Kind) (e : state.Extra Addr) (x y : Option Addr) → e ≡ secondary x → fits k e ≡ true
     → fits k (secondary y) ≡ true
@@ -67,6 +74,17 @@ module _ (t : Table) (slot : ℕ) where
   -- the row of a live slot
   pub live_row : IsSome (get t.rows slot) → row_at t slot ≡ Some (live_at t slot)
   live_row live = some_live (get t.rows slot) live
+
+  -- what is read of a slot that is live, and of one that is not
+  pub some_read : IsSome (get t.rows slot) → Some (row_of (live_at t slot)) ≡ option_map row_of (get t.rows slot)
+  some_read live = sym (ap (option_map row_of) (live_row live))
+
+  pub none_read : contains_key t.rows slot ≡ false → None ≡ option_map row_of (get t.rows slot)
+  none_read = at (get t.rows slot)
+    where
+      at : (o : Option (Handle Addr)) → is_some o ≡ false → None ≡ option_map row_of o
+      at None is = refl
+      at (Some h) is = absurd (false≢true (sym is))
 
   -- a row that is written
   pub put_row : (h g : Handle Addr) (new : Table) → new ≡ with_row t slot g → g ≡ h → Rewrites slot h t new

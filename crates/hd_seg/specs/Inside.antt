@@ -1,14 +1,14 @@
 -- What private clauses alone cite.
-use Rattle.std.specs.Prelude.{◌≡◌, ℕ, ◌+◌, ◌<◌, ◌≤◌, List, [], ◌∷◌, length, sum_by, slice_index, slice_index_or, slice_set, Some, None, ◌*◌, ◌/◌, true, cond, Option, is_some}
-use Rattle.std.specs.{FinMap.len, FinMap.get, Int.bit_at}
+use Rattle.std.specs.Prelude.{◌≡◌, ℕ, ◌+◌, ◌<◌, ◌≤◌, List, [], ◌∷◌, length, sum_by, slice_index, slice_index_or, slice_set, Some, None, ◌*◌, ◌/◌, true, false, Option, is_some}
+use Rattle.std.specs.FinMap.{len, get}
 use Rattle.hd_model.specs.{declared.data.Kind.Kind, Kinds.kind_number, Kinds.is_paired, declared.data.Addr.Addr}
 use Rattle.hd_model.specs.declared.limits.TheConstants.{BLOCKS, KINDS, ROWS}
 use Rattle.hd_model.specs.State.{handles_of, Handle, extra_data}
 use Rattle.hd_model.specs.Table.{IsTable, fits, has_handles}
-use Rattle.hd_seg.specs.{declared.block.Block.Block, Mapped.mapped, declared.cells.Cell.Cell}
+use Rattle.hd_model.specs.declared.handle.Extra.{Extra}
+use Rattle.hd_seg.specs.{declared.block.Block.Block, Mapped.mapped}
 use Rattle.hd_seg.specs.Blocks.{block_at, use_at, extras_at, Uses}
-use Rattle.hd_seg.specs.Cells.{cell_at, cell_in, extra_index, row_in}
-use Rattle.hd_seg.specs.declared.cells.Cell.TheVariants as cell
+use Rattle.hd_seg.specs.Rows.{Vectors, live_bit, row_in}
 
 -- ---- the blocks of a table as the program keeps them. Each block has its index in the chain of its kind, so that
 -- the block after it is found without a search.
@@ -51,13 +51,13 @@ abbrev pub numbered : ℕ → List ℕ → List Block → List Block
 numbered i [] table = table
 numbered i (b ∷ bs) table = numbered (i + 1) bs (slice_set table b (record (block_at table b) { index = i }))
 
--- ---- where the rows of a table are stored: a block has 64 cells. The cell of a slot has its target, and the cell
--- at the same row index of the data block has its extra.
+-- ---- where the rows of a table are stored: targets by slot, extras by data block and row, and a mask of the live
+-- rows for each block.
 
--- the cells after a write to one that may be absent
-abbrev pub with_cell : List Cell → Option ℕ → Cell → List Cell
-with_cell cells None c = cells
-with_cell cells (Some q) c = slice_set cells q c
+-- the extras after a write to one that may be absent
+abbrev pub with_extra : List (Extra Addr) → Option ℕ → Extra Addr → List (Extra Addr)
+with_extra extras None e = extras
+with_extra extras (Some q) e = slice_set extras q e
 
 -- a block of handles has a data block exactly where its kind has extras, and no two have the same
 pub record IsPaired (u : Uses) : Type 0 where
@@ -67,19 +67,14 @@ pub record IsPaired (u : Uses) : Type 0 where
   pub within : (b d : ℕ) → get u.extras b ≡ Some d → d ≤ u.table.blocks
   pub apart : (a b d : ℕ) → get u.extras a ≡ Some d → get u.extras b ≡ Some d → a ≡ b
 
--- what is always true of a table: a live row has a bit of its block's mask and a fitting extra, cells without
--- a live row are empty, and only blocks of handles store targets
-pub record IsSeg (u : Uses) (cells : List Cell) (masks : List ℕ) (live : ℕ) : Type 0 where
+-- what is always true of a table: only blocks of handles have a set bit, so the live rows are exactly the set
+-- bits; and a live row has a fitting extra
+pub record IsSeg (u : Uses) (v : Vectors) (live : ℕ) : Type 0 where
   pub table : IsTable u.table
-  pub room : length cells ≡ ROWS * (u.table.blocks + 1)
-  pub words : length masks ≡ u.table.blocks + 1
-  pub counted : live ≡ len (mapped ROWS (ROWS * u.table.blocks) (row_in u cells))
-  pub bits : (b i : ℕ) → b ≤ u.table.blocks → i < ROWS → bit_at (slice_index masks b) i
-      ≡ cond (is_some (row_in u cells (ROWS * b + i))) 1 0
-  pub fitting : (slot : ℕ) (h : Handle Addr) → row_in u cells slot ≡ Some h → fits h.kind h.extra ≡ true
-  pub vacant : (q : ℕ) → row_in u cells q ≡ None → (get u.table.uses (q / ROWS) ≡ Some extra_data → ⊥)
-      → cell_at cells q ≡ cell.Empty
-  pub targets : (q : ℕ) (t : Option Addr) → cell_at cells q ≡ cell.Target t
-      → has_handles (get u.table.uses (q / ROWS)) ≡ true
-  pub cleared : (q : ℕ) → row_in u cells q ≡ None → cell_in cells (extra_index u q) ≡ cell.Empty
+  pub targets : length v.targets ≡ ROWS * (u.table.blocks + 1)
+  pub extras : length v.extras ≡ ROWS * (u.table.blocks + 1)
+  pub masks : length v.masks ≡ u.table.blocks + 1
+  pub counted : live ≡ len (mapped ROWS (ROWS * u.table.blocks) (row_in u v))
+  pub placed : (q : ℕ) → has_handles (get u.table.uses (q / ROWS)) ≡ false → live_bit v.masks q ≡ 0
+  pub fitting : (slot : ℕ) (h : Handle Addr) → row_in u v slot ≡ Some h → fits h.kind h.extra ≡ true
   pub paired : IsPaired u

@@ -1,6 +1,6 @@
 pub mod Row
 pub mod Mapped
 pub mod Blocks
-pub mod Cells
+pub mod Rows
 pub mod Rewriting
 pub mod Inside

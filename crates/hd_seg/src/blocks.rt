@@ -135,18 +135,8 @@ impl Blocks {
         self.table[block as usize].kind
     }
 
-    /// The block with the extras of a block's rows, if they have any. The block may be any number.
+    /// The block with the extras of a block's rows, if they have any.
     pub(crate) fn extras(&self, block: u32) -> Option<u32>
-        ensures value { result ≡ get self.now.extras block }
-    {
-        if block == 0 || block > self.number {
-            return None;
-        }
-        self.extras_of(block)
-    }
-
-    /// The same of a block of the table.
-    pub(crate) fn extras_of(&self, block: u32) -> Option<u32>
         requires low { 1 ≤ block }
         requires high { block ≤ self.now.table.blocks }
         ensures value { result ≡ get self.now.extras block }

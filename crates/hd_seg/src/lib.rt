@@ -7,7 +7,6 @@
 
 mod block;
 mod blocks;
-mod cells;
 mod change;
 mod row;
 mod seg;

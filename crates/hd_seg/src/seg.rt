@@ -2,7 +2,7 @@ ghost use Rattle.std.specs.Prelude.{◌≡◌, ℕ, ◌+◌, ◌*◌, ◌/◌, �
 ghost use Rattle.std.specs.Prelude.{option_map, slice_get, IfOk, IfErr, OnOk, OnErr, IfSome, IsSome};
 ghost use Rattle.std.specs.FinMap.{get, len, contains_key};
 ghost use Rattle.std.specs.Int.{bit_at};
-ghost use Rattle.hd_model.specs.{Kinds.is_paired, State.block_of, State.handles_of};
+ghost use Rattle.hd_model.specs.{Kinds.is_paired, State.block_of, State.handles_of, State.nothing};
 ghost use Rattle.hd_model.specs.Step.{blocks_needed};
 ghost use Rattle.hd_model.specs.Table.{IsTable, IsGrowth, chain_of, empty_table, fits, fits_in, grown_by};
 ghost use Rattle.hd_model.specs.Table.{has_handles, is_single, kind_at, live_at, with_row, without_row};
@@ -11,9 +11,8 @@ ghost use Rattle.hd_model.specs.Handles.{extra_of};
 ghost use Rattle.hd_seg.specs.Row.{handle_of, row_of, block_kind_of};
 
 use crate::blocks::Blocks;
-use crate::cells::Cell;
 use crate::row::{BlockKind, Full, Row};
-use crate::writes::{cell_of, extra_in, extra_index, extra_index_of, write_cell, write_row};
+use crate::writes::{extra_in, extra_index, is_marked, write_extra};
 use hd_mask::bit;
 use hd_model::limits::{BLOCKS, CLUMP, CLUMPS, ROWS};
 use hd_model::{Addr, Extra, Grown, Kind, Memory, Slot, filled};
@@ -25,11 +24,16 @@ const CLUMP_MASK: u64 = 0xffff;
 
 /// The table of handles.
 ///
-/// A mask has a set bit for each live row of its block. Cells and mask of block 0 are not used.
+/// A mask has a set bit for each live row of its block. What the other vectors have where a row is
+/// not live says nothing. Block 0 is not used.
 #[derive(Drop)]
 pub struct Seg {
     blocks: Blocks,
-    cells: Vec<Cell>,
+    // By slot.
+    targets: Vec<Option<Addr>>,
+    // By data block and row.
+    extras: Vec<Extra<Addr>>,
+    // By block.
     masks: Vec<u64>,
     live: u32,
 }
@@ -37,15 +41,18 @@ pub struct Seg {
 impl Model for Seg {
     ghost use Rattle.hd_model.specs.Table.{Table};
     ghost use Rattle.hd_model.specs.Code.{table_code};
-    ghost use Rattle.hd_seg.specs.{Cells.table_in, Inside.IsSeg};
+    ghost use Rattle.hd_seg.specs.{Rows.table_in, Inside.IsSeg};
 
     ghost Value = { Table };
 
     ghost coded = { table_code };
 
-    ghost view = { λ s. table_in s.blocks s.cells.items };
+    ghost view = { λ s. table_in s.blocks
+        (record { targets = s.targets.items; extras = s.extras.items; masks = s.masks.items }) };
 
-    ghost invariant = { λ s. IsSeg s.blocks s.cells.items s.masks.items s.live };
+    ghost invariant = { λ s. IsSeg s.blocks
+        (record { targets = s.targets.items; extras = s.extras.items; masks = s.masks.items })
+        s.live };
 }
 
 impl Seg {
@@ -54,12 +61,14 @@ impl Seg {
         requires { blocks ≤ BLOCKS }
         ensures { IfOk result (λ table. table ≡ empty_table blocks) }
     {
-        let cells = filled(alloc, Cell::Empty, ROWS * (blocks + 1))?;
+        let targets = filled(alloc, None, ROWS * (blocks + 1))?;
+        let extras = filled(alloc, Extra::Nothing, ROWS * (blocks + 1))?;
         let masks = filled(alloc, 0, blocks + 1)?;
         let blocks = Blocks::open(alloc, blocks)?;
         Ok(Seg {
             blocks,
-            cells,
+            targets,
+            extras,
             masks,
             live: 0,
         })
@@ -125,22 +134,41 @@ impl Seg {
         self.live
     }
 
+    /// Whether a slot, which may be any number, is live.
+    #[inline(always)]
+    pub fn is_live(&self, slot: Slot) -> bool
+        ensures value { result ≡ contains_key self.now.rows slot.0 }
+        ensures table { IsTable self.now }
+    {
+        is_marked(&self.masks, slot)
+    }
+
+    /// The kind of a live row.
+    #[inline(always)]
+    pub fn live_kind(&self, slot: Slot) -> Kind
+        requires { IsSome (get self.now.rows slot.0) }
+        ensures value { result ≡ (live_at self.now slot.0).kind }
+        ensures table { IsTable self.now }
+    {
+        match self.blocks.kind(slot.0 / ROWS) {
+            BlockKind::Rows(kind) => kind,
+            BlockKind::Unused | BlockKind::Extras => unreachable!(),
+        }
+    }
+
     /// The row of a slot, if the slot is live. The slot may be any number.
     pub fn row(&self, slot: Slot) -> Option<Row>
         ensures value { result ≡ option_map row_of (get self.now.rows slot.0) }
         ensures table { IsTable self.now }
     {
-        match cell_of(&self.cells, slot) {
-            Cell::Empty | Cell::Extra(_) => None,
-            Cell::Target(target) => {
-                let extra = extra_in(&self.cells, extra_index(&self.blocks, slot));
-                Some(Row { target, extra })
-            }
+        if !self.is_live(slot) {
+            return None;
         }
+        Some(self.live_row(slot))
     }
 
     /// The row of a live slot, where it is known whether its kind has extra data: where it has
-    /// none, one cell is read.
+    /// none, the target alone is read.
     #[inline(always)]
     pub fn row_by(&self, slot: Slot, paired: bool) -> Row
         requires live { IsSome (get self.now.rows slot.0) }
@@ -148,29 +176,39 @@ impl Seg {
         ensures value { result ≡ row_of (live_at self.now slot.0) }
         ensures table { IsTable self.now }
     {
-        let target = self.target(slot);
-        if !paired {
-            let extra = Extra::Nothing;
-            return Row { target, extra };
+        if paired {
+            return self.live_row(slot);
         }
-        let index = extra_index_of(&self.blocks, slot);
-        let extra = extra_in(&self.cells, index);
+        let target = self.target(slot);
+        let extra = Extra::Nothing;
+        Row { target, extra }
+    }
+
+    // The row of a live slot.
+    #[inline(always)]
+    fn live_row(&self, slot: Slot) -> Row
+        requires { IsSome (get self.now.rows slot.0) }
+        ensures value { result ≡ row_of (live_at self.now slot.0) }
+        ensures table { IsTable self.now }
+    {
+        let target = self.target(slot);
+        let index = extra_index(&self.blocks, slot);
+        let extra = extra_in(&self.extras, index);
         Row { target, extra }
     }
 
     /// The target of a live row.
+    #[inline(always)]
     pub fn target(&self, slot: Slot) -> Option<Addr>
         requires { IsSome (get self.now.rows slot.0) }
         ensures value { result ≡ (live_at self.now slot.0).target }
         ensures table { IsTable self.now }
     {
-        match self.cells[slot.0 as usize] {
-            Cell::Target(target) => target,
-            Cell::Empty | Cell::Extra(_) => None,
-        }
+        self.targets[slot.0 as usize]
     }
 
     /// Puts a row into a slot that is not live.
+    #[inline(always)]
     pub fn put_row(&mut self, slot: Slot, row: Row)
         requires vacant { get self.old.rows slot.0 ≡ None }
         requires fitting { fits_in (get self.old.uses (block_of slot)) (extra_of row.extra) ≡ true }
@@ -178,23 +216,33 @@ impl Seg {
             self.new ≡ with_row self.old slot.0 (handle_of kind row) }
     {
         let index = extra_index(&self.blocks, slot);
-        let block = (slot.0 / ROWS) as usize;
-        let target = Cell::Target(row.target);
-        let extra = Cell::Extra(row.extra);
-        write_row(&mut self.cells, slot, index, target, extra);
-        self.masks[block] |= bit(slot.0 % ROWS);
+        write_extra(&mut self.extras, index, row.extra);
+        self.targets[slot.0 as usize] = row.target;
+        self.masks[(slot.0 / ROWS) as usize] |= bit(slot.0 % ROWS);
+        self.live += 1;
+    }
+
+    /// Puts a row without an extra into a slot that is not live.
+    #[inline(always)]
+    pub fn put_plain_row(&mut self, slot: Slot, target: Option<Addr>)
+        requires vacant { get self.old.rows slot.0 ≡ None }
+        requires single { is_single (get self.old.uses (block_of slot)) ≡ true }
+        ensures { let kind = kind_at self.old (block_of slot) in
+            self.new ≡ with_row self.old slot.0
+            (record { kind = kind; target = target; extra = nothing }) }
+    {
+        self.targets[slot.0 as usize] = target;
+        self.masks[(slot.0 / ROWS) as usize] |= bit(slot.0 % ROWS);
         self.live += 1;
     }
 
     /// Frees a live slot. Nothing of its row stays.
+    #[inline(always)]
     pub fn take_row(&mut self, slot: Slot)
         requires { IsSome (get self.old.rows slot.0) }
         ensures { self.new ≡ without_row self.old slot.0 }
     {
-        let index = extra_index(&self.blocks, slot);
-        let block = (slot.0 / ROWS) as usize;
-        write_row(&mut self.cells, slot, index, Cell::Empty, Cell::Empty);
-        self.masks[block] ^= bit(slot.0 % ROWS);
+        self.masks[(slot.0 / ROWS) as usize] ^= bit(slot.0 % ROWS);
         self.live -= 1;
     }
 
@@ -204,7 +252,7 @@ impl Seg {
         ensures { let handle = live_at self.old slot.0 in
             self.new ≡ with_row self.old slot.0 (record handle { target = target }) }
     {
-        self.cells[slot.0 as usize] = Cell::Target(target);
+        self.targets[slot.0 as usize] = target;
     }
 
     /// Gives a live row that has a target another one.
@@ -214,20 +262,19 @@ impl Seg {
         ensures { let handle = live_at self.old slot.0 in
             self.new ≡ with_row self.old slot.0 (record handle { target = Some to }) }
     {
-        if let Cell::Target(Some(target)) = &mut self.cells[slot.0 as usize] {
-            *target = to;
-        }
+        self.targets[slot.0 as usize] = Some(to);
     }
 
     /// Gives a live row another extra.
+    #[inline(always)]
     pub fn set_extra(&mut self, slot: Slot, extra: Extra<Addr>)
         requires live { IsSome (get self.old.rows slot.0) }
         requires fitting { fits (live_at self.old slot.0).kind (extra_of extra) ≡ true }
         ensures { let handle = live_at self.old slot.0 in
             self.new ≡ with_row self.old slot.0 (record handle { extra = extra_of extra }) }
     {
-        let index = extra_index_of(&self.blocks, slot);
-        write_cell(&mut self.cells, index, Cell::Extra(extra));
+        let index = extra_index(&self.blocks, slot);
+        write_extra(&mut self.extras, index, extra);
     }
 
     /// The block at an index of the chain of a kind, if the chain has so many.

@@ -1,23 +1,25 @@
-ghost use Rattle.std.specs.Prelude.{◌≡◌, ℕ, ◌+◌, ◌*◌, ◌%◌, ◌<◌, ◌≤◌, Some, length, slice_set};
+ghost use Rattle.std.specs.Prelude.{◌≡◌, ℕ, ◌+◌, ◌*◌, ◌%◌, ◌<◌, ◌≤◌, ◌==◌, Some, length, slice_index_or};
 ghost use Rattle.std.specs.FinMap.{get};
 ghost use Rattle.std.specs.Option.{ForSome};
-ghost use Rattle.hd_seg.specs.{Cells.cell_at, Cells.cell_in, Cells.extra_held, Cells.extra_index, Inside.with_cell};
+ghost use Rattle.hd_seg.specs.{Rows.extra_at, Rows.extra_index, Rows.live_bit, Inside.with_extra};
 
 use crate::blocks::Blocks;
-use crate::cells::Cell;
+use hd_mask::bit;
 use hd_model::limits::{BLOCKS, ROWS};
 use hd_model::{Addr, Extra, Slot};
 
-/// The cell index of the extra of a slot's row, if its block has a data block.
+/// The index of the extra of a slot's row, if its block has a data block.
 pub(crate) fn extra_index(blocks: &Blocks, slot: Slot) -> Option<usize>
-    requires { (b d : ℕ) → get blocks.now.extras b ≡ Some d → d ≤ BLOCKS }
+    requires low { ROWS ≤ slot.0 }
+    requires high { slot.0 < ROWS * (blocks.now.table.blocks + 1) }
+    requires small { (b d : ℕ) → get blocks.now.extras b ≡ Some d → d ≤ BLOCKS }
     ensures { result ≡ extra_index blocks.now slot.0 }
 {
     let data = blocks.extras(slot.0 / ROWS)?;
     Some(extra_index_in(data, slot))
 }
 
-// The cell index of the extra of a slot's row, in a data block.
+// The index of the extra of a slot's row, in a data block.
 fn extra_index_in(block: u32, slot: Slot) -> usize
     requires { block ≤ BLOCKS }
     ensures { result ≡ block * ROWS + slot.0 % ROWS }
@@ -25,60 +27,38 @@ fn extra_index_in(block: u32, slot: Slot) -> usize
     (block * ROWS + slot.0 % ROWS) as usize
 }
 
-/// The same of a slot of the table.
-pub(crate) fn extra_index_of(blocks: &Blocks, slot: Slot) -> Option<usize>
-    requires low { ROWS ≤ slot.0 }
-    requires high { slot.0 < ROWS * (blocks.now.table.blocks + 1) }
-    requires small { (b d : ℕ) → get blocks.now.extras b ≡ Some d → d ≤ BLOCKS }
-    ensures { result ≡ extra_index blocks.now slot.0 }
+// The mask of a block, which may be any number.
+fn mask_at(masks: &[u64], block: u32) -> u64
+    ensures { result ≡ slice_index_or masks.now block 0 }
 {
-    let data = blocks.extras_of(slot.0 / ROWS)?;
-    Some(extra_index_in(data, slot))
+    masks.get(block as usize).copied().unwrap_or(0)
 }
 
-/// The cell of a slot, which may be any number.
-pub(crate) fn cell_of(cells: &[Cell], slot: Slot) -> Cell
-    ensures { result ≡ cell_at cells.now slot.0 }
+/// Whether the bit of a slot, which may be any number, is set.
+#[tactic(auto, using(hd_mask::proofs::Bits::mask_bits))]
+pub(crate) fn is_marked(masks: &[u64], slot: Slot) -> bool
+    ensures { result ≡ (live_bit masks.now slot.0 == 1) }
 {
-    cells.get(slot.0 as usize).copied().unwrap_or(Cell::Empty)
+    mask_at(masks, slot.0 / ROWS) & bit(slot.0 % ROWS) != 0
 }
 
-/// The extra in a cell, where there is one.
-pub(crate) fn extra_in(cells: &[Cell], index: Option<usize>) -> Extra<Addr>
-    requires { ForSome index (λ q. q < length cells.now) }
-    ensures { result ≡ extra_held (cell_in cells.now index) }
+/// The extra at an index, where there is one.
+pub(crate) fn extra_in(extras: &[Extra<Addr>], index: Option<usize>) -> Extra<Addr>
+    requires { ForSome index (λ q. q < length extras.now) }
+    ensures { result ≡ extra_at extras.now index }
 {
-    let Some(index) = index else {
-        return Extra::Nothing;
-    };
-    match cells[index] {
-        Cell::Extra(extra) => extra,
-        Cell::Empty | Cell::Target(_) => Extra::Nothing,
+    match index {
+        Some(index) => extras[index],
+        None => Extra::Nothing,
     }
 }
 
-/// Writes a cell, where there is one.
-pub(crate) fn write_cell(cells: &mut [Cell], index: Option<usize>, cell: Cell)
-    requires { ForSome index (λ q. q < length cells.old) }
-    ensures { cells.new ≡ with_cell cells.old index cell }
+/// Writes an extra, where there is room for one.
+pub(crate) fn write_extra(extras: &mut [Extra<Addr>], index: Option<usize>, extra: Extra<Addr>)
+    requires { ForSome index (λ q. q < length extras.old) }
+    ensures { extras.new ≡ with_extra extras.old index extra }
 {
     if let Some(index) = index {
-        cells[index] = cell;
+        extras[index] = extra;
     }
-}
-
-/// Writes the cell of a slot, and the cell with its extra where there is one.
-pub(crate) fn write_row(
-    cells: &mut [Cell],
-    slot: Slot,
-    index: Option<usize>,
-    target: Cell,
-    extra: Cell,
-)
-    requires slot { slot.0 < length cells.old }
-    requires index { ForSome index (λ q. q < length cells.old) }
-    ensures { cells.new ≡ with_cell (slice_set cells.old slot.0 target) index extra }
-{
-    cells[slot.0 as usize] = target;
-    write_cell(cells, index, extra);
 }

@@ -1,5 +1,5 @@
 use Rattle.hd_seg.proofs.Basics.{IsTable, List, Table, chain_of, kind_at, slice_get, subst, ℕ, ◌++◌, ◌∷◌, ◌≡◌}
-use Rattle.hd_seg.proofs.{RowCells.sound_table, ReadCalls.after_kind, ReadCalls.after_within}
+use Rattle.hd_seg.proofs.{RowVectors.sound_table, ReadCalls.after_kind, ReadCalls.after_within}
 use Rattle.hd_seg.proofs.seg.Seg.after.Goals.{After-after}
 use Rattle.hd_seg.proofs.seg.Seg.after.Goals as goal
 

@@ -1,5 +1,5 @@
 use Rattle.hd_seg.proofs.Basics.{IsTable, Table, ap, chain_of, slice_get, ◌∙◌, ◌≡◌}
-use Rattle.hd_seg.proofs.{RowCells.sound_table, ReadCalls.at_kind, ReadCalls.at_within}
+use Rattle.hd_seg.proofs.{RowVectors.sound_table, ReadCalls.at_kind, ReadCalls.at_within}
 use Rattle.hd_seg.proofs.seg.Seg.block_at.Goals.{After-at}
 use Rattle.hd_seg.proofs.seg.Seg.block_at.Goals as goal
 

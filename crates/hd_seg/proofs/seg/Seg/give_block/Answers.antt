@@ -1,6 +1,7 @@
 use Rattle.hd_seg.proofs.Basics.{IsLeastWithout, IsSeg, IsTable, Uses, ap, arith, cases_eq, cond, get, get_beside, handles_of, inl, inr, insert, is_some, len, subst, sym, table_in, true≢false, with_block, with_data, ◌+◌, ◌∙◌, ◌≡◌, ◌≤◌}
-use Rattle.hd_seg.proofs.{FunctionMaps.get-insert_same, FunctionMaps.len-insert_new, RowCells.is_table, RowCells.sound_table, ReadCalls.with_rows_least, ReadCalls.next_least}
+use Rattle.hd_seg.proofs.{FunctionMaps.get-insert_same, FunctionMaps.len-insert_new, RowVectors.is_table, RowVectors.sound_table, ReadCalls.with_rows_least, ReadCalls.next_least}
 use Rattle.hd_seg.proofs.BlockChange.{one-seg, one-view, two-seg, two-view}
+use Rattle.hd_seg.proofs.SegVectors.{vectors}
 use Rattle.hd_seg.proofs.seg.Seg.give_block.Goals.{then-paired, else-paired, After-add_data-arg-1, After-add_data-data}
 use Rattle.hd_seg.proofs.seg.Seg.give_block.Goals as goal
 
@@ -12,7 +13,7 @@ returns-then-unused-needed-clause-table c =
 
 pub invariant_of-self : goal.invariant_of-self
 invariant_of-self c =
-    subst (λ u. IsSeg u c.self.inside.cells.items c.self.inside.masks.items c.self.inside.live)
+    subst (λ u. IsSeg u (vectors c.self.inside) c.self.inside.live)
     (sym c.add-block.ensures.after)
     (one-seg c.self.invariant c.args.kind c.add-block.result c.add-block.ensures.least.unused
     c.add-block.ensures.plain (sym c.if-not-paired.ensures)
@@ -20,7 +21,7 @@ invariant_of-self c =
 
 pub returns-then-not-paired-clause-after : goal.returns-then-not-paired-clause-after
 returns-then-not-paired-clause-after c =
-    ap (λ u. table_in u c.self.inside.cells.items) c.add-block.ensures.after
+    ap (λ u. table_in u (vectors c.self.inside)) c.add-block.ensures.after
     ∙ one-view c.self.invariant c.args.kind c.add-block.result c.add-block.ensures.least.unused
     c.add-block.ensures.plain c.self.view_is
 
@@ -85,7 +86,7 @@ both c =
 
 pub invariant_of-self-2 : goal.invariant_of-self-2
 invariant_of-self-2 c =
-    subst (λ u. IsSeg u c.self.inside.cells.items c.self.inside.masks.items c.self.inside.live) (sym (both c))
+    subst (λ u. IsSeg u (vectors c.self.inside) c.self.inside.live) (sym (both c))
     (two-seg c.self.invariant c.args.kind c.add-block.result c.add-block.ensures.least.unused
     c.add-block.ensures.plain c.add_data-data.result (data_least c).unused
     (λ same. absurd (omega (arith, (data_least c).low))) (data_least c).high (sym c.if-not-paired.ensures)
@@ -94,13 +95,13 @@ invariant_of-self-2 c =
 pub returns-clause-grown : goal.returns-clause-grown
 returns-clause-grown c = (
   ap (λ b. cond b 2 1) (sym c.if-not-paired.ensures),
-  with_rows_least _ c.self.inside.cells.items c.self.view_is c.add-block.ensures.least,
-  with_rows_least _ c.self.inside.cells.items c.self.view_is (data_least c),
+  with_rows_least _ (vectors c.self.inside) c.self.view_is c.add-block.ensures.least,
+  with_rows_least _ (vectors c.self.inside) c.self.view_is (data_least c),
 )
 
 pub returns-clause-after : goal.returns-clause-after
 returns-clause-after c =
-    ap (λ u. table_in u c.self.inside.cells.items) (both c)
+    ap (λ u. table_in u (vectors c.self.inside)) (both c)
     ∙ two-view c.self.invariant c.args.kind c.add-block.result c.add-block.ensures.least.unused
     c.add-block.ensures.plain c.add_data-data.result (data_least c).unused
     (λ same. absurd (omega (arith, (data_least c).low))) (data_least c).high c.self.view_is

@@ -1,4 +1,4 @@
-use Rattle.hd_seg.proofs.RowCells.{sound_table}
+use Rattle.hd_seg.proofs.RowVectors.{sound_table}
 use Rattle.hd_seg.proofs.seg.Seg.given.Goals as goal
 
 pub returns-clause-table : goal.returns-clause-table

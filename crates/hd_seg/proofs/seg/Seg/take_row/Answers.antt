@@ -1,13 +1,6 @@
-use Rattle.hd_seg.proofs.Basics.{ROWS, ap, arith, get_or_read, table_in, ◌/◌, ◌∙◌}
-use Rattle.hd_seg.proofs.RowCells.{row_back, seg_at}
-use Rattle.hd_seg.proofs.RowCalls.{take-seg, take-view, live_slot, live_mask, take_live}
-use Rattle.hd_seg.specs.declared.cells.Cell.TheVariants as cell
+use Rattle.hd_seg.proofs.Basics.{ROWS, arith, get_or_read, ◌/◌}
+use Rattle.hd_seg.proofs.RowCalls.{live_mask, take-seg, take-view, take_live}
 use Rattle.hd_seg.proofs.seg.Seg.take_row.Goals as goal
-
-pub write_row-requires-clause-slot : goal.write_row-requires-clause-slot
-write_row-requires-clause-slot c =
-    let known = live_slot c.self.invariant c.args.slot.0 c.self.view_is c.requires in
-    omega (arith, known, c.self.inside.cells.ok.0)
 
 pub index_mut-requires : goal.index_mut-requires
 index_mut-requires c =
@@ -19,16 +12,14 @@ overflow_sub-self c = omega (arith, take_live c.self.invariant c.args.slot.0 c.s
 
 pub invariant_of-self : goal.invariant_of-self
 invariant_of-self c =
-    seg_at (row_back _ c.args.slot.0 cell.Empty cell.Empty c.write_row.ensures c.deref_mut.ensures.value
-    c.extra_index-index.ensures c.self.inside.cells.ok.0)
-    (take-seg c.self.invariant c.args.slot.0 c.self.view_is c.requires c.index_mut.result.now c.bit.result
+    take-seg c.self.invariant c.args.slot.0 c.self.view_is c.requires c.index_mut.result.now c.bit.result
     (get_or_read c.self.inside.masks.items (c.args.slot.0 / ROWS) c.index_mut.result.now
     (live_mask c.self.invariant c.args.slot.0 c.self.view_is c.requires) c.index_mut.ensures.value 0)
-    c.bit.ensures.value)
+    c.bit.ensures.value
 
 pub returns : goal.returns
 returns c =
-    ap (table_in c.self.inside.blocks)
-    (row_back _ c.args.slot.0 cell.Empty cell.Empty c.write_row.ensures c.deref_mut.ensures.value
-    c.extra_index-index.ensures c.self.inside.cells.ok.0)
-    ∙ take-view c.self.invariant c.args.slot.0 c.self.view_is c.requires
+    take-view c.self.invariant c.args.slot.0 c.self.view_is c.requires c.index_mut.result.now c.bit.result
+    (get_or_read c.self.inside.masks.items (c.args.slot.0 / ROWS) c.index_mut.result.now
+    (live_mask c.self.invariant c.args.slot.0 c.self.view_is c.requires) c.index_mut.ensures.value 0)
+    c.bit.ensures.value
