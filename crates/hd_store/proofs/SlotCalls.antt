@@ -1,5 +1,5 @@
 -- A call about the handle in a live slot is the command by a handle register that has the slot.
-use Rattle.hd_store.proofs.StoreWords.{Addr, Bool, Cmd, Done, Entry, Err, FinMap, Grown, Handle, HasRun, Id, IfSome, IsFree, IsOffer, IsOverHeap, IsPlainStep, IsSome, HasAddress, IsValid, KeepsPinned, List, Machine, Make, MatchResult, MayRun, None, Ok, Option, Outcome, Refusal, Result, Slot, Some, State, aged_by, ap, arith, asks_of, count_of, cond, done_of, entry_by, false, handle_at, handle_register_of, if◌then◌else◌, is_kind, is_some, kind_of, length, name_in, nat_cmp, pinned_in, length-set, get_or, no_room, option_map_or, refl, refuses, register_of, reply_with, secondary_of, seen_by, set, suc, sym, touched_by, true, Zero, zero, [], ℕ, ◌&&◌, same_Some, subst, ◌+◌, ◌-◌, ◌<◌, ◌^◌, ◌∙◌, ◌∷◌, ◌≡◌}
+use Rattle.hd_store.proofs.StoreWords.{Addr, Back, Bool, Cmd, Done, Entry, Err, FinMap, Grown, Handle, HasRun, Id, IfSome, IsFree, IsOffer, IsOverHeap, IsPlainStep, IsSome, HasAddress, IsValid, KeepsPinned, Kind, List, Machine, Make, MatchResult, MayRun, None, Ok, One, Option, Outcome, Refusal, Result, Slot, Some, State, aged_by, ap, arith, asks_of, count_of, cond, done_of, entry_by, false, handle_at, handle_register_of, if◌then◌else◌, inl, inr, is_kind, is_some, kind_of, length, name_in, nat_cmp, pinned_in, length-set, get_or, no_room, option_map_or, refl, refuses, register_of, reply_with, secondary_of, seen_by, set, suc, sym, touched_by, true, Two, Zero, zero, [], ℕ, ◌&&◌, same_Some, subst, ◌+◌, ◌-◌, ◌<◌, ◌^◌, ◌∙◌, ◌∷◌, ◌≡◌}
 use Rattle.std.specs.Prelude.{◌==◌}
 use Rattle.hd_model.specs.State.{secondary, strength, with_handle, with_handle_register, with_register, without_handle, without_secondary}
 use Rattle.hd_model.specs.Command.{free_handle, get_secondary, load_reply, lower_count, on_handle, raise_count, set_secondary, set_strength, set_target, with_count}
@@ -9,13 +9,13 @@ use Rattle.hd_model.specs.declared.command.Cmd.TheVariants as cmd
 use Rattle.hd_model.specs.declared.data.Kind.TheVariants as kind
 use Rattle.hd_model.specs.declared.data.Refusal.TheVariants as refusal
 use Rattle.hd_model.specs.declared.data.Reply.TheVariants as reply
-use Rattle.hd_model.specs.Step.{decided, way_of}
+use Rattle.hd_model.specs.Step.{TakesWay, decided, makes_handle, way_of, with_growth}
 use Rattle.hd_model.specs.Aging.{is_refused, lowered_at, lowered_to}
 use Rattle.hd_model.proofs.ReadAfterWrite.{cell_here}
 use Rattle.hd_commands.specs.{Counts.MayCountUp, Seen.Seen}
 use Rattle.hd_commands.specs.Done.{ComesToAged, done_freeing, done_making, done_with}
 use Rattle.hd_commands.specs.Handles.{pinned_of}
-use Rattle.hd_store.specs.Calls.{HasCalled, IsSound, StaysWithin, pointed, pointed_made}
+use Rattle.hd_store.specs.Calls.{HasCalled, IsSound, KeepsFirst, StaysWithin, pointed, pointed_made}
 use Rattle.hd_store.proofs.{AddressSteps.addr-refused, AddressSteps.addr-replies, SoundCalls.may-run, SoundCalls.sound-pointed, TargetLoads.over-pointed, ValueCalls.called, ValueCalls.has-called, ValueCalls.kept-called, ValueCalls.sound-on, ValueCalls.stays-sound}
 
 -- ---- a slot in a handle register is no part of what makes a store sound
@@ -98,6 +98,46 @@ rows-twice (row ∷ rows) (suc c) d u v = ap (λ rest. row ∷ rest) (rows-twice
 -- an outcome with a slot in the first handle register after it
 abbrev pub pointed_outcome : ℕ → Slot → Outcome → Outcome
 pointed_outcome caller slot w = record w { after = with_handle_register w.after caller 0 (Some slot) }
+
+-- an outcome that leaves the handle registers of a state
+abbrev pub KeepsRegisters : State → Outcome → Type 0
+KeepsRegisters s w = w.after.handle_registers ≡ s.handle_registers
+
+pub kept-either : (s : State) (b : Bool) (x y : Outcome) → KeepsRegisters s x → KeepsRegisters s y
+    → KeepsRegisters s (if b then x else y)
+kept-either s true x y is other = is
+kept-either s false x y is other = other
+
+pub kept-target : (s : State) (o : Option Id) (x y : Outcome) → KeepsRegisters s x → KeepsRegisters s y
+    → KeepsRegisters s (option_map_or (λ _. x) o y)
+kept-target s None x y is other = other
+kept-target s (Some id) x y is other = is
+
+pub target-registers : (s : State) (caller t : ℕ) (slot : Slot) (handle : Handle Id)
+    → KeepsRegisters s (set_target_of s caller t slot handle)
+target-registers s caller t slot handle =
+    kept-either s (is_kind handle.kind kind.Dependent && is_some (register_of s caller t)) _ _ refl refl
+
+pub secondary-registers : (s : State) (caller r : ℕ) (slot : Slot) (handle : Handle Id)
+    → KeepsRegisters s (set_secondary_of s caller r slot handle)
+secondary-registers s caller r slot handle =
+    kept-either s (is_kind handle.kind kind.Dependent) _ _ (kept-target s handle.target _ _ refl refl) refl
+
+pub load-registers : (s : State) (caller d : ℕ) (slot : Slot) (handle : Handle Id)
+    → KeepsRegisters s (get_secondary_of s caller d slot handle)
+load-registers s caller d slot handle = kept-either s (is_kind handle.kind kind.Dependent) _ _ refl refl
+
+pub strength-registers : (s : State) (given : Strength) (slot : Slot) (handle : Handle Id)
+    → KeepsRegisters s (set_strength_of s given slot handle)
+strength-registers s given slot handle = kept-either s (is_kind handle.kind kind.Variable) _ _ refl refl
+
+pub raise-registers : (s : State) (slot : Slot) (handle : Handle Id) → KeepsRegisters s (raise_count_of s slot handle)
+raise-registers s slot handle = kept-either s (is_kind handle.kind kind.Counted) _ _ refl refl
+
+pub lower-registers : (s : State) (slot : Slot) (handle : Handle Id) → KeepsRegisters s (lower_count_of s slot handle)
+lower-registers s slot handle =
+    kept-either s (is_kind handle.kind kind.Counted) _ _
+    (kept-either s (count_of handle.extra == 0) _ _ refl refl) refl
 
 module _ (caller : ℕ) (slot : Slot) where
   by_test : (b : Bool) (x y : Outcome)
@@ -207,7 +247,8 @@ module _ {m k : Machine} {caller : ℕ} {slot : Slot} {handle : Handle Id} {c : 
     (room : asks_of (pointed m caller (Some slot)).state caller c ≡ no_room)
     (way : way_of (pointed m caller (Some slot)).state caller c ≡ decided (pointed_outcome caller slot w))
     (came : ComesToAged w ages (seen_by m) (seen_by k) r)
-    (aged : ages ≡ aged_by (pointed m caller (Some slot)).state (entry_by caller c (done_of r)) m.ages) where
+    (aged : ages ≡ aged_by (pointed m caller (Some slot)).state (entry_by caller c (done_of r)) m.ages)
+    (first : KeepsRegisters m.state w) where
   came_pointed : ComesToAged (pointed_outcome caller slot w) ages (seen_by (pointed m caller (Some slot)))
       (seen_by (pointed k caller (Some slot))) r
   came_pointed = (
@@ -222,10 +263,14 @@ module _ {m k : Machine} {caller : ℕ} {slot : Slot} {handle : Handle Id} {c : 
   )
 
   pub called-of : HasCalled (pointed m caller (Some slot)) caller c None (pointed k caller (Some slot))
-      (entry_by caller c (done_of r))
-  called-of = called (sound-pointed m caller 0 (Some slot) sound known) known valid within
-      (over-pointed m caller (Some slot) before) (over-pointed k caller (Some slot) now) plain makes room way
-      came_pointed aged
+      (entry_by caller c (done_of r)) × KeepsFirst m caller k
+  called-of = (
+    called (sound-pointed m caller 0 (Some slot) sound known) known valid within
+        (over-pointed m caller (Some slot) before) (over-pointed k caller (Some slot) now) plain makes room way
+        came_pointed aged,
+    ap (λ (s : State). handle_register_of s caller 0) came.1.1
+        ∙ ap (λ rows. get_or (get_or rows caller []) 0 None) first,
+  )
 
   pub sound-of : IsSound k
   sound-of = sound-unpointed k caller (Some slot)
@@ -318,6 +363,9 @@ module _ (m k : Machine) (caller : ℕ) (slot : Slot) (handle : Handle Id) (soun
         growth = tt;
       }
 
+  pub free-first : KeepsFirst m caller k
+  free-first = ap (λ (p : Seen Addr (FinMap nat_cmp Id)). handle_register_of p.state caller 0) left
+
   may-free : MayRun asked caller (cmd.HFree 0) None
   may-free =
       may-run asked caller (cmd.HFree 0) None (sound-pointed m caller 0 (Some slot) sound known) known
@@ -350,6 +398,45 @@ made-offer : (s : State) (caller : ℕ) (make : Make) (t : ℕ) (offer : Option 
     → IfSome offer (IsFree s (kind_of make)) → IsOffer s caller (cmd.HNew 0 make t) offer
 made-offer s caller make t None free = tt
 made-offer s caller make t (Some slot) free = free
+
+-- growth writes no handle register, and a slot in the second of a caller leaves the first
+growth-registers : (s : State) (of : Kind) (grown : Grown) → (with_growth s of grown).handle_registers ≡ s.handle_registers
+growth-registers s of Zero = refl
+growth-registers s of (One block) = refl
+growth-registers s of (Two block other) = refl
+growth-registers s of (Back block) = refl
+
+cell-beside : (row : List (Option Slot)) (v : Option Slot) → get_or (set row 1 v) 0 None ≡ get_or row 0 None
+cell-beside [] v = refl
+cell-beside (slot ∷ row) v = refl
+
+first-beside : (rows : Rows) (c : ℕ) (v : Option Slot)
+    → get_or (get_or (set rows c (set (get_or rows c []) 1 v)) c []) 0 None ≡ get_or (get_or rows c []) 0 None
+first-beside [] c v = refl
+first-beside (row ∷ rows) zero v = cell-beside row v
+first-beside (row ∷ rows) (suc c) v = first-beside rows c v
+
+-- so where a handle was made with its slot in the second register, the call writes no first one
+pub make-first : (m k : Machine) (caller : ℕ) (make : Make) (t : ℕ) (r : Result (Slot × Grown) Refusal)
+    → IsPlainStep m (cmd.HNew 1 make t) (pointed_made k caller 1 r)
+    (entry_by caller (cmd.HNew 1 make t) (done_of (done_making r)))
+    → KeepsFirst m caller k
+make-first m k caller make t (Ok made) ran = by ran.step
+  where
+    by : TakesWay m.numbers m.state (entry_by caller (cmd.HNew 1 make t) (done_of (done_making (Ok made))))
+        (pointed_made k caller 1 (Ok made)).state (makes_handle 1 make t) → KeepsFirst m caller k
+    by (inl is) =
+        sym (first-beside k.state.handle_registers caller (Some made.0))
+        ∙ ap (λ (s : State). handle_register_of s caller 0) is.after
+        ∙ first-beside (with_growth m.state (kind_of make) made.1).handle_registers caller (Some is.slot)
+        ∙ ap (λ rows. get_or (get_or rows caller []) 0 None) (growth-registers m.state (kind_of make) made.1)
+    by (inr full) = let clash = full.refused.reply in cc
+make-first m k caller make t (Err refused) ran = by ran.step
+  where
+    by : TakesWay m.numbers m.state (entry_by caller (cmd.HNew 1 make t) (done_of (done_making (Err refused))))
+        k.state (makes_handle 1 make t) → KeepsFirst m caller k
+    by (inl is) = let clash = is.reply in cc
+    by (inr full) = ap (λ (s : State). handle_register_of s caller 0) full.refused.after
 
 module _ (m k : Machine) (caller : ℕ) (make : Make) (t : ℕ) (offer : Option Slot)
     (r : Result (Slot × Grown) Refusal) (sound : IsSound m) (before : IsOverHeap m) (now : IsOverHeap k)

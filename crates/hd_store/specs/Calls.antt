@@ -3,7 +3,7 @@ use Rattle.std.specs.Prelude.{◌≡◌, ℕ, ◌+◌, ◌<◌, ◌^◌, Bool, O
 use Rattle.std.specs.{Option.ForSome, FinMap.empty}
 use Rattle.hd_model.specs.{declared.data.Entry.Entry, declared.data.Id.Id, declared.data.Slot.Slot, declared.data.Grown.Grown, declared.data.Grown.TheVariants.Zero, declared.data.Refusal.Refusal, declared.data.Reply.Reply, declared.command.Cmd.Cmd, Command.load_reply, PinnedAddresses.with_pinned, Valid.IsValid, WellFormed.IsWellFormed}
 use Rattle.hd_model.specs.declared.command.Cmd.TheVariants as cmd
-use Rattle.hd_model.specs.State.{State, last_serial, with_handle_register}
+use Rattle.hd_model.specs.State.{State, handle_register_of, last_serial, with_handle_register}
 use Rattle.hd_model.specs.declared.data.Reply.TheVariants as reply
 use Rattle.hd_commands.specs.Counts.{MayCountUp}
 use Rattle.hd_commands.specs.Done.{done_of, done_with, entry_by}
@@ -61,12 +61,17 @@ abbrev pub HasReturned : {T : Type 0} → Machine → ℕ → Cmd → (T → Rep
 HasReturned old caller c reply_of new result =
     HasCalled old caller c None new (entry_by caller c (done_of (done_with reply_of result)))
 
+-- the first handle register of a caller is as it was
+abbrev pub KeepsFirst : Machine → ℕ → Machine → Type 0
+KeepsFirst old caller new = handle_register_of new.state caller 0 ≡ handle_register_of old.state caller 0
+
 -- so it is of a call about the handle in a slot, of the command by the first handle register of the caller
--- that has the slot
+-- that has the slot, and the call itself writes no handle register
 abbrev pub HasReturnedOf : {T : Type 0} → Machine → ℕ → Slot → Cmd → (T → Reply) → Machine → Result T Refusal
     → Type 0
 HasReturnedOf old caller slot c reply_of new result =
     HasReturned (pointed old caller (Some slot)) caller c reply_of (pointed new caller (Some slot)) result
+    × KeepsFirst old caller new
 
 -- a store with the slot of a made handle in a handle register of a caller
 abbrev pub pointed_made : Machine → ℕ → ℕ → Result (Slot × Grown) Refusal → Machine

@@ -6,7 +6,7 @@ ghost use Rattle.hd_model.specs.declared.data.Id.{Id};
 ghost use Rattle.hd_model.specs.{Command.load_reply, Kinds.kind_of, Valid.IsValidMake};
 ghost use Rattle.hd_model.specs.State.{Handle as Held, IsFree, count_of, handle_at};
 ghost use Rattle.hd_commands.specs.Done.{done_freeing, done_making, done_of, entry_by};
-ghost use Rattle.hd_store.specs.Calls.{HasCalled, HasReturnedOf, pointed, pointed_made};
+ghost use Rattle.hd_store.specs.Calls.{HasCalled, HasReturnedOf, KeepsFirst, pointed, pointed_made};
 
 use crate::store::Store;
 use crate::{making, pinned_addresses};
@@ -31,7 +31,8 @@ impl Store {
         requires offer { IfSome offer (IsFree self.old.state (kind_of make)) }
         ensures { let c = cmd.HNew 0 make t in
             let e = entry_by caller c (done_of (done_making result)) in
-            HasCalled self.old caller c offer (pointed_made self.new caller 0 result) e }
+            HasCalled self.old caller c offer (pointed_made self.new caller 0 result) e
+            × KeepsFirst self.old caller self.new }
     {
         // Read for the proof alone: the state is one over the heap.
         let _before = self.contents.objects();
@@ -48,7 +49,7 @@ impl Store {
         ensures { let c = cmd.HFree 0 in
             let e = entry_by caller c (done_of (done_freeing (Ok slot))) in
             HasCalled (pointed self.old caller (Some slot)) caller c None
-            (pointed self.new caller None) e }
+            (pointed self.new caller None) e × KeepsFirst self.old caller self.new }
     {
         // Read for the proof alone: the state is one over the heap.
         let _before = self.contents.objects();

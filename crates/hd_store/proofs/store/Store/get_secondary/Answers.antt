@@ -5,7 +5,7 @@ use Rattle.hd_model.specs.declared.data.Reply.TheVariants as reply
 use Rattle.hd_model.specs.Command.{load_reply}
 use Rattle.hd_store.specs.Calls.{HasReturnedOf}
 use Rattle.hd_store.proofs.{SoundCalls.has-handles, ValueCalls.endless, ValueCalls.unaged}
-use Rattle.hd_store.proofs.SlotCalls.{called-of, sound-of, secondary_got}
+use Rattle.hd_store.proofs.SlotCalls.{called-of, load-registers, sound-of, secondary_got}
 use Rattle.hd_store.proofs.store.Store.get_secondary.Goals.{After-get_secondary_of-came}
 use Rattle.hd_store.proofs.store.Store.get_secondary.Goals as goal
 
@@ -20,7 +20,7 @@ invariant_of-self c =
     sound-of c.self.invariant (known c) (c.requires.register, omega arith) (endless refl)
     c.objects-before.ensures.heap c.objects-after.ensures.heap refl refl refl
     (ap decided (secondary_got c.self.inside.contents c.args.caller c.args.slot _ c.self.invariant (known c)
-    c.live_handle-handle.ensures.is c.args.d)) (c.get_secondary_of-came.ensures c.args.slot) (unaged _ _)
+    c.live_handle-handle.ensures.is c.args.d)) (c.get_secondary_of-came.ensures c.args.slot) (unaged _ _) (load-registers _ _ _ _ _)
 
 pub returns : goal.returns
 returns c =
@@ -30,4 +30,4 @@ returns c =
     (called-of c.self.invariant (known c) (c.requires.register, omega arith) (endless refl)
     c.objects-before.ensures.heap c.objects-after.ensures.heap refl refl refl
     (ap decided (secondary_got c.self.inside.contents c.args.caller c.args.slot _ c.self.invariant (known c)
-    c.live_handle-handle.ensures.is c.args.d)) (c.get_secondary_of-came.ensures c.args.slot) (unaged _ _))
+    c.live_handle-handle.ensures.is c.args.d)) (c.get_secondary_of-came.ensures c.args.slot) (unaged _ _) (load-registers _ _ _ _ _))

@@ -1,9 +1,9 @@
 use Rattle.hd_store.proofs.StoreWords.{IfSome, IsFree, Machine, done_of, entry_by, kind_of, subst, sym, arith, ◌<◌}
 use Rattle.hd_model.specs.declared.command.Cmd.TheVariants as cmd
 use Rattle.hd_commands.specs.Done.{done_making}
-use Rattle.hd_store.specs.Calls.{HasCalled, pointed_made}
+use Rattle.hd_store.specs.Calls.{HasCalled, KeepsFirst, pointed_made}
 use Rattle.hd_store.proofs.SoundCalls.{has-handles}
-use Rattle.hd_store.proofs.SlotCalls.{make-called, make-sound}
+use Rattle.hd_store.proofs.SlotCalls.{make-called, make-first, make-sound}
 use Rattle.hd_store.proofs.store.Store.make_handle.Goals.{After-make_handle-came}
 use Rattle.hd_store.proofs.store.Store.make_handle.Goals as goal
 
@@ -37,7 +37,9 @@ returns c =
     let r = c.make_handle-came.result in
     let k = c.make_handle-came.new.store in
     subst (λ (m : Machine). HasCalled m c.args.caller asked c.args.offer (pointed_made k c.args.caller 0 r)
-    (entry_by c.args.caller asked (done_of (done_making r)))) c.self.view_is
-    (make-called c.self.inside.contents k c.args.caller c.args.make c.args.t c.args.offer r c.self.invariant
-    c.objects-before.ensures.heap c.objects-after.ensures.heap (known c)
-    (omega arith, c.requires.register, c.requires.make) (free c) (c.make_handle-came.ensures 0))
+    (entry_by c.args.caller asked (done_of (done_making r))) × KeepsFirst m c.args.caller k) c.self.view_is (
+      make-called c.self.inside.contents k c.args.caller c.args.make c.args.t c.args.offer r c.self.invariant
+          c.objects-before.ensures.heap c.objects-after.ensures.heap (known c)
+          (omega arith, c.requires.register, c.requires.make) (free c) (c.make_handle-came.ensures 0),
+      make-first c.self.inside.contents k c.args.caller c.args.make c.args.t r (c.make_handle-came.ensures 1).effect,
+    )

@@ -4,7 +4,7 @@ use Rattle.hd_model.specs.declared.command.Cmd.TheVariants as cmd
 use Rattle.hd_model.specs.declared.data.Reply.TheVariants as reply
 use Rattle.hd_store.specs.Calls.{HasReturnedOf}
 use Rattle.hd_store.proofs.{SoundCalls.has-handles, ValueCalls.unaged}
-use Rattle.hd_store.proofs.SlotCalls.{called-of, sound-of, count_raised, counts-up}
+use Rattle.hd_store.proofs.SlotCalls.{called-of, raise-registers, sound-of, count_raised, counts-up}
 use Rattle.hd_store.proofs.store.Store.raise_count.Goals.{After-raise_count_of-came}
 use Rattle.hd_store.proofs.store.Store.raise_count.Goals as goal
 
@@ -37,7 +37,7 @@ invariant_of-self c =
     })
     c.objects-before.ensures.heap c.objects-after.ensures.heap refl refl refl
     (ap decided (count_raised c.self.inside.contents c.args.caller c.args.slot _ c.self.invariant (known c)
-    c.live_handle-handle.ensures.is)) c.raise_count_of-came.ensures (unaged _ _)
+    c.live_handle-handle.ensures.is)) c.raise_count_of-came.ensures (unaged _ _) (raise-registers _ _ _)
 
 pub returns : goal.returns
 returns c =
@@ -52,4 +52,4 @@ returns c =
     })
     c.objects-before.ensures.heap c.objects-after.ensures.heap refl refl refl
     (ap decided (count_raised c.self.inside.contents c.args.caller c.args.slot _ c.self.invariant (known c)
-    c.live_handle-handle.ensures.is)) c.raise_count_of-came.ensures (unaged _ _))
+    c.live_handle-handle.ensures.is)) c.raise_count_of-came.ensures (unaged _ _) (raise-registers _ _ _))

@@ -4,7 +4,7 @@ use Rattle.hd_model.specs.declared.command.Cmd.TheVariants as cmd
 use Rattle.hd_model.specs.declared.data.Reply.TheVariants as reply
 use Rattle.hd_store.specs.Calls.{HasReturnedOf}
 use Rattle.hd_store.proofs.{SoundCalls.has-handles, ValueCalls.endless}
-use Rattle.hd_store.proofs.SlotCalls.{called-of, sound-of, secondary_set, secondary-aged}
+use Rattle.hd_store.proofs.SlotCalls.{called-of, secondary-registers, sound-of, secondary_set, secondary-aged}
 use Rattle.hd_store.proofs.store.Store.set_secondary.Goals.{After-set_secondary_of-came}
 use Rattle.hd_store.proofs.store.Store.set_secondary.Goals as goal
 
@@ -21,7 +21,7 @@ invariant_of-self c =
     (ap decided (secondary_set c.self.inside.contents c.args.caller c.args.slot _ c.self.invariant (known c)
     c.live_handle-handle.ensures.is c.args.s)) c.set_secondary_of-came.ensures (secondary-aged
     c.self.inside.contents c.args.caller c.args.slot _ c.self.invariant (known c)
-    c.live_handle-handle.ensures.is c.args.s _ _ c.set_secondary_of-came.ensures.0)
+    c.live_handle-handle.ensures.is c.args.s _ _ c.set_secondary_of-came.ensures.0) (secondary-registers _ _ _ _ _)
 
 pub returns : goal.returns
 returns c =
@@ -33,4 +33,4 @@ returns c =
     (ap decided (secondary_set c.self.inside.contents c.args.caller c.args.slot _ c.self.invariant (known c)
     c.live_handle-handle.ensures.is c.args.s)) c.set_secondary_of-came.ensures (secondary-aged
     c.self.inside.contents c.args.caller c.args.slot _ c.self.invariant (known c)
-    c.live_handle-handle.ensures.is c.args.s _ _ c.set_secondary_of-came.ensures.0))
+    c.live_handle-handle.ensures.is c.args.s _ _ c.set_secondary_of-came.ensures.0) (secondary-registers _ _ _ _ _))

@@ -4,7 +4,7 @@ use Rattle.hd_model.specs.declared.command.Cmd.TheVariants as cmd
 use Rattle.hd_model.specs.declared.data.Reply.TheVariants as reply
 use Rattle.hd_store.specs.Calls.{HasReturnedOf}
 use Rattle.hd_store.proofs.{SoundCalls.has-handles, ValueCalls.endless, ValueCalls.unaged}
-use Rattle.hd_store.proofs.SlotCalls.{called-of, sound-of, strength_set}
+use Rattle.hd_store.proofs.SlotCalls.{called-of, strength-registers, sound-of, strength_set}
 use Rattle.hd_store.proofs.store.Store.set_strength.Goals.{After-set_strength_of-came}
 use Rattle.hd_store.proofs.store.Store.set_strength.Goals as goal
 
@@ -19,7 +19,7 @@ invariant_of-self c =
     sound-of c.self.invariant (known c) (omega arith, tt) (endless refl)
     c.objects-before.ensures.heap c.objects-after.ensures.heap refl refl refl
     (ap decided (strength_set c.self.inside.contents c.args.caller c.args.slot _ c.self.invariant (known c)
-    c.live_handle-handle.ensures.is c.args.to)) c.set_strength_of-came.ensures (unaged _ _)
+    c.live_handle-handle.ensures.is c.args.to)) c.set_strength_of-came.ensures (unaged _ _) (strength-registers _ _ _ _)
 
 pub returns : goal.returns
 returns c =
@@ -29,4 +29,4 @@ returns c =
     (called-of c.self.invariant (known c) (omega arith, tt) (endless refl)
     c.objects-before.ensures.heap c.objects-after.ensures.heap refl refl refl
     (ap decided (strength_set c.self.inside.contents c.args.caller c.args.slot _ c.self.invariant (known c)
-    c.live_handle-handle.ensures.is c.args.to)) c.set_strength_of-came.ensures (unaged _ _))
+    c.live_handle-handle.ensures.is c.args.to)) c.set_strength_of-came.ensures (unaged _ _) (strength-registers _ _ _ _))

@@ -4,7 +4,7 @@ use Rattle.hd_model.specs.declared.command.Cmd.TheVariants as cmd
 use Rattle.hd_model.specs.declared.data.Reply.TheVariants as reply
 use Rattle.hd_store.specs.Calls.{HasReturnedOf}
 use Rattle.hd_store.proofs.{SoundCalls.has-handles, ValueCalls.endless}
-use Rattle.hd_store.proofs.SlotCalls.{called-of, sound-of, target_set, target-aged}
+use Rattle.hd_store.proofs.SlotCalls.{called-of, target-registers, sound-of, target_set, target-aged}
 use Rattle.hd_store.proofs.store.Store.set_target.Goals.{After-set_target_of-came}
 use Rattle.hd_store.proofs.store.Store.set_target.Goals as goal
 
@@ -21,7 +21,7 @@ invariant_of-self c =
     (ap decided (target_set c.self.inside.contents c.args.caller c.args.slot _ c.self.invariant (known c)
     c.live_handle-handle.ensures.is c.args.t)) c.set_target_of-came.ensures (target-aged
     c.self.inside.contents c.args.caller c.args.slot _ c.self.invariant (known c)
-    c.live_handle-handle.ensures.is c.args.t _ _ c.set_target_of-came.ensures.0)
+    c.live_handle-handle.ensures.is c.args.t _ _ c.set_target_of-came.ensures.0) (target-registers _ _ _ _ _)
 
 pub returns : goal.returns
 returns c =
@@ -33,4 +33,4 @@ returns c =
     (ap decided (target_set c.self.inside.contents c.args.caller c.args.slot _ c.self.invariant (known c)
     c.live_handle-handle.ensures.is c.args.t)) c.set_target_of-came.ensures (target-aged
     c.self.inside.contents c.args.caller c.args.slot _ c.self.invariant (known c)
-    c.live_handle-handle.ensures.is c.args.t _ _ c.set_target_of-came.ensures.0))
+    c.live_handle-handle.ensures.is c.args.t _ _ c.set_target_of-came.ensures.0) (target-registers _ _ _ _ _))
