@@ -1,5 +1,5 @@
 -- Handles over any names, in the words of the machine.
-use Rattle.std.specs.Prelude.{◌≡◌, ℕ, ◌≤◌, true, Option, Some, None, Result, Ok, Err, IfSome, if◌then◌else◌}
+use Rattle.std.specs.Prelude.{◌≡◌, ℕ, ◌≤◌, true, None, Result, Ok, Err, IfSome, if◌then◌else◌}
 use Rattle.std.specs.Option.{option_map_or}
 use Rattle.hd_model.specs.declared.data.{Id.Id, Slot.Slot, Refusal.Refusal}
 use Rattle.hd_model.specs.declared.data.Refusal.TheVariants as refusal
