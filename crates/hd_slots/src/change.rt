@@ -62,7 +62,16 @@ pub fn note(pool: &mut Pool, change: Change, entry: &Entry)
     requires { MayNote pool.old change entry.now.slot entry.now.grown }
     ensures { pool.new ≡ noted pool.old change entry.now.slot entry.now.grown }
 {
-    match (change, entry.grown, entry.slot) {
+    note_slot(pool, change, entry.slot, entry.grown);
+}
+
+/// The same, by the slot that was given or freed and how the table grew.
+#[inline(always)]
+pub fn note_slot(pool: &mut Pool, change: Change, slot: Option<Slot>, grown: Grown)
+    requires { MayNote pool.old change slot grown }
+    ensures { pool.new ≡ noted pool.old change slot grown }
+{
+    match (change, grown, slot) {
         (Change::Takes(kind), Grown::One(block) | Grown::Two(block, _), _) => {
             add_block(pool, kind, block);
         }

@@ -4,4 +4,4 @@
 
 mod change;
 
-pub use change::{Change, change_of, note, offer};
+pub use change::{Change, change_of, note, note_slot, offer};
