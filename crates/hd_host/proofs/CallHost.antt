@@ -1,17 +1,14 @@
--- What is always true of a host is so after a call.
-use Rattle.std.proofs.Common.{List, Option, ap, cond, refl, subst, sym, true, ℕ, ◌*◌, ◌+◌, ◌<◌, ◌∙◌, ◌≡◌}
-use Rattle.std.proofs.lemmas.Bool.{true≢false}
+-- What is always true of a host is so after a command, and what the command comes to.
+use Rattle.std.proofs.Common.{List, Option, ap, false, refl, subst, sym, ℕ, ◌*◌, ◌+◌, ◌<◌, ◌∙◌, ◌≡◌}
 use Rattle.std.specs.{FinMap.empty, Prelude.IfSome}
-use Rattle.hd_model.specs.{declared.command.Cmd.Cmd, declared.data.Entry.Entry, declared.data.Refusal.Refusal, declared.data.Slot.Slot, Aging.is_refused, PinnedAddresses.with_pinned, State.Numbers, State.State, Touched.touched_by, Valid.takes_memory}
-use Rattle.hd_model.specs.declared.command.Cmd.TheVariants as cmd
+use Rattle.hd_model.specs.{declared.command.Cmd.Cmd, declared.data.Entry.Entry, declared.data.Refusal.Refusal, declared.data.Slot.Slot, Aging.is_refused, PinnedAddresses.with_pinned, State.Numbers, Touched.touched_by}
 use Rattle.hd_model.specs.declared.data.Reply.TheVariants as reply
 use Rattle.hd_model.specs.declared.limits.TheConstants.{ROWS}
 use Rattle.hd_pool.specs.Pool.{FreeSlots}
-use Rattle.hd_slots.specs.Change.{Offers, change_in, noted}
-use Rattle.hd_slots.specs.declared.change.Change.TheVariants.{Keeps}
+use Rattle.hd_slots.specs.Change.{MayNote, Offers, change_in, noted}
 use Rattle.hd_store.specs.{Offers.HasLimits, Offers.RanOut, PinnedAddresses.Moves, Store.Machine}
-use Rattle.hd_host.specs.{declared.change.Change.Change, Changes.changed_by, Calls.FailsBy, Calls.RanOutOfMemory, Steps.HasStepped, Steps.pointed, View.HostView, View.IsAsItWas, Inside.fault_of, Inside.IsHost, Inside.HasMoved}
-use Rattle.hd_host.proofs.CallPool.{moved, tied_on, takes_least}
+use Rattle.hd_host.specs.{declared.change.Change.Change, Calls.FailsBy, Calls.HasDone, Calls.RanOutOfMemory, Replies.RepliesTo, Steps.HasStepped, Steps.pointed, View.HostView, View.IsAsItWas, Inside.fault_of, Inside.IsHost, Inside.HasMoved}
+use Rattle.hd_host.proofs.CallPool.{may_be_noted, moved, tied_on, takes_least}
 use Rattle.hd_host.proofs.EmptyRegisters.{OthersEmpty, others_pointed, others_stay, emptied}
 use Rattle.hd_host.proofs.Refused.{numbers_as_they_were, state_as_it_was, addresses_stay, ages_as_they_were, fails}
 
@@ -19,12 +16,20 @@ use Rattle.hd_host.proofs.Refused.{numbers_as_they_were, state_as_it_was, addres
 abbrev pub view_of : Machine → List ℕ → Change → HostView
 view_of m stamps last = record { machine = m; stamps = stamps; last = last }
 
-module _ (m : Machine) (p q : FreeSlots) (stamps : List ℕ) (host : IsHost m p stamps) (context : ℕ)
-    (known : context < m.numbers.callers) (slot : Option Slot) (c : Cmd) (o : Option Slot)
-    (offers : Offers p q (change_in m.state context c) o) (k : Machine) (e : Entry)
-    (did : HasMoved m context slot c o k e) where
+pub known_in : {m : Machine} {stamps : List ℕ} {last : Change} {v : HostView} {context : ℕ}
+    → view_of m stamps last ≡ v → context < v.machine.numbers.callers → context < m.numbers.callers
+known_in {context = context} view known =
+    subst (λ (x : HostView). context < x.machine.numbers.callers) (sym view) known
+
+module _ {m : Machine} {p : FreeSlots} {stamps : List ℕ} {last : Change} {v : HostView} (host : IsHost m p stamps)
+    (view : view_of m stamps last ≡ v) {context : ℕ} (known : context < v.machine.numbers.callers)
+    {slot : Option Slot} {c : Cmd} {o : Option Slot} {k : Machine} {e : Entry} (did : HasMoved m context slot c o k e)
+    (q : FreeSlots) (offers : Offers p q (change_in m.state context c) o) where
+  at : context < m.numbers.callers
+  at = known_in view known
+
   goes : Moves (pointed m context slot) e did.after empty
-  goes = moved m p q host.tied context known slot c o offers did.after e did.called
+  goes = moved m p q host.tied context at slot c o offers did.after e did.called
 
   others : IfSome (touched_by c).handle_register (λ h. h ≡ 0) → OthersEmpty did.after.state context
   others first = subst (OthersEmpty did.after.state) did.called.command.0
@@ -38,69 +43,71 @@ module _ (m : Machine) (p q : FreeSlots) (stamps : List ℕ) (host : IsHost m p 
       → IfSome (touched_by c).handle_register (λ h. h ≡ 0) → IsHost k r stamps
   host_after r is first = subst (λ (x : Machine). IsHost x r stamps) (sym did.new_is) (record {
     limits = subst HasLimits (sym goes.numbers) host.limits;
-    tied = tied_on m p q host.tied context known slot c o offers did.after e did.called r is;
+    tied = tied_on m p q host.tied context at slot c o offers did.after e did.called r is;
     empty = emptied did.after.state context (others first);
     stamps = host.stamps
         ∙ ap (λ (n : Numbers). ROWS * (n.blocks + 1)) (sym goes.numbers);
   })
 
-  pub has_stepped : HasStepped m context slot c k e
-  has_stepped = record {
+  pub may_note_by : MayNote q (change_in m.state context c) e.slot e.grown
+  may_note_by = may_be_noted m p q host.tied context at slot c o offers did.after e did.called
+
+  pub stepped_by : HasStepped v.machine context slot c k e
+  stepped_by = subst (λ (x : HostView). HasStepped x.machine context slot c k e) view (record {
     after = did.after;
     command_is = did.called.command;
     effect = did.called.effect;
-    least = takes_least m p q host.tied context known slot c o offers did.after e did.called;
+    least = takes_least m p q host.tied context at slot c o offers did.after e did.called;
     addresses = did.called.addresses;
     new_is = did.new_is;
+  })
+
+  -- it was done
+  pub done_by : is_refused e.reply ≡ false → RepliesTo c e.reply
+      → HasDone v context slot c e (view_of k stamps (record { slot = e.slot; grown = e.grown }))
+  done_by done replies = record {
+    stepped = stepped_by;
+    done = done;
+    replies = replies;
+    stamps = ap (λ (x : HostView). x.stamps) view;
+    last = refl;
   }
 
   -- where it was refused, the host is as it was, and its fault is that of the refusal
-  pub refused_by : (last after : Change) → after ≡ changed_by last e → (why : Refusal)
-      → e.reply ≡ reply.Refused why
-      → FailsBy (view_of m stamps last) context slot c (fault_of why)
-      × IsAsItWas (view_of m stamps last) (view_of k stamps after)
-  refused_by last after changed why answer =
+  pub refused_by : (why : Refusal) → e.reply ≡ reply.Refused why
+      → FailsBy v context slot c (fault_of why) × IsAsItWas v (view_of k stamps last)
+  refused_by why answer =
       let is = ap is_refused answer in
       let none = host.empty context 0 in (
-        fails (view_of m stamps last) context slot c k e has_stepped why answer,
-        record {
+        fails v context slot c k e stepped_by why answer,
+        subst (λ (x : HostView). IsAsItWas x (view_of k stamps last)) view (record {
           numbers = numbers_as_they_were m k context slot c o e did none goes is;
           state = state_as_it_was m k context slot c o e did none goes is;
           addresses = addresses_stay m k context slot c o e did none goes is;
           ages = ages_as_they_were m k context slot c o e did none goes is;
           stamps = refl;
-          last = changed ∙ ap (λ b. cond b last (record { slot = e.slot; grown = e.grown })) is;
-        },
+          last = refl;
+        }),
       )
 
--- a command that may take memory does nothing to the free slots
-memory_keeps : (s : State) (k : ℕ) (c : Cmd) → takes_memory c ≡ true → change_in s k c ≡ Keeps
-memory_keeps s k (cmd.New d fields fin) is = refl
-memory_keeps s k (cmd.Collect n) is = refl
-memory_keeps s k (cmd.GcRoot r) is = refl
-memory_keeps s k _ is = absurd (true≢false (sym is))
+-- where memory ran out, nothing is changed
+pub host_without : {m k : Machine} {p : FreeSlots} {stamps : List ℕ} {c : Cmd} → RanOut m.numbers m.state c m k
+    → IsHost m p stamps → IsHost k p stamps
+host_without {p = p} {stamps = stamps} out host = subst (λ (x : Machine). IsHost x p stamps) (sym out.unchanged) host
 
--- where memory ran out, all is as it was
-pub without_change : (m : Machine) (p q : FreeSlots) (stamps : List ℕ) → IsHost m p stamps → (context : ℕ)
-    (slot : Option Slot) (c : Cmd) (o : Option Slot) → Offers p q (change_in m.state context c) o → (k : Machine)
-    → takes_memory c ≡ true → k ≡ m → IsHost k q stamps
-without_change m p q stamps host context slot c o offers k memory same =
-    let none = subst (λ x. Offers p q x o) (memory_keeps m.state context c memory) offers in
-    subst (λ (x : Machine). IsHost x q stamps) (sym same)
-    (subst (λ (x : FreeSlots). IsHost m x stamps) (sym none.1) host)
-
--- and memory ran out for a command that may take some
-pub ran_out : (m : Machine) (stamps : List ℕ) (last : Change) (context : ℕ) (slot : Option Slot) (c : Cmd)
-    (k : Machine) → RanOut m.numbers (pointed m context slot).state c m k
-    → RanOutOfMemory (view_of m stamps last) c × IsAsItWas (view_of m stamps last) (view_of k stamps last)
-ran_out m stamps last context slot c k out = (
-  record { memory = out.memory; fits = out.fits },
-  subst (λ (x : Machine). IsAsItWas (view_of m stamps last) (view_of x stamps last)) (sym out.unchanged) (record {
-    numbers = refl;
-    state = refl;
-    addresses = λ x a at. at;
-    ages = refl;
-    stamps = refl;
-    last = refl;
-  }),
-)
+pub ran_out : {m k : Machine} {stamps : List ℕ} {last : Change} {v : HostView} {c : Cmd}
+    → RanOut m.numbers m.state c m k → view_of m stamps last ≡ v
+    → RanOutOfMemory v c × IsAsItWas v (view_of k stamps last)
+ran_out {m = m} {k = k} {stamps = stamps} {last = last} {c = c} out view =
+    subst (λ (x : HostView). RanOutOfMemory x c × IsAsItWas x (view_of k stamps last)) view (
+      record { memory = out.memory; fits = out.fits },
+      subst (λ (x : Machine). IsAsItWas (view_of m stamps last) (view_of x stamps last)) (sym out.unchanged)
+          (record {
+            numbers = refl;
+            state = refl;
+            addresses = λ x a at. at;
+            ages = refl;
+            stamps = refl;
+            last = refl;
+          }),
+    )

@@ -43,10 +43,9 @@ module _ (m : Machine) (p q : FreeSlots) (tied : IsTied m.numbers (state_in m) p
   tied_asked : IsTied m.numbers asked p
   tied_asked = tied_pointed m p context slot known tied
 
-  pub may_be_offered : IsOffer (pointed m context slot).state context c o
+  pub may_be_offered : IsOffer m.state context c o
   may_be_offered =
-      offer_placed m.numbers (pointed m context slot).state empty context c o
-      (may_offer m.numbers asked p q tied_asked context c o offers)
+      offer_placed m.numbers m.state empty context c o (may_offer m.numbers (state_in m) p q tied context c o offers)
 
   module _ (after : Machine) (e : Entry)
       (called : HasCalled (pointed m context slot) context c o after e) where

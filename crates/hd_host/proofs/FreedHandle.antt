@@ -1,42 +1,74 @@
 -- A handle that is freed: the stamp of its slot is below its end, and rises.
-use Rattle.std.proofs.Common.{List, Some, ap, subst, sym, ℕ, ◌%◌, ◌+◌, ◌<◌, ◌^◌, ◌∙◌, ◌≡◌}
+use Rattle.std.proofs.Common.{List, None, Some, ap, arith, length, refl, subst, sym, ℕ, ◌+◌, ◌<◌, ◌∙◌, ◌≡◌}
+use Rattle.std.proofs.lemmas.List.{length-set}
 use Rattle.std.specs.Prelude.{slice_index, slice_set}
 use Rattle.hd_model.specs.{declared.data.Entry.Entry, declared.data.Slot.Slot}
 use Rattle.hd_model.specs.declared.command.Cmd.TheVariants as cmd
-use Rattle.hd_store.specs.Store.{Machine}
+use Rattle.hd_model.specs.declared.data.Grown.TheVariants.{Zero}
+use Rattle.hd_model.specs.declared.data.Reply.TheVariants as reply
+use Rattle.hd_pool.specs.Pool.{FreeSlots}
+use Rattle.hd_slots.specs.Change.{MayNote, noted}
+use Rattle.hd_slots.specs.declared.change.Change.TheVariants.{Frees}
+use Rattle.hd_store.specs.{Calls.HasCalled, Calls.KeepsFirst, Store.Machine}
 use Rattle.hd_host.specs.declared.change.Change.{Change}
 use Rattle.hd_host.specs.declared.handle.Handle.{Handle}
 use Rattle.hd_host.specs.declared.stamps.TheConstants.{END}
-use Rattle.hd_host.specs.{Calls.FreesHandle, Calls.HasDone, Handles.IsOf, Handles.stamp_of, Steps.HasStepped, View.HostView}
-use Rattle.hd_host.proofs.{CallHost.view_of, SlotOfHandle.slot_is, WholeHost.IsWhole}
+use Rattle.hd_host.specs.{Calls.FreesHandle, Handles.IsOf, Handles.stamp_of, Steps.pointed, View.HostView, Inside.HasMoved, Inside.IsHost}
+use Rattle.hd_host.proofs.CallHost.{host_after, may_note_by, stepped_by, view_of}
+use Rattle.hd_host.proofs.{Registers.pointed-again, SlotOfHandle.live_within, WholeHost.IsWhole, WholeHost.whole}
 
-module _ {old mid : HostView} (whole : IsWhole old) {m : Machine} {stamps : List ℕ} {last : Change}
-    (view : view_of m stamps last ≡ mid) {handle : Handle} {at : Slot}
-    (at_is : at ≡ record { 0 = handle.0 % 2 ^ 16 }) {e : Entry}
-    (did : (slot : Slot) × IsOf old handle slot × HasDone old 0 (Some slot) (cmd.HFree 0) e mid)
-    (below : (slot : Slot) → IsOf old handle slot → stamp_of old slot < END) where
-  same : at.0 ≡ did.0.0
-  same = ap (λ (s : Slot). s.0) at_is ∙ slot_is whole did.1
+abbrev pub freed_entry : Slot → Entry
+freed_entry slot =
+    record { caller = 0; cmd = cmd.HFree 0; slot = Some slot; grown = Zero; reply = reply.Done }
 
-  are : stamps ≡ old.stamps
-  are = ap (λ (v : HostView). v.stamps) view ∙ did.2.stamps
+module _ {m : Machine} {p : FreeSlots} {stamps : List ℕ} {last : Change} {v : HostView} (host : IsHost m p stamps)
+    (view : view_of m stamps last ≡ v) {handle : Handle} {slot : Slot} (of : IsOf v handle slot) (k : Machine)
+    (called : HasCalled (pointed m 0 (Some slot)) 0 (cmd.HFree 0) None (pointed k 0 None) (freed_entry slot)
+    × KeepsFirst m 0 k) where
+  known : 0 < v.machine.numbers.callers
+  known = omega (arith, (whole host view).limits.callers.0)
 
-  pub may_raise : slice_index stamps at.0 < END
-  may_raise = subst (λ x. x < END)
-      (sym (ap (λ (xs : List ℕ). slice_index xs at.0) are ∙ ap (λ i. slice_index old.stamps i) same))
-      (below did.0 did.1)
-
-  pub freed : (others : List ℕ) → others ≡ slice_set stamps at.0 (slice_index stamps at.0 + 1)
-      → FreesHandle old handle (view_of m others last)
-  freed others is = record {
-    slot = did.0;
-    handle_is = did.1;
-    below_end = below did.0 did.1;
-    entry = e;
-    stepped = subst (λ (v : HostView). HasStepped old.machine 0 (Some did.0) (cmd.HFree 0) v.machine e) (sym view)
-        did.2.stepped;
-    reply = did.2.replies;
-    stamps = is ∙ ap (λ (xs : List ℕ). slice_set xs at.0 (slice_index xs at.0 + 1)) are
-        ∙ ap (λ i. slice_set old.stamps i (slice_index old.stamps i + 1)) same;
-    last = ap (λ (v : HostView). v.last) view ∙ did.2.last;
+  did : HasMoved m 0 (Some slot) (cmd.HFree 0) None k (freed_entry slot)
+  did = record {
+    after = pointed k 0 None;
+    called = called.0;
+    new_is = sym (pointed-again k 0 None (called.1 ∙ host.empty 0 0));
   }
+
+  pub may_note : MayNote p Frees (Some slot) Zero
+  may_note = may_note_by host view known did p (refl, refl)
+
+  module _ {r : FreeSlots} (noted_is : r ≡ noted p Frees (Some slot) Zero) {others : List ℕ}
+      (raised : others ≡ slice_set stamps slot.0 (slice_index stamps slot.0 + 1)) where
+    pub host_freed : IsHost k r others
+    host_freed =
+        let kept = host_after host view known did p (refl, refl) r noted_is refl in
+        record {
+          limits = kept.limits;
+          tied = kept.tied;
+          empty = kept.empty;
+          stamps = ap length raised ∙ length-set stamps slot.0 (slice_index stamps slot.0 + 1) ∙ kept.stamps;
+        }
+
+    pub freed : slice_index stamps slot.0 < END
+        → FreesHandle v handle (view_of k others (record { slot = Some slot; grown = Zero }))
+    freed below = record {
+      slot = slot;
+      handle_is = of;
+      below_end = subst (λ (x : HostView). stamp_of x slot < END) view below;
+      entry = freed_entry slot;
+      stepped = stepped_by host view known did p (refl, refl);
+      reply = refl;
+      stamps = subst (λ (x : HostView). others ≡ slice_set x.stamps slot.0 (stamp_of x slot + 1)) view raised;
+      last = refl;
+    }
+
+-- the slot of a live handle has a stamp, and what it is
+pub at_within : {stamps : List ℕ} {m : Machine} {last : Change} {v : HostView} → IsWhole v → view_of m stamps last ≡ v
+    → {handle : Handle} {slot : Slot} → IsOf v handle slot → slot.0 < length stamps
+at_within whole view {slot = slot} of =
+    subst (λ (x : HostView). slot.0 < length x.stamps) (sym view) (live_within whole slot of.live)
+
+pub at_end : {stamps : List ℕ} {m : Machine} {last : Change} {v : HostView} (slot : Slot) → view_of m stamps last ≡ v
+    → slice_index stamps slot.0 ≡ END → stamp_of v slot ≡ END
+at_end slot view is = subst (λ (x : HostView). stamp_of x slot ≡ END) view is

@@ -1,12 +1,12 @@
 -- A slot that was put into an empty handle register and taken out again leaves the store as it was.
-use Rattle.std.proofs.Common.{List, None, Ok, Err, Option, Result, [], ap, get_or, refl, set, suc, sym, zero, ℕ, ◌∙◌, ◌∷◌, ◌≡◌}
-use Rattle.std.specs.Prelude.{MatchResult}
+use Rattle.std.proofs.Common.{List, None, Option, [], ap, get_or, refl, set, suc, sym, zero, ℕ, ◌∙◌, ◌∷◌, ◌≡◌}
+use Rattle.std.proofs.lemmas.List.{set-get_or}
 use Rattle.std.specs.FinMap.{empty}
 use Rattle.hd_model.proofs.AgedRuns.{nothing_at}
 use Rattle.hd_model.specs.{declared.command.Cmd.Cmd, declared.data.Entry.Entry, declared.data.Slot.Slot}
 use Rattle.hd_model.specs.State.{State, with_handle_register}
-use Rattle.hd_store.specs.{Calls.HasCalled, Offers.RanOut, Store.Machine}
-use Rattle.hd_host.specs.{Inside.HasMoved, Inside.HasNoSlot, Steps.pointed}
+use Rattle.hd_store.specs.{Calls.HasCalled, Store.Machine}
+use Rattle.hd_host.specs.{Inside.HasNoSlot, Steps.pointed}
 
 -- what was at an index is there again
 set_again : {A : Type 0} (xs : List A) (i : ℕ) (v w d : A) → get_or xs i d ≡ d → w ≡ d
@@ -33,21 +33,20 @@ pub pointed-again : (m : Machine) (c : ℕ) (v : Option Slot) → HasNoSlot m.st
     → pointed (pointed m c v) c None ≡ m
 pointed-again m c v none = λ i. record m { state = state_again m.state c v none i }
 
-pub on_result : {A E : Type 0} {P Q : A → Type 0} {P' Q' : E → Type 0} (r : Result A E) → MatchResult r P P'
-    → ((a : A) → P a → Q a) → ((e : E) → P' e → Q' e) → MatchResult r Q Q'
-on_result (Ok a) is f g = f a is
-on_result (Err e) is f g = g e is
+-- nothing is put into an empty register
+nothing_put : (s : State) (c : ℕ) → HasNoSlot s c → with_handle_register s c 0 None ≡ s
+nothing_put s c none = λ i. record s { handle_registers = same i }
+  where
+    same : set s.handle_registers c (set (get_or s.handle_registers c []) 0 None) ≡ s.handle_registers
+    same =
+        ap (λ v. set s.handle_registers c (set (get_or s.handle_registers c []) 0 v)) (sym none)
+        ∙ ap (set s.handle_registers c) (set-get_or (get_or s.handle_registers c []) 0 None)
+        ∙ set-get_or s.handle_registers c []
+
+pub not_pointed : (m : Machine) (c : ℕ) → HasNoSlot m.state c → pointed m c None ≡ m
+not_pointed m c none = λ i. record m { state = nothing_put m.state c none i }
 
 -- the numbers of a store stay over a command
-called_numbers : {m k : Machine} {context : ℕ} {c : Cmd} {o : Option Slot} {e : Entry}
+pub called_numbers : {m k : Machine} {context : ℕ} {c : Cmd} {o : Option Slot} {e : Entry}
     → HasCalled m context c o k e → k.numbers ≡ m.numbers
 called_numbers called = (called.effect empty (λ x at found. absurd (nothing_at x at found))).numbers
-
-pub numbers_stay : {E : Type 0} (m k : Machine) (context : ℕ) (c : Cmd) (o : Option Slot) (r : Result Entry E)
-    → MatchResult r (HasCalled m context c o k) (λ _. RanOut m.numbers m.state c m k) → k.numbers ≡ m.numbers
-numbers_stay m k context c o (Ok e) called = called_numbers called
-numbers_stay m k context c o (Err e) out = ap (λ (x : Machine). x.numbers) out.unchanged
-
-pub numbers_after : {m k : Machine} {context : ℕ} {slot : Option Slot} {c : Cmd} {o : Option Slot} {e : Entry}
-    → HasMoved m context slot c o k e → k.numbers ≡ m.numbers
-numbers_after moved = ap (λ (x : Machine). x.numbers) moved.new_is ∙ called_numbers moved.called

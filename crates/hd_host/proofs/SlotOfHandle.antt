@@ -1,8 +1,8 @@
 -- The slot and the stamp in a handle: which handles are stale, and that a handle is that of one slot.
-use Rattle.std.proofs.Common.{List, None, Some, ap, arith, get_or, inl, inr, is_some, length, slice_get, subst, sym, true, ℕ, ◌%◌, ◌*◌, ◌+◌, ◌/◌, ◌<◌, ◌^◌, ◌∙◌, ◌≡◌, ◌≢◌, ◌≤◌, ◌⊎◌}
+use Rattle.std.proofs.Common.{List, None, Option, Some, ap, arith, get_or, inl, inr, is_some, length, refl, slice_get, subst, sym, true, ℕ, ◌%◌, ◌*◌, ◌+◌, ◌/◌, ◌<◌, ◌^◌, ◌∙◌, ◌≡◌, ◌≢◌, ◌≤◌, ◌⊎◌}
 use Rattle.std.proofs.lemmas.Bool.{true≢false}
 use Rattle.std.proofs.lemmas.Option.{slice_get_cases, get_or_from_slice_get, none-some}
-use Rattle.std.specs.Prelude.{IsSome}
+use Rattle.std.specs.Prelude.{IfSome, IsSome}
 use Rattle.std.specs.FinMap.{get}
 use Rattle.hd_model.specs.{declared.data.Slot.Slot, State.handle_at}
 use Rattle.hd_host.specs.declared.handle.Handle.{Handle}
@@ -51,7 +51,7 @@ module _ {v : HostView} (whole : IsWhole v) where
           ap (λ x. get_or stamps x 0) (slot_at of) ∙ ap (λ (xs : List ℕ). get_or xs slot.0 0) are ∙ sym (stamp_is of)
 
       -- it is stale where the table has no such slot, and where the slot has another stamp
-      pub past_stale : slice_get stamps at.0 ≡ None → IsStale v handle
+      past_stale : slice_get stamps at.0 ≡ None → IsStale v handle
       past_stale none slot of = by (slice_get_cases stamps at.0).1
         where
           by : ((x : ℕ) × (at.0 < length stamps) × (slice_get stamps at.0 ≡ Some x) × (get_or stamps at.0 x ≡ x))
@@ -60,10 +60,18 @@ module _ {v : HostView} (whole : IsWhole v) where
           by (inr past) =
               absurd (omega (arith, past.0, slot_at of, live_within slot of.live, ap length are))
 
-      pub other_stale : (stamp : ℕ) → slice_get stamps at.0 ≡ Some stamp → stamp ≢ handle.0 / 2 ^ 16
+      other_stale : (stamp : ℕ) → slice_get stamps at.0 ≡ Some stamp → stamp ≢ handle.0 / 2 ^ 16
           → IsStale v handle
       other_stale stamp found apart slot of =
           apart (sym (get_or_from_slice_get stamps at.0 stamp 0 found) ∙ stamp_at of)
+
+      pub stale_by : {stamp : ℕ} → stamp ≡ handle.0 / 2 ^ 16
+          → IfSome (slice_get stamps at.0) (λ last. last ≢ stamp) → IsStale v handle
+      stale_by {stamp = stamp} is other = by (slice_get stamps at.0) refl other
+        where
+          by : (o : Option ℕ) → slice_get stamps at.0 ≡ o → IfSome o (λ last. last ≢ stamp) → IsStale v handle
+          by None none other = past_stale none
+          by (Some last) found other = other_stale last found (λ same. other (same ∙ sym is))
 
       -- else it is the handle of that slot
       pub is_handle : (stamp : ℕ) → slice_get stamps at.0 ≡ Some stamp → stamp ≡ handle.0 / 2 ^ 16

@@ -1,28 +1,21 @@
 -- What `trim` of a host gives back.
-use Rattle.std.proofs.Common.{None, [], ap, get_or, inl, inr, set, subst, sym, ℕ, ◌∙◌, ◌≡◌, ◌≤◌, ◌↔◌, ⊎_elim, arith}
-use Rattle.std.proofs.lemmas.List.{set-get_or}
+use Rattle.std.proofs.Common.{List, None, Option, inl, inr, refl, subst, sym, ℕ, ◌<◌, ◌∙◌, ◌≡◌, ◌≤◌, ◌↔◌, ⊎_elim, arith}
 use Rattle.std.specs.FinMap.{empty}
 use Rattle.hd_model.proofs.AgedRuns.{nothing_at}
-use Rattle.hd_model.specs.{declared.command.Cmd.Cmd, declared.data.Entry.Entry, declared.data.Kind.Kind, declared.data.Reply.Reply, PinnedAddresses.with_pinned, Run.NoneAllFree, Run.TakesLeast, Step.StepOf}
+use Rattle.hd_model.specs.{declared.command.Cmd.Cmd, declared.data.Entry.Entry, declared.data.Kind.Kind, PinnedAddresses.with_pinned, Run.NoneAllFree, Run.TakesLeast, Step.StepOf}
 use Rattle.hd_model.specs.declared.command.Cmd.TheVariants as cmd
 use Rattle.hd_model.specs.declared.data.Grown.TheVariants as grown
 use Rattle.hd_model.specs.declared.data.Reply.TheVariants as reply
-use Rattle.hd_model.specs.State.{Numbers, State, with_handle_register}
-use Rattle.hd_store.specs.Store.{Machine}
-use Rattle.hd_host.specs.{Calls.HasReplied, Calls.Trims, Steps.HasStepped, Steps.pointed, View.HostView, View.state_in, Inside.HasNoSlot}
-
--- nothing is put into an empty register
-nothing_put : (s : State) (c : ℕ) → HasNoSlot s c → with_handle_register s c 0 None ≡ s
-nothing_put s c none = λ i. record s { handle_registers = same i }
-  where
-    same : set s.handle_registers c (set (get_or s.handle_registers c []) 0 None) ≡ s.handle_registers
-    same =
-        ap (λ v. set s.handle_registers c (set (get_or s.handle_registers c []) 0 v)) (sym none)
-        ∙ ap (set s.handle_registers c) (set-get_or (get_or s.handle_registers c []) 0 None)
-        ∙ set-get_or s.handle_registers c []
-
-pub not_pointed : (m : Machine) (c : ℕ) → HasNoSlot m.state c → pointed m c None ≡ m
-not_pointed m c none = λ i. record m { state = nothing_put m.state c none i }
+use Rattle.hd_model.specs.{declared.data.Grown.Grown, declared.data.Slot.Slot, State.Numbers, State.State}
+use Rattle.hd_commands.specs.Done.{entry_by}
+use Rattle.hd_pool.specs.Pool.{FreeSlots}
+use Rattle.hd_slots.specs.Change.{MayNote, Offers, noted}
+use Rattle.hd_slots.specs.declared.change.Change.TheVariants.{GivesBack}
+use Rattle.hd_store.specs.{Calls.HasCalled, Offers.IsOffer, Replies.done_trimming, Replies.given_back, Store.Machine}
+use Rattle.hd_host.specs.{declared.change.Change.Change, Calls.Trims, Steps.HasStepped, Steps.pointed, View.HostView, View.state_in, Inside.HasMoved, Inside.HasNoSlot, Inside.IsHost}
+use Rattle.hd_host.proofs.CallPool.{may_be_offered}
+use Rattle.hd_host.proofs.CallHost.{done_by, host_after, known_in, may_note_by, stepped_by, view_of}
+use Rattle.hd_host.proofs.{Registers.not_pointed, ValueCalls.moved_plainly, WholeHost.IsWhole, WholeHost.whole}
 
 value_same : {a b : ℕ} → reply.Value a ≡ reply.Value b → a ≡ b
 value_same {a = a} {b = b} is = let same = is in cc
@@ -55,12 +48,41 @@ trims_by m k e kind given none stepped is =
     (subst (λ (x : Cmd). StepOf m.numbers (state_in (pointed m 0 None)) e
     (with_pinned stepped.after.state goes.pinned) x) stepped.command_is.1 goes.step.does))
 
-pub trims : {old new : HostView} {kind : Kind} {answer : Reply} {given : ℕ} → HasNoSlot old.machine.state 0
-    → HasReplied old 0 None (cmd.Trim kind) answer new → reply.Value given ≡ answer → Trims old kind given new
-trims {old = old} {new = new} {kind = kind} {given = given} none has is =
-    let by = trims_by old.machine new.machine has.entry kind given none has.done.stepped (has.reply ∙ sym is) in
-    record {
-      replied = record { entry = has.entry; done = has.done; reply = has.reply ∙ sym is };
-      at_most_one = by.0;
-      none = by.1;
-    }
+module _ {m : Machine} {p : FreeSlots} {stamps : List ℕ} {last : Change} {v : HostView} (host : IsHost m p stamps)
+    (view : view_of m stamps last ≡ v) (kind : Kind) (q : FreeSlots) (o : Option Slot)
+    (offers : Offers p q (GivesBack kind) o) where
+  all : IsWhole v
+  all = whole host view
+
+  known : 0 < v.machine.numbers.callers
+  known = omega (arith, all.limits.callers.0)
+
+  pub may_offer : IsOffer m.state 0 (cmd.Trim kind) o
+  may_offer = may_be_offered m p q host.tied 0 (known_in view known) None (cmd.Trim kind) o offers
+
+  module _ {k : Machine} {grown : Grown}
+      (called : HasCalled m 0 (cmd.Trim kind) o k (entry_by 0 (cmd.Trim kind) (done_trimming grown))) where
+    did : HasMoved m 0 None (cmd.Trim kind) o k (entry_by 0 (cmd.Trim kind) (done_trimming grown))
+    did = moved_plainly host called refl
+
+    pub may_note : MayNote q (GivesBack kind) None grown
+    may_note = may_note_by host view known did q offers
+
+    pub host_trimmed : (r : FreeSlots) → r ≡ noted q (GivesBack kind) None grown → IsHost k r stamps
+    host_trimmed r is = host_after host view known did q offers r is tt
+
+    pub trims : {given : ℕ} → given ≡ given_back grown
+        → Trims v kind given (view_of k stamps (record { slot = None; grown = grown }))
+    trims given_is = subst (λ n. Trims v kind n (view_of k stamps (record { slot = None; grown = grown })))
+        (sym given_is) (
+        let by = trims_by v.machine k (entry_by 0 (cmd.Trim kind) (done_trimming grown)) kind (given_back grown)
+        (all.empty 0 0) (stepped_by host view known did q offers) refl in
+        record {
+          replied = record {
+            entry = entry_by 0 (cmd.Trim kind) (done_trimming grown);
+            done = done_by host view known did q offers refl refl;
+            reply = refl;
+          };
+          at_most_one = by.0;
+          none = by.1;
+        })

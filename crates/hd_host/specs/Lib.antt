@@ -1,4 +1,3 @@
-pub mod Changes
 pub mod View
 pub mod Handles
 pub mod Steps

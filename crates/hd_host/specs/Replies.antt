@@ -1,12 +1,8 @@
 -- What calls return, as replies of the machine.
-use Rattle.std.specs.Prelude.{◌≡◌, Bool, true, false, Option, Some, None}
-use Rattle.hd_model.specs.{declared.data.Id.Id, declared.data.Reply.Reply, declared.command.Cmd.Cmd}
+use Rattle.std.specs.Prelude.{◌≡◌, Bool, true, false}
+use Rattle.hd_model.specs.{declared.data.Reply.Reply, declared.command.Cmd.Cmd}
 use Rattle.hd_model.specs.declared.command.Cmd.TheVariants as cmd
 use Rattle.hd_model.specs.declared.data.Reply.TheVariants as reply
-use Rattle.hd_model.specs.Command.{load_reply}
-use Rattle.hd_host.specs.declared.weak.Lookup.{Lookup}
-use Rattle.hd_host.specs.declared.weak.Lookup.TheVariants as found
-use Rattle.hd_host.specs.declared.collecting.Root.{Root}
 
 -- which forms of replies a test takes
 pub record Forms : Type 0 where
@@ -83,26 +79,6 @@ is_removed = takes (record no_form { done = true; absent = true })
 
 abbrev pub is_rooted : Reply → Bool
 is_rooted = takes (record no_form { chain = true; unrooted = true })
-
--- what is found in the weak table
-abbrev pub found_reply : Lookup → Reply
-found_reply (found.Value id) = load_reply id
-found_reply found.Absent = reply.Absent
-
--- whether an entry was taken out of it
-abbrev pub removed_reply : Bool → Reply
-removed_reply true = reply.Done
-removed_reply false = reply.Absent
-
--- what is taken off the finalization queue
-abbrev pub queued_reply : Option Id → Reply
-queued_reply None = reply.NoneQueued
-queued_reply (Some id) = reply.Object id
-
--- where a shortest chain begins
-abbrev pub root_reply : Option Root → Reply
-root_reply None = reply.Unrooted
-root_reply (Some root) = reply.Chain root.from root.arrows
 
 -- what each command replies where it is not refused
 abbrev pub RepliesTo : Cmd → Reply → Type 0

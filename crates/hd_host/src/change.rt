@@ -1,6 +1,8 @@
 ghost use Rattle.std.specs.Prelude.{◌≡◌};
+ghost use Rattle.hd_host.specs.Inside.{Settled, no_change};
 
-use hd_model::{Entry, Grown, Reply, Slot};
+use crate::fault::Fault;
+use hd_model::{Grown, Refusal, Slot};
 
 /// What a call did to slots and blocks: the slot that it gave or freed, and how the blocks in use
 /// changed.
@@ -11,29 +13,29 @@ pub struct Change {
 }
 
 impl Change {
-    ghost use Rattle.hd_host.specs.Changes.{changed_by};
-
-    // What the last call that was done did, after one with this entry.
+    // That of a call that neither gives nor frees a slot.
     #[inline(always)]
-    pub(crate) fn after(self, entry: Entry) -> Change
-        ensures { result ≡ changed_by self entry }
+    pub(crate) fn none() -> Change
+        ensures { result ≡ no_change }
     {
-        match entry.reply {
-            Reply::Refused(_) => self,
-            Reply::Done
-            | Reply::Object(_)
-            | Reply::Nothing
-            | Reply::Value(_)
-            | Reply::Generation(_)
-            | Reply::Place(_)
-            | Reply::Report(_)
-            | Reply::NoneQueued
-            | Reply::Absent
-            | Reply::Chain { .. }
-            | Reply::Unrooted => Change {
-                slot: entry.slot,
-                grown: entry.grown,
-            },
+        Change {
+            slot: None,
+            grown: Grown::Zero,
         }
+    }
+}
+
+// What a call returns that neither gives nor frees a slot: its value, and then it is the last call
+// that was done; or the fault of the refusal.
+#[inline(always)]
+pub(crate) fn settle<T>(last: &mut Change, came: Result<T, Refusal>) -> Result<T, Fault>
+    ensures { Settled last.old came last.new result }
+{
+    match came {
+        Ok(value) => {
+            *last = Change::none();
+            Ok(value)
+        }
+        Err(refusal) => Err(Fault::of(refusal)),
     }
 }

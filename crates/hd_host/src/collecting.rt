@@ -4,20 +4,16 @@ ghost use Rattle.hd_model.specs.{Kinds.is_paired};
 ghost use Rattle.hd_model.specs.declared.command.Cmd.TheVariants as cmd;
 ghost use Rattle.hd_model.specs.declared.data.Reply.TheVariants as reply;
 ghost use Rattle.hd_host.specs.Calls.{HasReplied, Trims, Tries};
-ghost use Rattle.hd_host.specs.Replies.{queued_reply, root_reply};
+ghost use Rattle.hd_commands.specs.Done.{queued_reply};
+ghost use Rattle.hd_store.specs.Replies.{given_back, root_reply};
 
+use crate::change::{Change, settle};
 use crate::fault::Fault;
 use crate::host::Host;
-use crate::replies::{queued, report, root, value};
 use hd_model::limits::{OLDEST, REGISTERS};
-use hd_model::{Cmd, Id, Kind, Report};
-
-/// Where a shortest chain to an object begins, and its number of edges.
-#[derive(Clone, Copy, Debug, PartialEq, Eq)]
-pub struct Root {
-    pub from: Id,
-    pub arrows: u32,
-}
+use hd_model::{Grown, Id, Kind, Memory, Report};
+use hd_slots::{Change as Slots, note_slot, offer};
+use hd_store::Root;
 
 impl Host {
     /// Collects generation `n` and all younger ones. Nothing else collects.
@@ -28,8 +24,13 @@ impl Host {
     {
         // Read for the proof alone: there is a context 0.
         let _contexts = self.contexts();
-        let entry = self.ask(0, Cmd::Collect { n })?;
-        Ok(report(entry.reply))
+        match self.store.collect(0, n) {
+            Ok(report) => {
+                self.last = Change::none();
+                Ok(report)
+            }
+            Err(Memory) => Err(Fault::Memory),
+        }
     }
 
     /// Local `dst` gets the first object of the finalization queue, which leaves it, or becomes
@@ -41,8 +42,9 @@ impl Host {
             self.new }
         ensures contexts { self.new.machine.numbers.callers ≡ self.old.machine.numbers.callers }
     {
-        let reply = self.ask_plainly(context, Cmd::Final { d: dst });
-        queued(reply)
+        let taken = self.store.take_queued(context, dst);
+        self.last = Change::none();
+        taken
     }
 
     /// Gives back the least block of the kind all of whose slots are free, and returns the number
@@ -55,8 +57,12 @@ impl Host {
         // Read for the proof alone: there is a context 0, and no register has a slot.
         let _contexts = self.contexts();
         let _last = self.last;
-        let reply = self.ask_plainly(0, Cmd::Trim { kind });
-        value(reply) as u32
+        let change = Slots::GivesBack(kind);
+        let offered = offer(&mut self.pool, change);
+        let grown = self.store.trim(0, kind, offered);
+        note_slot(&mut self.pool, change, None, grown);
+        self.last = Change { slot: None, grown };
+        given_back(grown)
     }
 
     /// Where a shortest chain to the object begins, or nothing where no chain leads to it.
@@ -66,7 +72,19 @@ impl Host {
         ensures does { Tries self.old context (cmd.GcRoot object) root_reply self.new result }
         ensures contexts { self.new.machine.numbers.callers ≡ self.old.machine.numbers.callers }
     {
-        let entry = self.ask(context, Cmd::GcRoot { s: object })?;
-        Ok(root(entry.reply))
+        match self.store.root_of(context, object) {
+            Ok(came) => settle(&mut self.last, came),
+            Err(Memory) => Err(Fault::Memory),
+        }
+    }
+}
+
+// The number of blocks that were given back.
+fn given_back(grown: Grown) -> u32
+    ensures { result ≡ given_back grown }
+{
+    match grown {
+        Grown::Back(_) => 1,
+        Grown::Zero | Grown::One(_) | Grown::Two(..) => 0,
     }
 }

@@ -1,9 +1,7 @@
-ghost use Rattle.std.specs.Prelude.{◌≡◌, false, MatchResult};
-ghost use Rattle.hd_model.specs.{declared.data.Refusal.Refusal, Aging.is_refused};
-ghost use Rattle.hd_model.specs.declared.data.Reply.TheVariants as reply;
+ghost use Rattle.std.specs.Prelude.{◌≡◌};
 ghost use Rattle.hd_host.specs.Inside.{fault_of};
 
-use hd_model::{Entry, Refusal, Reply};
+use hd_model::Refusal;
 
 /// Why a call of a host was refused. Where several causes hold, the first of these is returned. The
 /// host is as it was.
@@ -34,8 +32,8 @@ pub enum Fault {
 }
 
 impl Fault {
-    // The fault of a refusal of the machine. Each handle that is used by value is in a register, so
-    // none is empty.
+    // The fault of a refusal of the machine. A call by a handle takes the slot of one that is live,
+    // so no register is empty.
     #[inline(always)]
     pub(crate) fn of(refusal: Refusal) -> Fault
         ensures { result ≡ fault_of refusal }
@@ -50,27 +48,5 @@ impl Fault {
             Refusal::HeapFull { used, size } => Fault::HeapFull { used, size },
             Refusal::TableFull { given } => Fault::TableFull { given },
         }
-    }
-}
-
-// The entry of a command that was done, or the fault of its refusal.
-#[inline(always)]
-pub(crate) fn unrefused(entry: Entry) -> Result<Entry, Fault>
-    ensures { MatchResult result (λ e. (e ≡ entry) × (is_refused entry.reply ≡ false))
-        (λ fault. (why : Refusal) × (entry.reply ≡ reply.Refused why) × (fault ≡ fault_of why)) }
-{
-    match entry.reply {
-        Reply::Refused(refusal) => Err(Fault::of(refusal)),
-        Reply::Done
-        | Reply::Object(_)
-        | Reply::Nothing
-        | Reply::Value(_)
-        | Reply::Generation(_)
-        | Reply::Place(_)
-        | Reply::Report(_)
-        | Reply::NoneQueued
-        | Reply::Absent
-        | Reply::Chain { .. }
-        | Reply::Unrooted => Ok(entry),
     }
 }

@@ -2,21 +2,20 @@
 ghost use Rattle.std.specs.Prelude.{◌≡◌, ◌+◌, ◌<◌, ◌^◌, None, Some, IsSome, true, false, MatchResult};
 ghost use Rattle.hd_model.specs.declared.command.Cmd.TheVariants as cmd;
 ghost use Rattle.hd_model.specs.declared.data.Reply.TheVariants as reply;
-ghost use Rattle.hd_model.specs.{declared.data.Id.Id, declared.data.Slot.Slot, Command.load_reply, Valid.IsValidMake};
+ghost use Rattle.hd_model.specs.{declared.data.Id.Id, Command.load_reply, Valid.IsValidMake};
 ghost use Rattle.hd_model.specs.State.{Handle as Held, count_of, handle_at};
 ghost use Rattle.hd_host.specs.Calls.{FailsOf, FailsBy, MakesHandle, FreesHandle, TriesOf};
-ghost use Rattle.hd_host.specs.declared.stamps.TheConstants.{END as end_stamp};
 ghost use Rattle.hd_model.specs.Handles.{extra_of};
-ghost use Rattle.hd_host.specs.{Handles.IsOf, Handles.handle_of, Handles.stamp_of, View.IsAsItWas};
+ghost use Rattle.hd_host.specs.{Handles.handle_of, Inside.Settled, View.IsAsItWas};
 
-use crate::change::Change;
+use crate::change::{Change, settle};
 use crate::fault::Fault;
 use crate::handle::Handle;
 use crate::host::Host;
-use crate::replies::{address, load_reply, value};
 use crate::stamps::END;
 use hd_model::limits::REGISTERS;
-use hd_model::{Cmd, Grown, Id, Make, Slot, Strength};
+use hd_model::{Grown, Id, Make, Refusal, Slot, Strength};
+use hd_slots::{Change as Slots, note_slot, offer};
 use hd_store::ExtraInfo;
 
 impl Host {
@@ -32,15 +31,18 @@ impl Host {
             × IsAsItWas self.old self.new) }
         ensures contexts { self.new.machine.numbers.callers ≡ self.old.machine.numbers.callers }
     {
-        let cmd = Cmd::HNew {
-            d: 0,
-            make,
-            t: target,
-        };
-        let entry = self.ask(context, cmd)?;
-        match entry.slot {
-            Some(slot) => Ok(self.handle_in(slot)),
-            None => unreachable!(),
+        let change = Slots::Takes(make.kind());
+        let offered = offer(&mut self.pool, change);
+        match self.store.make_handle(context, make, target, offered) {
+            Ok((slot, grown)) => {
+                note_slot(&mut self.pool, change, Some(slot), grown);
+                self.last = Change {
+                    slot: Some(slot),
+                    grown,
+                };
+                Ok(self.handle_in(slot))
+            }
+            Err(refusal) => Err(Fault::of(refusal)),
         }
     }
 
@@ -54,12 +56,19 @@ impl Host {
     {
         // Read for the proof alone: there is a context 0, and each live slot has a stamp.
         let _contexts = self.contexts();
-        let _last = self.last;
-        if self.has_last_stamp(handle) {
+        let Some(slot) = self.live_slot(handle) else {
+            return Err(Fault::Stale);
+        };
+        if self.stamps.at(slot) == END {
             return Err(Fault::Exhausted);
         }
-        self.ask_of(0, handle, Cmd::HFree { s: 0 })?;
-        self.stamps.raise(handle.slot());
+        self.store.free_handle(0, slot);
+        note_slot(&mut self.pool, Slots::Frees, Some(slot), Grown::Zero);
+        self.stamps.raise(slot);
+        self.last = Change {
+            slot: Some(slot),
+            grown: Grown::Zero,
+        };
         Ok(())
     }
 
@@ -71,16 +80,13 @@ impl Host {
         ensures does { TriesOf self.old context handle (cmd.HGet dst 0) load_reply self.new result }
         ensures contexts { self.new.machine.numbers.callers ≡ self.old.machine.numbers.callers }
     {
-        if !self.has_stamp(handle) {
-            return Err(Fault::Stale);
-        }
-        let Some(target) = self.store.load_target(context, dst, handle.slot()) else {
+        let Some(slot) = self.slot_of(handle) else {
             return Err(Fault::Stale);
         };
-        self.last = Change {
-            slot: None,
-            grown: Grown::Zero,
+        let Some(target) = self.store.load_target(context, dst, slot) else {
+            return Err(Fault::Stale);
         };
+        self.last = Change::none();
         Ok(target)
     }
 
@@ -94,8 +100,11 @@ impl Host {
             result }
         ensures contexts { self.new.machine.numbers.callers ≡ self.old.machine.numbers.callers }
     {
-        self.ask_of(context, handle, Cmd::HSet { s: 0, t: src })?;
-        Ok(())
+        let Some(slot) = self.live_slot(handle) else {
+            return Err(Fault::Stale);
+        };
+        let came = self.store.set_target(context, slot, src);
+        settle(&mut self.last, came)
     }
 
     /// Local `dst` gets the secondary of a dependent handle.
@@ -110,8 +119,11 @@ impl Host {
         ensures does { TriesOf self.old context handle (cmd.HDep dst 0) load_reply self.new result }
         ensures contexts { self.new.machine.numbers.callers ≡ self.old.machine.numbers.callers }
     {
-        let entry = self.ask_of(context, handle, Cmd::HDep { d: dst, s: 0 })?;
-        Ok(load_reply(entry.reply))
+        let Some(slot) = self.live_slot(handle) else {
+            return Err(Fault::Stale);
+        };
+        let came = self.store.get_secondary(context, dst, slot);
+        settle(&mut self.last, came)
     }
 
     /// The secondary of a dependent handle, whose target is not null, becomes what the local
@@ -123,8 +135,11 @@ impl Host {
             result }
         ensures contexts { self.new.machine.numbers.callers ≡ self.old.machine.numbers.callers }
     {
-        self.ask_of(context, handle, Cmd::HSec { h: 0, s: src })?;
-        Ok(())
+        let Some(slot) = self.live_slot(handle) else {
+            return Err(Fault::Stale);
+        };
+        let came = self.store.set_secondary(context, slot, src);
+        settle(&mut self.last, came)
     }
 
     /// A variable handle gets the strength.
@@ -135,8 +150,11 @@ impl Host {
     {
         // Read for the proof alone: there is a context 0.
         let _contexts = self.contexts();
-        self.ask_of(0, handle, Cmd::HVar { s: 0, strength })?;
-        Ok(())
+        let Some(slot) = self.live_slot(handle) else {
+            return Err(Fault::Stale);
+        };
+        let came = self.store.set_strength(0, slot, strength);
+        settle(&mut self.last, came)
     }
 
     /// The count of a ref-counted handle rises by one, and is returned.
@@ -147,11 +165,14 @@ impl Host {
         // Read for the proof alone: there is a context 0, and each live slot has a stamp.
         let _contexts = self.contexts();
         let _last = self.last;
-        if self.is_at_end(handle) {
+        let Some(slot) = self.live_slot(handle) else {
+            return Err(Fault::Stale);
+        };
+        if self.is_at_end(slot) {
             return Err(Fault::Exhausted);
         }
-        let entry = self.ask_of_within(0, handle, Cmd::HUp { s: 0 })?;
-        Ok(value(entry.reply))
+        let came = self.store.raise_count(0, slot);
+        settle_count(&mut self.last, came)
     }
 
     /// The count of a ref-counted handle falls by one, and is returned.
@@ -161,8 +182,11 @@ impl Host {
     {
         // Read for the proof alone: there is a context 0.
         let _contexts = self.contexts();
-        let entry = self.ask_of(0, handle, Cmd::HDown { s: 0 })?;
-        Ok(value(entry.reply))
+        let Some(slot) = self.live_slot(handle) else {
+            return Err(Fault::Stale);
+        };
+        let came = self.store.lower_count(0, slot);
+        settle_count(&mut self.last, came)
     }
 
     /// The address of what a handle pins, which stays while a handle pins the object
@@ -173,8 +197,11 @@ impl Host {
     {
         // Read for the proof alone: there is a context 0.
         let _contexts = self.contexts();
-        let entry = self.ask_of(0, handle, Cmd::AddrOf { s: 0 })?;
-        Ok(address(entry.reply))
+        let Some(slot) = self.live_slot(handle) else {
+            return Err(Fault::Stale);
+        };
+        let came = self.store.reply_address(0, slot);
+        settle(&mut self.last, came)
     }
 
     // The handle in a live slot.
@@ -186,36 +213,29 @@ impl Host {
         Handle::stamped(slot, self.stamps.at(slot))
     }
 
-    // Whether a handle is live, and its slot has the last stamp.
-    #[inline(always)]
-    fn has_last_stamp(&self, handle: Handle) -> bool
-        ensures last { result ≡ true → (slot : Slot) × IsOf self.now handle slot
-            × (stamp_of self.now slot ≡ end_stamp) }
-        ensures below { result ≡ false → (slot : Slot) → IsOf self.now handle slot
-            → stamp_of self.now slot < end_stamp }
-    {
-        // Read for the proof alone: the slot of a live handle is small.
-        let _last = self.last;
-        match self.handle_info(handle) {
-            Ok(_) => handle.stamp() == END,
-            Err(_) => false,
-        }
-    }
-
-    // Whether a handle is live, and its count is at its end.
-    fn is_at_end(&self, handle: Handle) -> bool
-        ensures at_end { result ≡ true → (slot : Slot) × (held : Held Id)
-            × IsOf self.now handle slot × (handle_at self.now.machine.state slot ≡ Some held)
+    // Whether the count of the handle in a slot is at its end.
+    fn is_at_end(&self, slot: Slot) -> bool
+        ensures at_end { result ≡ true → (held : Held Id)
+            × (handle_at self.now.machine.state slot ≡ Some held)
             × (count_of held.extra + 1 ≡ 2 ^ 32) }
-        ensures below { result ≡ false → (slot : Slot) (held : Held Id) → IsOf self.now handle slot
+        ensures below { result ≡ false → (held : Held Id)
             → handle_at self.now.machine.state slot ≡ Some held → count_of held.extra + 1 < 2 ^ 32 }
     {
-        // Read for the proof alone: the slot of a live handle is small.
-        let _last = self.last;
-        match self.handle_info(handle) {
-            Ok(info) => count_of(info.extra) == u32::MAX,
-            Err(_) => false,
+        match self.store.handle(slot) {
+            Some(info) => is_last(count_of(info.extra)),
+            None => false,
         }
+    }
+}
+
+// What a call returns that returns a count.
+#[inline(always)]
+fn settle_count(last: &mut Change, came: Result<u32, Refusal>) -> Result<u64, Fault>
+    ensures { Settled last.old came last.new result }
+{
+    match settle(last, came) {
+        Ok(count) => Ok(u64::from(count)),
+        Err(fault) => Err(fault),
     }
 }
 
@@ -227,4 +247,12 @@ fn count_of(extra: ExtraInfo<Id>) -> u32
         ExtraInfo::Count(count) => count,
         ExtraInfo::Nothing | ExtraInfo::Strength(_) | ExtraInfo::Secondary(_) => 0,
     }
+}
+
+// Whether a count is at its end.
+fn is_last(count: u32) -> bool
+    ensures last { result ≡ true → count + 1 ≡ 2 ^ 32 }
+    ensures below { result ≡ false → count + 1 < 2 ^ 32 }
+{
+    count == u32::MAX
 }

@@ -10,16 +10,12 @@ mod handles;
 mod host;
 mod objects;
 mod observing;
-mod replies;
 mod stamps;
-mod step;
 mod weak;
 
 pub use change::Change;
-pub use collecting::Root;
 pub use fault::Fault;
 pub use handle::Handle;
-pub use hd_store::{ExtraInfo, HandleInfo};
+pub use hd_store::{ExtraInfo, HandleInfo, Lookup, Root};
 pub use host::{Host, Limits};
 pub use observing::{Listed, Stats};
-pub use weak::Lookup;

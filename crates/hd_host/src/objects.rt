@@ -3,14 +3,13 @@ ghost use Rattle.std.specs.Prelude.{◌≡◌, ℕ, ◌+◌, ◌<◌, ◌≤◌,
 ghost use Rattle.hd_model.specs.declared.command.Cmd.TheVariants as cmd;
 ghost use Rattle.hd_model.specs.declared.data.Reply.TheVariants as reply;
 ghost use Rattle.hd_model.specs.{Command.load_reply, State.last_serial};
-ghost use Rattle.hd_host.specs.{Calls.HasReplied, Calls.FailsBy, Calls.Tries, Inside.IsNeverRefused};
-ghost use Rattle.hd_host.specs.Replies.{RepliesTo};
+ghost use Rattle.hd_host.specs.{Calls.HasReplied, Calls.FailsBy, Calls.Tries};
 
+use crate::change::{Change, settle};
 use crate::fault::Fault;
 use crate::host::Host;
-use crate::replies::{generation, load_reply, made, value};
 use hd_model::limits::{FIELDS, HEADER, REGISTERS};
-use hd_model::{Cmd, Id, Reply};
+use hd_model::{Id, Memory};
 
 impl Host {
     /// Makes an object with null fields and value 0, of generation 0, with `fin` registered for
@@ -27,13 +26,10 @@ impl Host {
         if self.store.contents().last_serial(context) == u32::MAX {
             return Err(self.no_serial_left(context, fields));
         }
-        let cmd = Cmd::New {
-            d: dst,
-            fields,
-            fin,
-        };
-        let entry = self.ask_within(context, cmd)?;
-        Ok(made(entry.reply))
+        match self.store.new_object(context, dst, fields, fin) {
+            Ok(came) => settle(&mut self.last, came),
+            Err(Memory) => Err(Fault::Memory),
+        }
     }
 
     // Why a context that has made 2^32 - 1 objects makes no other: the heap is full, or else that.
@@ -68,15 +64,8 @@ impl Host {
         ensures does { Tries self.old context (cmd.Get dst object i) load_reply self.new result }
         ensures contexts { self.new.machine.numbers.callers ≡ self.old.machine.numbers.callers }
     {
-        let entry = self.ask(
-            context,
-            Cmd::Get {
-                d: dst,
-                o: object,
-                i,
-            },
-        )?;
-        Ok(load_reply(entry.reply))
+        let came = self.store.get_field(context, dst, object, i);
+        settle(&mut self.last, came)
     }
 
     /// Field `i` of the object gets what local `src` references. A null `src` stores null.
@@ -88,15 +77,8 @@ impl Host {
             result }
         ensures contexts { self.new.machine.numbers.callers ≡ self.old.machine.numbers.callers }
     {
-        self.ask(
-            context,
-            Cmd::Set {
-                o: object,
-                i,
-                v: src,
-            },
-        )?;
-        Ok(())
+        let came = self.store.set_field(context, object, i, src);
+        settle(&mut self.last, came)
     }
 
     /// The value of the object.
@@ -107,8 +89,8 @@ impl Host {
         ensures does { Tries self.old context (cmd.Read object) reply.Value self.new result }
         ensures contexts { self.new.machine.numbers.callers ≡ self.old.machine.numbers.callers }
     {
-        let entry = self.ask(context, Cmd::Read { o: object })?;
-        Ok(value(entry.reply))
+        let came = self.store.read_value(context, object);
+        settle(&mut self.last, came)
     }
 
     /// The value of the object becomes `value`.
@@ -120,14 +102,8 @@ impl Host {
             result }
         ensures contexts { self.new.machine.numbers.callers ≡ self.old.machine.numbers.callers }
     {
-        self.ask(
-            context,
-            Cmd::Val {
-                o: object,
-                n: value,
-            },
-        )?;
-        Ok(())
+        let came = self.store.set_value(context, object, value);
+        settle(&mut self.last, came)
     }
 
     /// The generation of the object (GC.GetGeneration).
@@ -138,8 +114,8 @@ impl Host {
         ensures does { Tries self.old context (cmd.Gen object) reply.Generation self.new result }
         ensures contexts { self.new.machine.numbers.callers ≡ self.old.machine.numbers.callers }
     {
-        let entry = self.ask(context, Cmd::Gen { s: object })?;
-        Ok(generation(entry.reply))
+        let came = self.store.read_generation(context, object);
+        settle(&mut self.last, came)
     }
 
     /// The object is no longer registered for finalization (GC.SuppressFinalize).
@@ -150,8 +126,8 @@ impl Host {
             result }
         ensures contexts { self.new.machine.numbers.callers ≡ self.old.machine.numbers.callers }
     {
-        self.ask(context, Cmd::Suppress { s: object })?;
-        Ok(())
+        let came = self.store.suppress(context, object);
+        settle(&mut self.last, came)
     }
 
     /// The object is registered for finalization (GC.ReRegisterForFinalize).
@@ -162,8 +138,8 @@ impl Host {
             result }
         ensures contexts { self.new.machine.numbers.callers ≡ self.old.machine.numbers.callers }
     {
-        self.ask(context, Cmd::Reregister { s: object })?;
-        Ok(())
+        let came = self.store.reregister(context, object);
+        settle(&mut self.last, came)
     }
 
     /// Local `dst` gets what local `src` references.
@@ -174,7 +150,8 @@ impl Host {
         ensures does { HasReplied self.old context None (cmd.Copy dst src) reply.Done self.new }
         ensures contexts { self.new.machine.numbers.callers ≡ self.old.machine.numbers.callers }
     {
-        self.ask_plainly(context, Cmd::Copy { d: dst, s: src });
+        self.store.copy_register(context, dst, src);
+        self.last = Change::none();
     }
 
     /// Local `dst` becomes null.
@@ -185,7 +162,8 @@ impl Host {
         ensures does { HasReplied self.old context None (cmd.Clear dst) reply.Done self.new }
         ensures contexts { self.new.machine.numbers.callers ≡ self.old.machine.numbers.callers }
     {
-        self.ask_plainly(context, Cmd::Clear { d: dst });
+        self.store.clear_register(context, dst);
+        self.last = Change::none();
     }
 
     /// Static `k` gets what local `src` references. All contexts have the 16 statics.
@@ -196,7 +174,8 @@ impl Host {
         ensures does { HasReplied self.old context None (cmd.SPut k src) reply.Done self.new }
         ensures contexts { self.new.machine.numbers.callers ≡ self.old.machine.numbers.callers }
     {
-        self.ask_plainly(context, Cmd::SPut { k, s: src });
+        self.store.put_static(context, k, src);
+        self.last = Change::none();
     }
 
     /// Local `dst` gets what static `k` references, which is returned.
@@ -208,22 +187,8 @@ impl Host {
             self.new }
         ensures contexts { self.new.machine.numbers.callers ≡ self.old.machine.numbers.callers }
     {
-        let reply = self.ask_plainly(context, Cmd::SGet { d: dst, k });
-        load_reply(reply)
-    }
-
-    // Does a command that the machine never refuses, and that takes no memory.
-    #[inline(always)]
-    pub(crate) fn ask_plainly(&mut self, context: u32, cmd: Cmd) -> Reply
-        requires context { context < self.old.machine.numbers.callers }
-        requires plain { IsNeverRefused cmd }
-        ensures replied { HasReplied self.old context None cmd result self.new }
-        ensures form { RepliesTo cmd result }
-        ensures contexts { self.new.machine.numbers.callers ≡ self.old.machine.numbers.callers }
-    {
-        match self.ask_within(context, cmd) {
-            Ok(entry) => entry.reply,
-            Err(_) => unreachable!(),
-        }
+        let target = self.store.get_static(context, dst, k);
+        self.last = Change::none();
+        target
     }
 }

@@ -43,16 +43,6 @@ impl Stamps {
         }
     }
 
-    /// The stamp of a slot, if the table has such a slot.
-    pub(crate) fn get(&self, slot: Slot) -> Option<u64>
-        ensures { result ≡ slice_get self.now slot.0 }
-    {
-        match self.stamps.get(slot.0 as usize) {
-            Some(stamp) => Some(*stamp),
-            None => None,
-        }
-    }
-
     /// Whether a stamp is that of a slot, which may be any number.
     #[inline(always)]
     pub(crate) fn is(&self, slot: Slot, stamp: u64) -> bool

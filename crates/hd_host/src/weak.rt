@@ -2,21 +2,17 @@
 ghost use Rattle.std.specs.Prelude.{◌≡◌, ◌<◌, None, MatchResult};
 ghost use Rattle.hd_model.specs.declared.command.Cmd.TheVariants as cmd;
 ghost use Rattle.hd_host.specs.Calls.{AddsEntry, FailsBy, Tries};
-ghost use Rattle.hd_host.specs.Replies.{found_reply, removed_reply};
+ghost use Rattle.hd_slots.specs.Change.{change_in};
+ghost use Rattle.hd_store.specs.Replies.{found_reply, removed_reply};
 ghost use Rattle.hd_host.specs.View.{IsAsItWas};
 
+use crate::change::{Change, settle};
 use crate::fault::Fault;
 use crate::host::Host;
-use crate::replies::{found, removed};
 use hd_model::limits::REGISTERS;
-use hd_model::{Cmd, Id};
-
-/// What the weak table has for a key: the value of its entry, or null, or no entry.
-#[derive(Clone, Copy, Debug, PartialEq, Eq)]
-pub enum Lookup {
-    Value(Option<Id>),
-    Absent,
-}
+use hd_model::{Cmd, Kind};
+use hd_slots::{Change as Slots, note_slot, offer};
+use hd_store::{Lookup, Store};
 
 impl Host {
     /// Adds the entry of a key with a value (ConditionalWeakTable.Add). Where no slot of the weak
@@ -30,8 +26,19 @@ impl Host {
             × IsAsItWas self.old self.new) }
         ensures contexts { self.new.machine.numbers.callers ≡ self.old.machine.numbers.callers }
     {
-        self.ask(context, Cmd::CAdd { k: key, v: value })?;
-        Ok(())
+        let change = change_by_entry(&self.store, context, key, value);
+        let offered = offer(&mut self.pool, change);
+        match self.store.add_entry(context, key, value, offered) {
+            Ok((slot, grown)) => {
+                note_slot(&mut self.pool, change, Some(slot), grown);
+                self.last = Change {
+                    slot: Some(slot),
+                    grown,
+                };
+                Ok(())
+            }
+            Err(refusal) => Err(Fault::of(refusal)),
+        }
     }
 
     /// Local `dst` gets the value of the entry of a key, and becomes null where there is none
@@ -42,8 +49,8 @@ impl Host {
         ensures does { Tries self.old context (cmd.CFind dst key) found_reply self.new result }
         ensures contexts { self.new.machine.numbers.callers ≡ self.old.machine.numbers.callers }
     {
-        let entry = self.ask(context, Cmd::CFind { d: dst, k: key })?;
-        Ok(found(entry.reply))
+        let came = self.store.find_entry(context, dst, key);
+        settle(&mut self.last, came)
     }
 
     /// Takes the entry of a key out, and returns whether there was one (Remove).
@@ -53,7 +60,20 @@ impl Host {
         ensures does { Tries self.old context (cmd.CRemove key) removed_reply self.new result }
         ensures contexts { self.new.machine.numbers.callers ≡ self.old.machine.numbers.callers }
     {
-        let entry = self.ask(context, Cmd::CRemove { k: key })?;
-        Ok(removed(entry.reply))
+        let came = self.store.remove_entry(context, key);
+        settle(&mut self.last, came)
+    }
+}
+
+// What a new entry of the weak table does to the free slots.
+fn change_by_entry(store: &Store, context: u32, key: u8, value: u8) -> Slots
+    requires context { context < store.now.numbers.callers }
+    requires locals { (key < REGISTERS) × (value < REGISTERS) }
+    ensures { result ≡ change_in store.now.state context (cmd.CAdd key value) }
+{
+    if store.needs_slot(context, Cmd::CAdd { k: key, v: value }) {
+        Slots::Takes(Kind::Dependent)
+    } else {
+        Slots::Adds
     }
 }

@@ -1,27 +1,29 @@
-use Rattle.std.proofs.Common.{ap, refl, subst, sym, ◌<◌, ◌∙◌}
-use Rattle.hd_host.specs.{Handles.handle_of, View.HostView}
-use Rattle.hd_host.proofs.TargetLoads.{host_on, replies}
-use Rattle.hd_host.proofs.host.Host.handle_get.Goals.{After-load_target}
+use Rattle.std.proofs.Common.{ap, refl}
+use Rattle.hd_model.specs.{Command.load_reply, State.handle_register_of}
+use Rattle.hd_store.specs.Store.{Machine}
+use Rattle.hd_host.proofs.{Refused.not_refused, ReplyForms.loads, TargetLoads.live_of}
+use Rattle.hd_host.proofs.ValueCalls.{called_numbers, callers_by, host_of, replied_of}
 use Rattle.hd_host.proofs.host.Host.handle_get.Goals as goal
-
-known : (c : After-load_target) → c.args.context < c.self.inside.store.numbers.callers
-known c =
-    subst (λ (v : HostView). c.args.context < v.machine.numbers.callers) (sym c.self.view_is)
-    c.requires.context
 
 pub invariant_of-self-2 : goal.invariant_of-self-2
 invariant_of-self-2 c =
-    let i = c.self.inside in
-    let found = c.in-Some.ensures in
-    host_on i.store i.pool i.stamps c.self.invariant c.args.context
-    (known ((goal.at.invariant_of-self-2 c).After-load_target)) c.slot.result c.args.dst c.in-Some.target
-    c.load_target.new.self found.loads found.called
+    host_of c.self.invariant c.self.view_is c.requires.context
+    (live_of c.self.view_is c.in-Some.ensures.0 c.in-Some-load_target.ensures.found) refl refl refl c.load_target.new.self (
+      c.in-Some-load_target.ensures.called,
+      ap (λ (x : Machine). handle_register_of x.state c.args.context 0)
+          c.in-Some-load_target.ensures.loads,
+    )
 
 pub returns-clause-does : goal.returns-clause-does
 returns-clause-does c =
-    let i = c.self.inside in
-    let found = c.in-Some.ensures in
-    replies i.store i.pool i.stamps c.self.invariant c.args.context
-    (known ((goal.at.returns-clause-does c).After-load_target)) c.slot.result c.args.dst c.in-Some.target
-    c.load_target.new.self found.loads found.called c.args.self.now i.last c.self.view_is c.args.handle
-    (c.if-not-has_stamp.ensures.own refl ∙ ap (handle_of c.args.self.now) (sym c.slot.ensures)) found.found
+    replied_of c.self.invariant c.self.view_is c.requires.context
+    (live_of c.self.view_is c.in-Some.ensures.0 c.in-Some-load_target.ensures.found) refl refl refl c.load_target.new.self (load_reply c.in-Some-load_target.target) (
+      c.in-Some-load_target.ensures.called,
+      ap (λ (x : Machine). handle_register_of x.state c.args.context 0)
+          c.in-Some-load_target.ensures.loads,
+    )
+    (not_refused c.in-Some-load_target.target) (loads c.in-Some-load_target.target) c.none-self-inside.ensures
+
+pub returns-clause-contexts : goal.returns-clause-contexts
+returns-clause-contexts c =
+    callers_by c.self.view_is (called_numbers c.in-Some-load_target.ensures.called)

@@ -1,36 +1,49 @@
-use Rattle.std.proofs.Common.{Some, subst, sym, ◌∙◌, ◌≡◌}
-use Rattle.std.proofs.lemmas.Option.{none-some, same_Some}
-use Rattle.std.specs.Prelude.{IsSome}
-use Rattle.hd_model.specs.{declared.data.Slot.Slot, State.handle_at}
-use Rattle.hd_host.proofs.MadeHandle.{IsMade, is_made}
-use Rattle.hd_host.proofs.host.Host.handle_new.Goals.{In_ok-entry}
+use Rattle.hd_host.proofs.MadeHandle.{host_made, host_unmade, live_made, makes, makes_none, may_note, offered_free}
+use Rattle.hd_host.proofs.ValueCalls.{called_numbers, callers_by}
 use Rattle.hd_host.proofs.host.Host.handle_new.Goals as goal
 
--- the slot of the new handle is live
-made : (c : In_ok-entry) → IsMade c.in_ok-entry.entry c.ask.new.self.machine.state
-made c = is_made c.args.self.now.machine c.ask.new.self.machine c.args.context c.args.make c.args.target
-    c.in_ok-entry.entry c.in_ok-entry.ensures.does.stepped c.in_ok-entry.ensures.does.done
+pub make_handle-requires-clause-offer : goal.make_handle-requires-clause-offer
+make_handle-requires-clause-offer c =
+    offered_free c.self.invariant c.self.view_is c.requires.context c.args.make c.args.target c.kind.ensures
+    c.offer-offered.new.pool c.offer-offered.result c.offer-offered.ensures c.self.inside.store
 
-live : (c : In_ok-entry) (slot : Slot) → c.in_ok-entry.entry.slot ≡ Some slot
-    → IsSome (handle_at c.ask.new.self.machine.state slot)
-live c slot is = subst (λ s. IsSome (handle_at c.ask.new.self.machine.state s))
-    (same_Some (made c).slot slot (sym (made c).given ∙ is)) (made c).live
+pub note_slot-requires : goal.note_slot-requires
+note_slot-requires c =
+    may_note c.self.invariant c.self.view_is c.requires.context c.args.make c.args.target c.kind.ensures
+    c.offer-offered.new.pool c.offer-offered.result c.offer-offered.ensures c.make_handle.new.self c.in-Ok.ensures
+
+pub invariant_of-self : goal.invariant_of-self
+invariant_of-self c =
+    host_made c.self.invariant c.self.view_is c.requires.context c.args.make c.args.target c.kind.ensures
+    c.offer-offered.new.pool c.offer-offered.result c.offer-offered.ensures c.make_handle.new.self c.in-Ok.ensures
+    c.note_slot.new.pool c.note_slot.ensures
 
 pub handle_in-requires : goal.handle_in-requires
-handle_in-requires c = live (goal.at.handle_in-requires c).In_ok-entry c.in-Some.slot c.in-Some.is
+handle_in-requires c =
+    live_made c.self.invariant c.self.view_is c.requires.context c.args.make c.args.target c.kind.ensures
+    c.offer-offered.new.pool c.offer-offered.result c.offer-offered.ensures c.make_handle.new.self c.in-Ok.ensures
 
-pub returns-clause-does : goal.returns-clause-does
-returns-clause-does c = record {
-  entry = c.in_ok-entry.entry;
-  done = c.in_ok-entry.ensures.does;
-  slot = c.in-Some.slot;
-  slot_is = c.in-Some.is;
-  handle_is = record {
-    live = live (goal.at.returns-clause-does c).In_ok-entry c.in-Some.slot c.in-Some.is;
-    is = c.handle_in.ensures;
-  };
-}
+pub returns-in-Ok-clause-does : goal.returns-in-Ok-clause-does
+returns-in-Ok-clause-does c =
+    makes c.self.invariant c.self.view_is c.requires.context c.args.make c.args.target c.kind.ensures
+    c.offer-offered.new.pool c.offer-offered.result c.offer-offered.ensures c.make_handle.new.self c.in-Ok.ensures
+    c.handle_in.ensures
 
-pub unreachable-requires : goal.unreachable-requires
-unreachable-requires c =
-    let m = made (goal.at.unreachable-requires c).In_ok-entry in none-some m.slot (sym c.in-None.is ∙ m.given)
+pub returns-in-Ok-clause-contexts : goal.returns-in-Ok-clause-contexts
+returns-in-Ok-clause-contexts c =
+    callers_by c.self.view_is (called_numbers c.in-Ok.ensures.0)
+
+pub invariant_of-self-in-Err : goal.invariant_of-self-in-Err
+invariant_of-self-in-Err c =
+    host_unmade c.self.invariant c.self.view_is c.requires.context c.args.make c.args.target c.kind.ensures
+    c.offer-offered.new.pool c.offer-offered.result c.offer-offered.ensures c.make_handle.new.self c.in-Err.ensures
+
+pub returns-in-Err-clause-does : goal.returns-in-Err-clause-does
+returns-in-Err-clause-does c =
+    makes_none c.self.invariant c.self.view_is c.requires.context c.args.make c.args.target c.kind.ensures
+    c.offer-offered.new.pool c.offer-offered.result c.offer-offered.ensures c.make_handle.new.self c.in-Err.ensures
+    c.of.ensures
+
+pub returns-in-Err-clause-contexts : goal.returns-in-Err-clause-contexts
+returns-in-Err-clause-contexts c =
+    callers_by c.self.view_is (called_numbers c.in-Err.ensures.0)

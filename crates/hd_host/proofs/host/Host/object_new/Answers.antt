@@ -1,6 +1,29 @@
-use Rattle.hd_host.proofs.SameHost.{unchanged}
+use Rattle.hd_model.specs.declared.data.Reply.TheVariants as reply
+use Rattle.hd_host.proofs.{CallHost.host_without, CallHost.ran_out, SameHost.unchanged}
+use Rattle.hd_host.proofs.ValueCalls.{called_numbers, callers_by, host_on, refl, tried}
 use Rattle.hd_host.proofs.host.Host.object_new.Goals as goal
 
 pub returns-then-last_serial-clause-does : goal.returns-then-last_serial-clause-does
 returns-then-last_serial-clause-does c =
     (c.no_serial_left.ensures c.args.dst c.args.fin, unchanged c.args.self.now)
+
+pub invariant_of-self : goal.invariant_of-self
+invariant_of-self c =
+    host_on c.self.invariant c.self.view_is c.requires.context refl refl c.in-Ok.ensures
+
+pub returns-in-Ok-clause-does : goal.returns-in-Ok-clause-does
+returns-in-Ok-clause-does c =
+    tried c.self.invariant c.self.view_is c.requires.context refl refl reply.Object c.in-Ok.came c.in-Ok.ensures
+    (λ _. refl) (λ _. refl) _ _ c.settle.ensures
+
+pub returns-in-Ok-clause-contexts : goal.returns-in-Ok-clause-contexts
+returns-in-Ok-clause-contexts c =
+    callers_by c.self.view_is (called_numbers c.in-Ok.ensures)
+
+pub invariant_of-self-in-Err : goal.invariant_of-self-in-Err
+invariant_of-self-in-Err c =
+    host_without c.in-Err.ensures c.self.invariant
+
+pub returns-in-Err-clause-does : goal.returns-in-Err-clause-does
+returns-in-Err-clause-does c =
+    ran_out c.in-Err.ensures c.self.view_is

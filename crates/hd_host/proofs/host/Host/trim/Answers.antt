@@ -1,17 +1,23 @@
-use Rattle.std.proofs.Common.{arith}
-use Rattle.hd_host.specs.Inside.{trims as may_trim}
-use Rattle.hd_host.proofs.{Trimmed.trims, WholeHost.whole}
+use Rattle.hd_host.proofs.{Trimmed.host_trimmed, Trimmed.may_note, Trimmed.may_offer, Trimmed.trims, ValueCalls.callers_by}
+use Rattle.hd_host.proofs.Registers.{called_numbers}
 use Rattle.hd_host.proofs.host.Host.trim.Goals as goal
 
-pub ask_plainly-reply-requires-clause-plain : goal.ask_plainly-reply-requires-clause-plain
-ask_plainly-reply-requires-clause-plain c = may_trim c.args.kind c.requires
+pub trim-grown-requires-clause-offer : goal.trim-grown-requires-clause-offer
+trim-grown-requires-clause-offer c =
+    may_offer c.self.invariant c.self.view_is c.args.kind c.offer-offered.new.pool c.offer-offered.result c.offer-offered.ensures
 
-pub overflow_cast-result : goal.overflow_cast-result
-overflow_cast-result c =
-    let t = trims ((whole c.self.invariant c.self.view_is).empty 0 0) c.ask_plainly-reply.ensures.replied
-    c.value.ensures in
-    omega (arith, t.at_most_one)
+pub note_slot-requires : goal.note_slot-requires
+note_slot-requires c =
+    may_note c.self.invariant c.self.view_is c.args.kind c.offer-offered.new.pool c.offer-offered.result c.offer-offered.ensures c.trim-grown.ensures
+
+pub invariant_of-self : goal.invariant_of-self
+invariant_of-self c =
+    host_trimmed c.self.invariant c.self.view_is c.args.kind c.offer-offered.new.pool c.offer-offered.result c.offer-offered.ensures c.trim-grown.ensures c.note_slot.new.pool c.note_slot.ensures
 
 pub returns-clause-does : goal.returns-clause-does
-returns-clause-does c = trims ((whole c.self.invariant c.self.view_is).empty 0 0) c.ask_plainly-reply.ensures.replied
-    c.value.ensures
+returns-clause-does c =
+    trims c.self.invariant c.self.view_is c.args.kind c.offer-offered.new.pool c.offer-offered.result c.offer-offered.ensures c.trim-grown.ensures c.given_back.ensures
+
+pub returns-clause-contexts : goal.returns-clause-contexts
+returns-clause-contexts c =
+    callers_by c.self.view_is (called_numbers c.trim-grown.ensures)

@@ -1,0 +1,25 @@
+use Rattle.hd_model.specs.declared.data.Reply.TheVariants as reply
+use Rattle.hd_host.proofs.CallHost.{host_without, ran_out}
+use Rattle.hd_host.proofs.ValueCalls.{called_numbers, callers_by, host_on, refl, replied_on, some_context}
+use Rattle.hd_host.proofs.host.Host.collect.Goals as goal
+
+pub invariant_of-self : goal.invariant_of-self
+invariant_of-self c =
+    host_on c.self.invariant c.self.view_is (some_context c.self.invariant c.self.view_is) refl refl c.in-Ok.ensures
+
+pub returns-in-Ok-clause-does : goal.returns-in-Ok-clause-does
+returns-in-Ok-clause-does c =
+    replied_on c.self.invariant c.self.view_is (some_context c.self.invariant c.self.view_is) refl refl (reply.Report c.in-Ok.report) c.in-Ok.ensures refl refl
+    c.none-self-inside.ensures
+
+pub returns-in-Ok-clause-contexts : goal.returns-in-Ok-clause-contexts
+returns-in-Ok-clause-contexts c =
+    callers_by c.self.view_is (called_numbers c.in-Ok.ensures)
+
+pub invariant_of-self-in-Err : goal.invariant_of-self-in-Err
+invariant_of-self-in-Err c =
+    host_without c.in-Err.ensures c.self.invariant
+
+pub returns-in-Err-clause-does : goal.returns-in-Err-clause-does
+returns-in-Err-clause-does c =
+    ran_out c.in-Err.ensures c.self.view_is

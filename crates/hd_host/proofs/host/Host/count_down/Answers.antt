@@ -1,0 +1,18 @@
+use Rattle.hd_model.specs.declared.data.Reply.TheVariants as reply
+use Rattle.hd_host.proofs.ValueCalls.{called_numbers, callers_by, host_of, refl, some_context, tried_of}
+use Rattle.hd_host.proofs.host.Host.count_down.Goals as goal
+
+pub invariant_of-self : goal.invariant_of-self
+invariant_of-self c =
+    host_of c.self.invariant c.self.view_is (some_context c.self.invariant c.self.view_is)
+    c.in-Some.ensures refl refl refl c.lower_count-came.new.self c.lower_count-came.ensures
+
+pub returns-clause-does : goal.returns-clause-does
+returns-clause-does c =
+    tried_of c.self.invariant c.self.view_is (some_context c.self.invariant c.self.view_is)
+    c.in-Some.ensures refl refl refl c.lower_count-came.new.self reply.Value
+    c.lower_count-came.result c.lower_count-came.ensures (λ _. refl) (λ _. refl) _ _ c.settle_count.ensures
+
+pub returns-clause-contexts : goal.returns-clause-contexts
+returns-clause-contexts c =
+    callers_by c.self.view_is (called_numbers c.lower_count-came.ensures.0)
