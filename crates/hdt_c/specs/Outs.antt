@@ -7,10 +7,10 @@ use Rattle.hd_model.specs.declared.limits.TheConstants.{CLUMPS, OLDEST, ROWS}
 use Rattle.hd_model.specs.State.{Numbers, given_of, handle_at, start_of, total_size}
 use Rattle.hd_store.specs.Offers.{HasLimits}
 use Rattle.hd_host.specs.{Handles.IsNextFrom, View.HostView}
-use Rattle.hd_host.specs.declared.collecting.Root.{Root as HostRoot}
+use Rattle.hd_store.specs.declared.collection_calls.Root.{Root as HostRoot}
 use Rattle.hd_host.specs.declared.observing.Listed.{Listed}
-use Rattle.hd_host.specs.declared.weak.Lookup.{Lookup}
-use Rattle.hd_host.specs.declared.weak.Lookup.TheVariants as found
+use Rattle.hd_store.specs.declared.entry_calls.Lookup.{Lookup}
+use Rattle.hd_store.specs.declared.entry_calls.Lookup.TheVariants as found
 use Rattle.hdt_c.specs.Arguments.{extra_number, number_of}
 use Rattle.hdt_c.specs.declared.parts.{Info.Info, Limits.Limits, Report.Report, Root.Root, Stats.Stats}
 use Rattle.hdt_c.specs.declared.status.TheConstants.{OK, IS_OPEN, ARGUMENT, NO_MEMORY, NONE}

@@ -2,7 +2,7 @@
 ghost use Rattle.std.specs.Prelude.{◌≡◌, if◌then◌else◌};
 ghost use Rattle.hd_model.specs.declared.command.Cmd.TheVariants as cmd;
 ghost use Rattle.hd_host.specs.Calls.{AddsEntry};
-ghost use Rattle.hd_host.specs.{Replies.found_reply, Replies.removed_reply};
+ghost use Rattle.hd_store.specs.Replies.{found_reply, removed_reply};
 ghost use Rattle.hdt_c.specs.Arguments.{number_of};
 ghost use Rattle.hdt_c.specs.Exports.{Comes, Runs, KeepsNothing, HasLocal, HasLocals, FailsIn, Returns};
 ghost use Rattle.hdt_c.specs.Outs.{IsFound};

@@ -3,7 +3,8 @@ ghost use Rattle.std.specs.Prelude.{◌≡◌, ◌<◌, ◌≤◌, false, None, 
 ghost use Rattle.hd_model.specs.{declared.data.Kind.Kind, Kinds.is_paired, Kinds.kind_number};
 ghost use Rattle.hd_model.specs.declared.command.Cmd.TheVariants as cmd;
 ghost use Rattle.hd_model.specs.declared.data.Reply.TheVariants as reply;
-ghost use Rattle.hd_host.specs.{Calls.Trims, Replies.queued_reply};
+ghost use Rattle.hd_host.specs.{Calls.Trims};
+ghost use Rattle.hd_commands.specs.Done.{queued_reply};
 ghost use Rattle.hdt_c.specs.Arguments.{change_out};
 ghost use Rattle.hdt_c.specs.Exports.{Comes, Runs, NeverFails, AlwaysRight, HasLocal, FailsIn, Replies, Returns};
 ghost use Rattle.hdt_c.specs.Outs.{IsFirst, IsOpened, Opens, Refuses, report_in, stats_of};

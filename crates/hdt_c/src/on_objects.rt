@@ -3,7 +3,7 @@ ghost use Rattle.std.specs.Prelude.{◌≡◌, ◌==◌, ◌<◌, ◌≤◌, Non
 ghost use Rattle.hd_model.specs.{Command.load_reply};
 ghost use Rattle.hd_model.specs.declared.command.Cmd.TheVariants as cmd;
 ghost use Rattle.hd_model.specs.declared.data.Reply.TheVariants as reply;
-ghost use Rattle.hd_host.specs.Replies.{root_reply};
+ghost use Rattle.hd_store.specs.Replies.{root_reply};
 ghost use Rattle.hdt_c.specs.Arguments.{field_number, number_of};
 ghost use Rattle.hdt_c.specs.Exports.{Comes, Runs, KeepsNothing, InContext, IsLocal, HasLocal, HasLocals, FailsIn, Replies, Returns, Loads};
 ghost use Rattle.hdt_c.specs.Outs.{IsRoot};
