@@ -1,5 +1,5 @@
 -- What each command does with the pinned addresses.
-use Rattle.hd_store.proofs.StoreWords.{Addr, RepliesAddress, Bool, Cmd, CollectedSteps, Done, Entry, Err, FinMap, GrowsFor, Handle, HasCollected, HasNames, HasAddress, HasRun, Id, IsOffer, IsOutcome, IsPlainStep, IsValid, KeepsNames, KeepsPinned, LeavesHeap, Machine, MayReturn, MayOffer, MayRun, Moves, None, Ok, Option, Outcome, Refusal, Reply, Report, Result, Slot, Some, State, Step, StepOf, TakesSteps, Zero, aged_by, reply_address, reply_with, ap, asks_of, class_of, cond, done_of, empty, entry_by, false, get, get_inserted, handle_at, handle_register_of, if◌then◌else◌, insert, is_collect, kept_pinned, key_register, name_in, nat_cmp, no_room, nothing_at, option_and_then, option_map_or, pinned_by, pinned_in, pinned_target, pins, refl, refuses, register_of, same_Some, subst, sym, touched_by, true, true≢false, with_address, with_pinned, ℕ, ◌<◌, ◌∙◌, ◌≡◌, ◌≤◌}
+use Rattle.hd_store.proofs.StoreWords.{Addr, RepliesAddress, Bool, Cmd, CollectedSteps, Done, Entry, Err, FinMap, GrowsFor, Handle, HasCollected, HasNames, HasAddress, HasRun, Id, IsOffer, IsOutcome, IsPlainStep, IsValid, KeepsNames, KeepsPinned, LeavesHeap, Machine, MatchResult, MayReturn, MayOffer, MayRun, Moves, None, Ok, Option, Outcome, Refusal, Reply, Report, Result, Slot, Some, State, Step, StepOf, TakesSteps, Zero, aged_by, reply_address, reply_with, ap, asks_of, class_of, cond, done_of, empty, entry_by, false, get, get_inserted, handle_at, handle_register_of, if◌then◌else◌, insert, is_collect, kept_pinned, key_register, name_in, nat_cmp, no_room, nothing_at, option_and_then, option_map_or, pinned_by, pinned_in, pinned_target, pins, refl, refuses, register_of, same_Some, subst, sym, touched_by, true, true≢false, with_address, with_pinned, ℕ, ◌<◌, ◌∙◌, ◌≡◌, ◌≤◌}
 use Rattle.hd_model.specs.Aging.{is_refused}
 use Rattle.hd_model.specs.Command.{reply_root}
 use Rattle.hd_model.specs.Anchors.{ReturnsRoot}
@@ -204,6 +204,17 @@ collect-steps m n report caller before after steps = record {
       subst (λ j. CollectedSteps m.state m.ages j before after) (ap (number_in n) same_n) steps;
 }
 
+-- so is what a collection returned, which is a report or out of memory
+pub collect-returns : {E : Type 0} (m k : Machine) (n caller : ℕ) → caller < m.numbers.callers → n ≤ 2
+    → (before after : ℕ) (r : Result Report E)
+    → MatchResult r (λ report. HasCollected m k n report × CollectedSteps m.state m.ages n before after)
+    (λ _. (k ≡ m) × (after ≡ before))
+    → MatchResult r (λ report. let e = entry_with caller (cmd.Collect n) (reply.Report report) in
+    KeepsPinned m e k × TakesSteps m.state m.ages e before after) (λ _. (k ≡ m) × (after ≡ before))
+collect-returns m k n caller known low before after (Ok report) is =
+    (collect-moves m k n report caller known low is.0, collect-steps m n report caller before after is.1)
+collect-returns m k n caller known low before after (Err memory) is = is
+
 -- a command was done with any pinned addresses, and took so many steps
 abbrev pub Ran : Machine → Machine → ℕ → Cmd → Option Slot → Entry → (before after : ℕ) → Type 0
 Ran m k caller c offer e before after =
@@ -228,15 +239,14 @@ plain-kept m k caller c offer may e did =
       growth = did.growth;
     }
 
-pub plain-runs : (m k : Machine) (caller : ℕ) (c : Cmd) (offer : Option Slot) → MayRun m caller c offer
-    → key_register (class_of c) ≡ None → (steps : ℕ) (did e : Entry) → e ≡ did
-    → HasRun m caller c offer did (IsPlainStep m c k did) → Ran m k caller c offer e steps steps
-plain-runs m k caller c offer may no_key steps did e entry ran =
-    subst (λ x. Ran m k caller c offer x steps steps) (sym entry) (
-      plain-kept m k caller c offer may did ran,
-      others-steps did uses_pinned (ap uses_pinned ran.command ∙ ran.effect.plain) (λ n. refl) m steps
-          (ap (λ c. key_register (class_of c)) ran.command ∙ no_key),
-    )
+pub plain-runs : (m k : Machine) (caller : ℕ) (c : Cmd) (offer : Option Slot) (steps : ℕ) (e : Entry)
+    → key_register (class_of c) ≡ None → HasRun m caller c offer e (IsPlainStep m c k e) → MayRun m caller c offer
+    → Ran m k caller c offer e steps steps
+plain-runs m k caller c offer steps e no_key ran may = (
+  plain-kept m k caller c offer may e ran,
+  others-steps e uses_pinned (ap uses_pinned ran.command ∙ ran.effect.plain) (λ n. refl) m steps
+      (ap (λ c. key_register (class_of c)) ran.command ∙ no_key),
+)
 
 -- `addr` returns the address of what the handle pins
 module _ (m k : Machine) (e : Entry) (keeps : KeepsPinned m e k) (h address : ℕ) (x : Id)
@@ -267,15 +277,14 @@ module _ (m k : Machine) (e : Entry) (keeps : KeepsPinned m e k) (h address : �
       (does.outcome.after ∙ ap (λ (o : Outcome). o.after) outcome_is)
       ∙ get_inserted empty x.0 does.address ∙ ap Some address_is)
 
--- what was done by a command was done by the one that was asked, with the entry that was made
-pub as-asked : (m k : Machine) (caller : ℕ) (given c : Cmd) (offer : Option Slot) (r : Result Done Refusal)
-    (before after : ℕ) (e : Entry) → given ≡ c → e ≡ entry_by caller c (done_of r)
-    → MayRun m caller given offer
+-- what was done by a command was done by the one that was asked
+pub as-asked : (m k : Machine) (caller : ℕ) (given c : Cmd) (offer : Option Slot) (came r : Result Done Refusal)
+    (before after : ℕ) → given ≡ c → came ≡ r → MayRun m caller given offer
     → (MayRun m caller c offer → Ran m k caller c offer (entry_by caller c (done_of r)) before after)
-    → Ran m k caller given offer e before after
-as-asked m k caller given c offer r before after e is entry may ran =
-    subst (λ x. Ran m k caller given offer x before after) (sym entry)
-    (subst (λ d. Ran m k caller d offer (entry_by caller c (done_of r)) before after) (sym is)
+    → Ran m k caller given offer (entry_by caller given (done_of came)) before after
+as-asked m k caller given c offer came r before after is same may ran =
+    subst (λ x. Ran m k caller given offer (entry_by caller given (done_of x)) before after) (sym same)
+    (subst (λ d. Ran m k caller d offer (entry_by caller d (done_of r)) before after) (sym is)
     (ran (subst (λ d. MayRun m caller d offer) is may)))
 
 -- so was what takes no slot and gives none back

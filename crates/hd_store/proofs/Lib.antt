@@ -37,3 +37,4 @@ mod QueueIndexes
 mod TargetLoads
 mod ValueCalls
 mod SlotCalls
+mod PartsCommands

@@ -1,5 +1,5 @@
 -- A call about the handle in a live slot is the command by a handle register that has the slot.
-use Rattle.hd_store.proofs.StoreWords.{Addr, Back, Bool, Cmd, Done, Entry, Err, FinMap, Grown, Handle, HasRun, Id, IfSome, IsFree, IsOffer, IsOverHeap, IsPlainStep, IsSome, HasAddress, IsValid, KeepsPinned, Kind, List, Machine, Make, MatchResult, MayRun, None, Ok, One, Option, Outcome, Refusal, Result, Slot, Some, State, aged_by, ap, arith, asks_of, count_of, cond, done_of, entry_by, false, handle_at, handle_register_of, if◌then◌else◌, inl, inr, is_kind, is_some, kind_of, length, name_in, nat_cmp, pinned_in, length-set, get_or, no_room, option_map_or, refl, refuses, register_of, reply_with, secondary_of, seen_by, set, suc, sym, touched_by, true, Two, Zero, zero, [], ℕ, ◌&&◌, same_Some, subst, ◌+◌, ◌-◌, ◌<◌, ◌^◌, ◌∙◌, ◌∷◌, ◌≡◌}
+use Rattle.hd_store.proofs.StoreWords.{Addr, Back, Bool, Cmd, Done, Entry, Err, FinMap, Grown, Handle, HasRun, Id, IfSome, IsFree, IsOffer, IsOverHeap, IsPlainStep, IsSome, HasAddress, IsFreeAddress, IsValid, KeepsPinned, Kind, List, Machine, Make, MatchOption, MatchResult, None, Ok, One, Option, Outcome, Refusal, Result, Slot, Some, State, aged_by, ap, arith, asks_of, count_of, cond, done_of, entry_by, false, false≢true, get, handle_at, handle_register_of, if◌then◌else◌, inl, inr, is_kind, is_some, kind_of, length, name_in, nat_cmp, pinned_in, length-set, get_or, no_room, option_map_or, refl, refuses, register_of, reply_with, secondary_of, seen_by, set, suc, sym, touched_by, true, Two, with_pinned, Zero, zero, [], ℕ, ◌&&◌, same_Some, subst, ◌+◌, ◌-◌, ◌<◌, ◌^◌, ◌∙◌, ◌∷◌, ◌≡◌}
 use Rattle.std.specs.Prelude.{◌==◌}
 use Rattle.hd_model.specs.State.{secondary, strength, with_handle, with_handle_register, with_register, without_handle, without_secondary}
 use Rattle.hd_model.specs.Command.{free_handle, get_secondary, load_reply, lower_count, on_handle, raise_count, set_secondary, set_strength, set_target, with_count}
@@ -13,10 +13,11 @@ use Rattle.hd_model.specs.Step.{TakesWay, decided, makes_handle, way_of, with_gr
 use Rattle.hd_model.specs.Aging.{is_refused, lowered_at, lowered_to}
 use Rattle.hd_model.proofs.ReadAfterWrite.{cell_here}
 use Rattle.hd_commands.specs.{Counts.MayCountUp, Seen.Seen}
-use Rattle.hd_commands.specs.Done.{ComesToAged, done_freeing, done_making, done_with}
+use Rattle.hd_commands.specs.Done.{ComesTo, ComesToAged, done_freeing, done_making, done_with}
 use Rattle.hd_commands.specs.Handles.{pinned_of}
-use Rattle.hd_store.specs.Calls.{HasCalled, IsSound, KeepsFirst, StaysWithin, pointed, pointed_made}
-use Rattle.hd_store.proofs.{AddressSteps.addr-refused, AddressSteps.addr-replies, SoundCalls.may-run, SoundCalls.sound-pointed, TargetLoads.over-pointed, ValueCalls.called, ValueCalls.has-called, ValueCalls.kept-called, ValueCalls.sound-on, ValueCalls.stays-sound}
+use Rattle.hd_store.specs.Calls.{HasCalled, HasReturnedOf, IsSound, KeepsFirst, StaysWithin, pointed, pointed_made}
+use Rattle.hd_model.specs.declared.limits.TheConstants.{REGISTERS}
+use Rattle.hd_store.proofs.{AddressSteps.addr-refused, AddressSteps.addr-replies, SoundCalls.sound-pointed, TargetLoads.over-pointed, ValueCalls.called, ValueCalls.endless, ValueCalls.kept-called, ValueCalls.known-in, ValueCalls.run-called, ValueCalls.run-sound, ValueCalls.sound-on, ValueCalls.unaged, ValueCalls.unoffered}
 
 -- ---- a slot in a handle register is no part of what makes a store sound
 
@@ -152,7 +153,7 @@ module _ (caller : ℕ) (slot : Slot) where
   by_target None x y = refl
   by_target (Some id) x y = refl
 
-module _ (m : Machine) (caller : ℕ) (slot : Slot) (handle : Handle Id) (sound : IsSound m)
+module _ {m : Machine} {caller : ℕ} (slot : Slot) {handle : Handle Id} (sound : IsSound m)
     (known : caller < m.numbers.callers) (live : handle_at m.state slot ≡ Some handle) where
   abbrev asking : State
   asking = (pointed m caller (Some slot)).state
@@ -239,10 +240,50 @@ module _ (m : Machine) (caller : ℕ) (slot : Slot) (handle : Handle Id) (sound 
       (by_test caller slot (count_of handle.extra == 0) none less)
       ∙ by_test caller slot is_counted (if count_of handle.extra == 0 then none else less) other
 
--- what came of a handle came of the command, from a store with the slot in the register to one with it
-module _ {m k : Machine} {caller : ℕ} {slot : Slot} {handle : Handle Id} {c : Cmd} {w : Outcome} {ages : List ℕ}
-    {r : Result Done Refusal} (sound : IsSound m) (known : caller < m.numbers.callers) (valid : IsValid c)
-    (within : StaysWithin (pointed m caller (Some slot)).state caller c) (before : IsOverHeap m) (now : IsOverHeap k)
+-- ---- the ages of a stored target or secondary
+
+module _ {m : Machine} {caller : ℕ} (slot : Slot) {handle : Handle Id} (sound : IsSound m)
+    (known : caller < m.numbers.callers) (live : handle_at m.state slot ≡ Some handle) where
+  abbrev from : State
+  from = (pointed m caller (Some slot)).state
+
+  pub target-aged : (t : ℕ) (w : Outcome) (r : Result Done Refusal)
+      → done_of r ≡ record { reply = w.reply; slot = w.slot; grown = Zero }
+      → cond (is_refused w.reply) m.ages (lowered_to m.state m.ages (Some slot) (register_of m.state caller t))
+      ≡ aged_by from (entry_by caller (cmd.HSet 0 t) (done_of r)) m.ages
+  target-aged t w r is =
+      ap (λ (d : Done). cond (is_refused d.reply) m.ages
+      (lowered_to m.state m.ages (Some slot) (register_of m.state caller t))) (sym is)
+      ∙ ap (λ o. cond (is_refused (done_of r).reply) m.ages
+      (lowered_to m.state m.ages o (register_of m.state caller t)))
+      (sym (named slot sound known live))
+      ∙ ap (cond (is_refused (done_of r).reply) m.ages)
+      (alike (handle_register_of from caller 0) (register_of m.state caller t))
+    where
+      alike : (o : Option Slot) (x : Option Id) → lowered_to m.state m.ages o x ≡ lowered_to from m.ages o x
+      alike o None = refl
+      alike o (Some x) = refl
+
+  pub secondary-aged : (s : ℕ) (w : Outcome) (r : Result Done Refusal)
+      → done_of r ≡ record { reply = w.reply; slot = w.slot; grown = Zero }
+      → cond (is_refused w.reply) m.ages (lowered_at m.ages (Some slot) 0)
+      ≡ aged_by from (entry_by caller (cmd.HSec 0 s) (done_of r)) m.ages
+  secondary-aged s w r is =
+      ap (λ (d : Done). cond (is_refused d.reply) m.ages (lowered_at m.ages (Some slot) 0)) (sym is)
+      ∙ ap (λ o. cond (is_refused (done_of r).reply) m.ages (lowered_at m.ages o 0))
+      (sym (named slot sound known live))
+
+-- a call about the handle in a slot leaves a sound store, and is the command, from a store with the slot in the
+-- register to one with it
+abbrev pub CameOf : Machine → Machine → ℕ → Slot → Cmd → Result Done Refusal → Type 0
+CameOf v k caller slot c r =
+    IsSound k × (HasCalled (pointed v caller (Some slot)) caller c None (pointed k caller (Some slot))
+    (entry_by caller c (done_of r)) × KeepsFirst v caller k)
+
+module _ {m v k : Machine} {caller : ℕ} (slot : Slot) (c : Cmd) (r : Result Done Refusal) {w : Outcome}
+    {ages : List ℕ} (sound : IsSound m) (view : m ≡ v) (known : caller < v.numbers.callers)
+    (valid : IsValid c) (within : StaysWithin (pointed v caller (Some slot)).state caller c)
+    (before : IsOverHeap m) (now : IsOverHeap k)
     (plain : (touched_by c).pinned ≡ false) (makes : (touched_by c).makes_object ≡ false)
     (room : asks_of (pointed m caller (Some slot)).state caller c ≡ no_room)
     (way : way_of (pointed m caller (Some slot)).state caller c ≡ decided (pointed_outcome caller slot w))
@@ -262,64 +303,96 @@ module _ {m k : Machine} {caller : ℕ} {slot : Slot} {handle : Handle Id} {c : 
     ),
   )
 
-  pub called-of : HasCalled (pointed m caller (Some slot)) caller c None (pointed k caller (Some slot))
-      (entry_by caller c (done_of r)) × KeepsFirst m caller k
-  called-of = (
-    called (sound-pointed m caller 0 (Some slot) sound known) known valid within
-        (over-pointed m caller (Some slot) before) (over-pointed k caller (Some slot) now) plain makes room way
-        came_pointed aged,
-    ap (λ (s : State). handle_register_of s caller 0) came.1.1
-        ∙ ap (λ rows. get_or (get_or rows caller []) 0 None) first,
-  )
+  first-kept : KeepsFirst m caller k
+  first-kept =
+      ap (λ (s : State). handle_register_of s caller 0) came.1.1
+      ∙ ap (λ rows. get_or (get_or rows caller []) 0 None) first
 
-  pub sound-of : IsSound k
-  sound-of = sound-unpointed k caller (Some slot)
-      (sound-on (sound-pointed m caller 0 (Some slot) sound known) known valid within
-      (over-pointed m caller (Some slot) before) (over-pointed k caller (Some slot) now) plain makes room way
-      came_pointed aged)
+  came-of : CameOf v k caller slot c r
+  came-of =
+      let pointed_sound = sound-pointed m caller 0 (Some slot) sound (known-in view known) in
+      let over = over-pointed m caller (Some slot) before in
+      let after = over-pointed k caller (Some slot) now in
+      let pointed_view = ap (λ (x : Machine). pointed x caller (Some slot)) view in (
+        sound-unpointed k caller (Some slot)
+            (sound-on c r pointed_sound pointed_view known valid within over after plain makes room way came_pointed aged),
+        (
+          called c r pointed_sound pointed_view known valid within over after plain makes room way came_pointed aged,
+          subst (λ (x : Machine). KeepsFirst x caller k) view first-kept,
+        ),
+      )
 
--- ---- the ages of a stored target or secondary
+-- ---- the calls about a slot but those that make or free a handle
 
-module _ (m : Machine) (caller : ℕ) (slot : Slot) (handle : Handle Id) (sound : IsSound m)
-    (known : caller < m.numbers.callers) (live : handle_at m.state slot ≡ Some handle) where
-  abbrev from : State
-  from = (pointed m caller (Some slot)).state
+module _ {m v k : Machine} {caller : ℕ} (slot : Slot) {handle : Handle Id} (r : Result Done Refusal)
+    (sound : IsSound m) (view : m ≡ v) (known : caller < v.numbers.callers) (before : IsOverHeap m)
+    (now : IsOverHeap k) (live : handle_at m.state slot ≡ Some handle) where
+  pub sets-target : (t : ℕ) → t < REGISTERS
+      → ComesToAged (set_target_of m.state caller t slot handle)
+      (cond (is_refused (set_target_of m.state caller t slot handle).reply) m.ages
+      (lowered_to m.state m.ages (Some slot) (register_of m.state caller t))) (seen_by m) (seen_by k) r
+      → CameOf v k caller slot (cmd.HSet 0 t) r
+  sets-target t low came =
+      let in_m = known-in view known in
+      came-of slot (cmd.HSet 0 t) r sound view known (omega arith, low) (endless refl) before now refl refl refl
+      (ap decided (target_set slot sound in_m live t)) came (target-aged slot sound in_m live t (set_target_of m.state caller t slot handle) r
+      came.0)
+      (target-registers m.state caller t slot handle)
 
-  pub target-aged : (t : ℕ) (w : Outcome) (r : Result Done Refusal)
-      → done_of r ≡ record { reply = w.reply; slot = w.slot; grown = Zero }
-      → cond (is_refused w.reply) m.ages (lowered_to m.state m.ages (Some slot) (register_of m.state caller t))
-      ≡ aged_by from (entry_by caller (cmd.HSet 0 t) (done_of r)) m.ages
-  target-aged t w r is =
-      ap (λ (d : Done). cond (is_refused d.reply) m.ages
-      (lowered_to m.state m.ages (Some slot) (register_of m.state caller t))) (sym is)
-      ∙ ap (λ o. cond (is_refused (done_of r).reply) m.ages
-      (lowered_to m.state m.ages o (register_of m.state caller t)))
-      (sym (named m caller slot handle sound known live))
-      ∙ ap (cond (is_refused (done_of r).reply) m.ages)
-      (alike (handle_register_of from caller 0) (register_of m.state caller t))
-    where
-      alike : (o : Option Slot) (x : Option Id) → lowered_to m.state m.ages o x ≡ lowered_to from m.ages o x
-      alike o None = refl
-      alike o (Some x) = refl
+  pub sets-secondary : (s : ℕ) → s < REGISTERS
+      → ComesToAged (set_secondary_of m.state caller s slot handle)
+      (cond (is_refused (set_secondary_of m.state caller s slot handle).reply) m.ages
+      (lowered_at m.ages (Some slot) 0)) (seen_by m) (seen_by k) r
+      → CameOf v k caller slot (cmd.HSec 0 s) r
+  sets-secondary s low came =
+      let in_m = known-in view known in
+      came-of slot (cmd.HSec 0 s) r sound view known (omega arith, low) (endless refl) before now refl refl refl
+      (ap decided (secondary_set slot sound in_m live s)) came (secondary-aged slot sound in_m live s
+      (set_secondary_of m.state caller s slot handle) r came.0)
+      (secondary-registers m.state caller s slot handle)
 
-  pub secondary-aged : (s : ℕ) (w : Outcome) (r : Result Done Refusal)
-      → done_of r ≡ record { reply = w.reply; slot = w.slot; grown = Zero }
-      → cond (is_refused w.reply) m.ages (lowered_at m.ages (Some slot) 0)
-      ≡ aged_by from (entry_by caller (cmd.HSec 0 s) (done_of r)) m.ages
-  secondary-aged s w r is =
-      ap (λ (d : Done). cond (is_refused d.reply) m.ages (lowered_at m.ages (Some slot) 0)) (sym is)
-      ∙ ap (λ o. cond (is_refused (done_of r).reply) m.ages (lowered_at m.ages o 0))
-      (sym (named m caller slot handle sound known live))
+  pub gets-secondary : (d : ℕ) → d < REGISTERS
+      → ComesTo (get_secondary_of m.state caller d slot handle) (seen_by m) (seen_by k) r
+      → CameOf v k caller slot (cmd.HDep d 0) r
+  gets-secondary d low came =
+      came-of slot (cmd.HDep d 0) r sound view known (low, omega arith) (endless refl) before now refl refl refl
+      (ap decided (secondary_got slot sound (known-in view known) live d)) came (unaged _ _)
+      (load-registers m.state caller d slot handle)
+
+  pub sets-strength : (to : Strength) → ComesTo (set_strength_of m.state to slot handle) (seen_by m) (seen_by k) r
+      → CameOf v k caller slot (cmd.HVar 0 to) r
+  sets-strength to came =
+      came-of slot (cmd.HVar 0 to) r sound view known (omega arith) (endless refl) before now refl refl refl
+      (ap decided (strength_set slot sound (known-in view known) live to)) came (unaged _ _)
+      (strength-registers m.state to slot handle)
+
+  pub raises-count : ((h : Handle Id) → handle_at v.state slot ≡ Some h → count_of h.extra + 1 < 2 ^ 32)
+      → ComesTo (raise_count_of m.state slot handle) (seen_by m) (seen_by k) r
+      → CameOf v k caller slot (cmd.HUp 0) r
+  raises-count small came =
+      let in_v = subst (λ (x : Machine). handle_at x.state slot ≡ Some handle) view live in
+      came-of slot (cmd.HUp 0) r sound view known (omega arith) (record {
+        serial = λ d fields fin same. absurd (cc same);
+        count = counts-up slot (subst IsSound view sound) known in_v small;
+      }) before now refl refl refl (ap decided (count_raised slot sound (known-in view known) live)) came (unaged _ _)
+      (raise-registers m.state slot handle)
+
+  pub lowers-count : ComesTo (lower_count_of m.state slot handle) (seen_by m) (seen_by k) r
+      → CameOf v k caller slot (cmd.HDown 0) r
+  lowers-count came =
+      came-of slot (cmd.HDown 0) r sound view known (omega arith) (endless refl) before now refl refl refl
+      (ap decided (count_lowered slot sound (known-in view known) live)) came (unaged _ _)
+      (lower-registers m.state slot handle)
 
 -- the handle in a live slot
 pub live-one : (o : Option (Handle Id)) → IsSome o → (h : Handle Id) × (o ≡ Some h)
-live-one None live = absurd live
+live-one None live = absurd (false≢true live)
 live-one (Some h) live = (h, refl)
 
 -- ---- the handle in a slot is freed
 
-module _ (m k : Machine) (caller : ℕ) (slot : Slot) (handle : Handle Id) (sound : IsSound m)
-    (before : IsOverHeap m) (now : IsOverHeap k) (known : caller < m.numbers.callers)
+module _ {m v k : Machine} {caller : ℕ} (slot : Slot) {handle : Handle Id} (sound : IsSound m) (view : m ≡ v)
+    (known : caller < v.numbers.callers) (before : IsOverHeap m) (now : IsOverHeap k)
     (live : handle_at m.state slot ≡ Some handle)
     (left : seen_by k ≡ record (seen_by m) { state = without_handle m.state slot }) where
   abbrev asked : Machine
@@ -339,11 +412,11 @@ module _ (m k : Machine) (caller : ℕ) (slot : Slot) (handle : Handle Id) (soun
         handle_registers = rows;
       }) (sym (rows-twice m.state.handle_registers caller 0 (Some slot) None))
       ∙ ap (λ (w : Outcome). w.after)
-      (sym (found m caller slot handle sound known live (free_handle_of asked.state caller 0)))
+      (sym (found slot sound (known-in view known) live (free_handle_of asked.state caller 0)))
 
   free-ran : HasRun asked caller (cmd.HFree 0) None freed (IsPlainStep asked (cmd.HFree 0) after freed)
   free-ran =
-      let is = found m caller slot handle sound known live (free_handle_of asked.state caller 0) in
+      let is = found slot sound (known-in view known) live (free_handle_of asked.state caller 0) in
       record {
         caller = refl;
         command = refl;
@@ -363,24 +436,23 @@ module _ (m k : Machine) (caller : ℕ) (slot : Slot) (handle : Handle Id) (soun
         growth = tt;
       }
 
-  pub free-first : KeepsFirst m caller k
-  free-first = ap (λ (p : Seen Addr (FinMap nat_cmp Id)). handle_register_of p.state caller 0) left
-
-  may-free : MayRun asked caller (cmd.HFree 0) None
-  may-free =
-      may-run asked caller (cmd.HFree 0) None (sound-pointed m caller 0 (Some slot) sound known) known
-      (omega arith) tt (record { serial = λ d fields fin same. absurd (cc same); count = λ h same. absurd (cc same) })
-
-  pub free-called : HasCalled asked caller (cmd.HFree 0) None after freed
-  free-called =
-      has-called (sound-pointed m caller 0 (Some slot) sound known) may-free (over-pointed m caller (Some slot) before)
-      (over-pointed k caller None now) free-ran
-
-  pub free-sound : IsSound k
-  free-sound =
-      sound-unpointed k caller None
-      (stays-sound (sound-pointed m caller 0 (Some slot) sound known) may-free
-      (over-pointed m caller (Some slot) before) (over-pointed k caller None now) free-ran)
+  pub frees : IsSound k × (HasCalled (pointed v caller (Some slot)) caller (cmd.HFree 0) None after freed
+      × KeepsFirst v caller k)
+  frees =
+      let pointed_sound = sound-pointed m caller 0 (Some slot) sound (known-in view known) in
+      let over = over-pointed m caller (Some slot) before in
+      let over_after = over-pointed k caller None now in
+      let pointed_view = ap (λ (x : Machine). pointed x caller (Some slot)) view in (
+        sound-unpointed k caller None
+            (run-sound (cmd.HFree 0) pointed_sound pointed_view known (omega arith) tt (endless refl) over over_after
+            free-ran),
+        (
+          run-called (cmd.HFree 0) pointed_sound pointed_view known (omega arith) tt (endless refl) over over_after
+              free-ran,
+          subst (λ (x : Machine). KeepsFirst x caller k) view
+              (ap (λ (p : Seen Addr (FinMap nat_cmp Id)). handle_register_of p.state caller 0) left),
+        ),
+      )
 
 -- ---- a handle is made
 
@@ -417,7 +489,7 @@ first-beside (row ∷ rows) zero v = cell-beside row v
 first-beside (row ∷ rows) (suc c) v = first-beside rows c v
 
 -- so where a handle was made with its slot in the second register, the call writes no first one
-pub make-first : (m k : Machine) (caller : ℕ) (make : Make) (t : ℕ) (r : Result (Slot × Grown) Refusal)
+make-first : (m k : Machine) (caller : ℕ) (make : Make) (t : ℕ) (r : Result (Slot × Grown) Refusal)
     → IsPlainStep m (cmd.HNew 1 make t) (pointed_made k caller 1 r)
     (entry_by caller (cmd.HNew 1 make t) (done_of (done_making r)))
     → KeepsFirst m caller k
@@ -438,68 +510,72 @@ make-first m k caller make t (Err refused) ran = by ran.step
     by (inl is) = let clash = is.reply in cc
     by (inr full) = ap (λ (s : State). handle_register_of s caller 0) full.refused.after
 
-module _ (m k : Machine) (caller : ℕ) (make : Make) (t : ℕ) (offer : Option Slot)
-    (r : Result (Slot × Grown) Refusal) (sound : IsSound m) (before : IsOverHeap m) (now : IsOverHeap k)
-    (known : caller < m.numbers.callers) (valid : IsValid (cmd.HNew 0 make t))
-    (free : IfSome offer (IsFree m.state (kind_of make)))
-    (ran : HasRun m caller (cmd.HNew 0 make t) offer
-    (entry_by caller (cmd.HNew 0 make t) (done_of (done_making r)))
-    (IsPlainStep m (cmd.HNew 0 make t) (pointed_made k caller 0 r)
-    (entry_by caller (cmd.HNew 0 make t) (done_of (done_making r))))) where
-  may-make : MayRun m caller (cmd.HNew 0 make t) offer
-  may-make =
-      may-run m caller (cmd.HNew 0 make t) offer sound known valid
-      (made-offer m.state caller make t offer free)
-      (record { serial = λ d fields fin same. absurd (cc same); count = λ h same. absurd (cc same) })
-
-  pub make-called : HasCalled m caller (cmd.HNew 0 make t) offer (pointed_made k caller 0 r)
-      (entry_by caller (cmd.HNew 0 make t) (done_of (done_making r)))
-  make-called = has-called sound may-make before (made-over k caller r now) ran
-
-  pub make-sound : IsSound k
-  make-sound = made-sound k caller r (stays-sound sound may-make before (made-over k caller r now) ran)
+module _ {m v k : Machine} {caller : ℕ} (make : Make) (t : ℕ) {offer : Option Slot}
+    (r : Result (Slot × Grown) Refusal) (sound : IsSound m) (view : m ≡ v) (known : caller < v.numbers.callers)
+    (before : IsOverHeap m) (now : IsOverHeap k) (valid : IsValid (cmd.HNew 0 make t))
+    (free : IfSome offer (IsFree v.state (kind_of make)))
+    (ran : (d : ℕ) → HasRun m caller (cmd.HNew d make t) offer
+    (entry_by caller (cmd.HNew d make t) (done_of (done_making r)))
+    (IsPlainStep m (cmd.HNew d make t) (pointed_made k caller d r)
+    (entry_by caller (cmd.HNew d make t) (done_of (done_making r))))) where
+  pub makes : IsSound k × (HasCalled v caller (cmd.HNew 0 make t) offer (pointed_made k caller 0 r)
+      (entry_by caller (cmd.HNew 0 make t) (done_of (done_making r))) × KeepsFirst v caller k)
+  makes =
+      let offered = made-offer v.state caller make t offer free in
+      let after = made-over k caller r now in (
+        made-sound k caller r
+            (run-sound (cmd.HNew 0 make t) sound view known valid offered (endless refl) before after (ran 0)),
+        (
+          run-called (cmd.HNew 0 make t) sound view known valid offered (endless refl) before after (ran 0),
+          subst (λ (x : Machine). KeepsFirst x caller k) view (make-first m k caller make t r (ran 1).effect),
+        ),
+      )
 
 -- ---- the address of what the handle in a slot pins
 
-module _ (m : Machine) (caller : ℕ) (slot : Slot) (handle : Handle Id) (sound : IsSound m) (over : IsOverHeap m)
-    (known : caller < m.numbers.callers) (live : handle_at m.state slot ≡ Some handle) where
+module _ {m v : Machine} {caller : ℕ} (slot : Slot) {handle : Handle Id} (sound : IsSound m) (view : m ≡ v)
+    (known : caller < v.numbers.callers) (over : IsOverHeap m) (live : handle_at m.state slot ≡ Some handle) where
   abbrev pinning : Machine
   pinning = pointed m caller (Some slot)
 
   pins-it : pinned_in pinning.state caller 0 ≡ pinned_of handle
   pins-it =
       ap (λ o. option_map_or (λ at. option_map_or pinned_of (handle_at m.state at) (Err refusal.NotLive)) o
-      (Err refusal.EmptyRegister)) (named m caller slot handle sound known live)
+      (Err refusal.EmptyRegister)) (named slot sound (known-in view known) live)
       ∙ ap (λ o. option_map_or pinned_of o (Err refusal.NotLive)) live
 
   address-ran : (r : Result ℕ Refusal)
       → KeepsPinned pinning (entry_by caller (cmd.AddrOf 0) (done_of (done_with reply.Place r))) pinning
       → HasCalled pinning caller (cmd.AddrOf 0) None pinning
       (entry_by caller (cmd.AddrOf 0) (done_of (done_with reply.Place r)))
-  address-ran (Ok a) kept =
-      kept-called (over-pointed m caller (Some slot) over) (over-pointed m caller (Some slot) over) (record {
-        caller = refl;
-        command = refl;
-        effect = kept;
-        offer = λ at none. absurd (cc none);
-        growth = tt;
-      })
-  address-ran (Err refused) kept =
-      kept-called (over-pointed m caller (Some slot) over) (over-pointed m caller (Some slot) over) (record {
-        caller = refl;
-        command = refl;
-        effect = kept;
-        offer = λ at none. absurd (cc none);
-        growth = tt;
-      })
+  address-ran r kept =
+      let over_now = over-pointed m caller (Some slot) over in kept-called over_now over_now (unoffered (done_of (done_with reply.Place r)) refl kept)
 
-  pub address-called : (r : Result ℕ Refusal)
+  free-pointed : (before : FinMap nat_cmp ℕ) (o : Option ℕ) (x : Id) (a : ℕ)
+      → MatchOption o (IsFreeAddress (with_pinned m.state before) x a) (λ own. a ≡ own)
+      → MatchOption o (IsFreeAddress (with_pinned pinning.state before) x a) (λ own. a ≡ own)
+  free-pointed before None x a is = record { small = is.small; apart = is.apart }
+  free-pointed before (Some own) x a is = is
+
+  address-of : (r : Result ℕ Refusal)
       → MatchResult r (λ a. (pinned_of handle ≡ Ok (name_in m.names (record { 0 = a })))
       × HasAddress m (record { 0 = a })) (λ refused. pinned_of handle ≡ Err refused)
       → HasCalled pinning caller (cmd.AddrOf 0) None pinning
       (entry_by caller (cmd.AddrOf 0) (done_of (done_with reply.Place r)))
-  address-called (Ok a) is =
-      address-ran (Ok a) (addr-replies pinning caller 0 known (omega arith) (record { 0 = a })
-      (record { may = is.1.may; addresses = is.1.addresses }) (sym (pins-it ∙ is.0)))
-  address-called (Err refused) is =
-      address-ran (Err refused) (addr-refused pinning caller 0 known (omega arith) refused (sym (pins-it ∙ is)))
+  address-of (Ok a) is =
+      address-ran (Ok a) (addr-replies pinning caller 0 (known-in view known) (omega arith) (record { 0 = a })
+      (record {
+        may = λ before are. free-pointed before (get before (name_in m.names (record { 0 = a })).0)
+            (name_in m.names (record { 0 = a })) a (is.1.may before are);
+        addresses = is.1.addresses;
+      }) (sym (pins-it ∙ is.0)))
+  address-of (Err refused) is =
+      address-ran (Err refused)
+      (addr-refused pinning caller 0 (known-in view known) (omega arith) refused (sym (pins-it ∙ is)))
+
+  pub address-called : (r : Result ℕ Refusal)
+      → MatchResult r (λ a. (pinned_of handle ≡ Ok (name_in m.names (record { 0 = a })))
+      × HasAddress m (record { 0 = a })) (λ refused. pinned_of handle ≡ Err refused)
+      → HasReturnedOf v caller slot (cmd.AddrOf 0) reply.Place v r
+  address-called r is =
+      subst (λ (x : Machine). HasReturnedOf x caller slot (cmd.AddrOf 0) reply.Place x r) view (address-of r is, refl)

@@ -1,5 +1,5 @@
 -- A command of a store keeps it well formed, and what a store asks of a command is what its contents ask.
-use Rattle.hd_store.proofs.StoreWords.{Cmd, Entry, FinMap, HasHandles, HasLimits, IsOffer, IsValid, IsWellFormed, KeepsPinned, Machine, MayRun, None, Numbers, Option, Slot, Some, State, T, empty, get, nat_cmp, nothing_at, refl, start_of, subst, sym, with_pinned, ℕ, ◌<◌, ◌≡◌}
+use Rattle.hd_store.proofs.StoreWords.{Cmd, Entry, FinMap, HasHandles, HasLimits, HasWeakTable, IsOffer, IsValid, IsWellFormed, KeepsPinned, Machine, MayRun, None, Numbers, Option, Slot, Some, State, T, empty, get, nat_cmp, nothing_at, refl, start_of, subst, sym, with_pinned, ℕ, ◌<◌, ◌≡◌}
 use Rattle.std.specs.Prelude.{IsSome}
 use Rattle.hd_model.proofs.{RunCounts.fresh, WellFormedSteps.step_keeps, WellFormedSteps.start_is_well_formed, WellFormedWrites.handle_register_keeps}
 use Rattle.hd_model.specs.State.{with_handle_register}
@@ -89,6 +89,10 @@ has-handles m sound =
       blocks = handles.blocks;
     }
 
+pub has-weak : {m : Machine} → IsSound m → HasWeakTable m.state
+has-weak sound =
+    let weak = sound.well_formed.weak in record { kinds = weak.kinds; apart = weak.apart; once = weak.once }
+
 pub may-run : (m : Machine) (number : ℕ) (c : Cmd) (offer : Option Slot) → IsSound m
     → number < m.numbers.callers → IsValid c → IsOffer m.state number c offer → StaysWithin m.state number c
     → MayRun m number c offer
@@ -96,7 +100,7 @@ may-run m number c offer sound caller valid may within =
     let w = sound.well_formed in record {
       handles = has-handles m sound;
       objects = w.names.registers number;
-      weak = record { kinds = w.weak.kinds; apart = w.weak.apart; once = w.weak.once };
+      weak = has-weak sound;
       caller = caller;
       valid = valid;
       offer = may;

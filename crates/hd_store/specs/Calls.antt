@@ -4,7 +4,6 @@ use Rattle.std.specs.{Option.ForSome, FinMap.empty}
 use Rattle.hd_model.specs.{declared.data.Entry.Entry, declared.data.Id.Id, declared.data.Slot.Slot, declared.data.Grown.Grown, declared.data.Grown.TheVariants.Zero, declared.data.Refusal.Refusal, declared.data.Reply.Reply, declared.command.Cmd.Cmd, Command.load_reply, PinnedAddresses.with_pinned, Valid.IsValid, WellFormed.IsWellFormed}
 use Rattle.hd_model.specs.declared.command.Cmd.TheVariants as cmd
 use Rattle.hd_model.specs.State.{State, handle_register_of, last_serial, with_handle_register}
-use Rattle.hd_model.specs.declared.data.Reply.TheVariants as reply
 use Rattle.hd_commands.specs.Counts.{MayCountUp}
 use Rattle.hd_commands.specs.Done.{done_of, done_with, entry_by}
 use Rattle.hd_store.specs.{PinnedAddresses.KeepsPinned, StateHeap.KeepsStored, Store.Machine}

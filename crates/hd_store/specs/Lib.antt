@@ -5,6 +5,7 @@ pub mod Growth
 pub mod Reading
 pub mod Store
 pub mod PinnedAddresses
+pub mod Replies
 pub mod Calls
 pub mod Info
 pub mod Rows

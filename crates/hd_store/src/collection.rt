@@ -3,15 +3,15 @@ ghost use Rattle.std.specs.Prelude.{◌≡◌, ℕ, ◌<◌, ◌≤◌, MatchRes
 ghost use Rattle.std.specs.FinMap.{get};
 ghost use Rattle.hd_cwt.specs.WeakTable.{kept_key};
 ghost use Rattle.hd_model.specs.declared.command.Cmd.TheVariants as cmds;
-ghost use Rattle.hd_commands.specs.Done.{entry_by};
+ghost use Rattle.hd_model.specs.declared.data.Reply.TheVariants as reply;
+ghost use Rattle.hd_commands.specs.Done.{entry_by, replied};
 ghost use Rattle.hd_store.specs.{Inside.HasCollected, PinnedAddresses.KeepsPinned, Visited.CollectedSteps, Visited.TakesSteps};
 
 use crate::contents::Contents;
-use hd_commands::Done;
 use hd_cwt::Cwt;
 use hd_gc::collect;
 use hd_model::limits::OLDEST;
-use hd_model::{Memory, Reply, Report, Steps};
+use hd_model::{Memory, Report, Steps};
 use hd_seg::Seg;
 use std::sync::ledger::Ledger;
 
@@ -66,14 +66,14 @@ pub(crate) fn collect_up_to<L: Ledger>(
     caller: u32,
     n: u8,
     steps: &mut Steps<L>,
-) -> Result<Done, Memory>
+) -> Result<Report, Memory>
     requires caller { caller < store.old.numbers.callers }
     requires generation { n ≤ OLDEST }
     ensures { let c = cmds.Collect n in MatchResult result
-        (λ done. KeepsPinned store.old (entry_by caller c done) store.new
-        × TakesSteps store.old.state store.old.ages (entry_by caller c done) steps.old steps.new)
+        (λ report. let e = entry_by caller c (replied (reply.Report report)) in
+        KeepsPinned store.old e store.new
+        × TakesSteps store.old.state store.old.ages e steps.old steps.new)
         (λ _. (store.new ≡ store.old) × (steps.new ≡ steps.old)) }
 {
-    let report = store.collect(n, steps)?;
-    Ok(Done::of(Reply::Report(report)))
+    store.collect(n, steps)
 }

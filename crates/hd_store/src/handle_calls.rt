@@ -1,4 +1,6 @@
 // The commands on handles, each as a call by value that takes the slot of a live handle.
+// What reads the number of objects before and after does so for the proof alone: the state is then
+// one over the heap.
 ghost use Rattle.std.specs.Prelude.{◌≡◌, ◌+◌, ◌<◌, ◌^◌, Ok, None, Some, IsSome, IfSome};
 ghost use Rattle.hd_model.specs.declared.command.Cmd.TheVariants as cmd;
 ghost use Rattle.hd_model.specs.declared.data.Reply.TheVariants as reply;
@@ -34,7 +36,6 @@ impl Store {
             HasCalled self.old caller c offer (pointed_made self.new caller 0 result) e
             × KeepsFirst self.old caller self.new }
     {
-        // Read for the proof alone: the state is one over the heap.
         let _before = self.contents.objects();
         let came = making::make_handle(&mut self.contents, caller, make, t, offer);
         let _after = self.contents.objects();
@@ -51,7 +52,6 @@ impl Store {
             HasCalled (pointed self.old caller (Some slot)) caller c None
             (pointed self.new caller None) e × KeepsFirst self.old caller self.new }
     {
-        // Read for the proof alone: the state is one over the heap.
         let _before = self.contents.objects();
         self.contents.take_handle(slot);
         let _after = self.contents.objects();
@@ -66,7 +66,6 @@ impl Store {
         ensures { let c = cmd.HSet 0 t in
             HasReturnedOf self.old caller slot c (λ _. reply.Done) self.new result }
     {
-        // Read for the proof alone: the state is one over the heap.
         let _before = self.contents.objects();
         let handle = self.contents.live_handle(slot);
         let came = on_handles::set_target_of(&mut self.contents, caller, slot, handle, t);
@@ -83,7 +82,6 @@ impl Store {
         ensures { let c = cmd.HSec 0 s in
             HasReturnedOf self.old caller slot c (λ _. reply.Done) self.new result }
     {
-        // Read for the proof alone: the state is one over the heap.
         let _before = self.contents.objects();
         let handle = self.contents.live_handle(slot);
         let came = on_handles::set_secondary_of(&mut self.contents, caller, slot, handle, s);
@@ -99,7 +97,6 @@ impl Store {
         requires live { IsSome (handle_at self.old.state slot) }
         ensures { HasReturnedOf self.old caller slot (cmd.HDep d 0) load_reply self.new result }
     {
-        // Read for the proof alone: the state is one over the heap.
         let _before = self.contents.objects();
         let handle = self.contents.live_handle(slot);
         let came = on_handles::get_secondary_of(&mut self.contents, caller, d, handle);
@@ -115,7 +112,6 @@ impl Store {
         ensures { let c = cmd.HVar 0 to in
             HasReturnedOf self.old caller slot c (λ _. reply.Done) self.new result }
     {
-        // Read for the proof alone: the state is one over the heap.
         let _before = self.contents.objects();
         let handle = self.contents.live_handle(slot);
         let came = on_handles::set_strength_of(&mut self.contents, slot, handle, to);
@@ -132,7 +128,6 @@ impl Store {
         requires live { IsSome (handle_at self.old.state slot) }
         ensures { HasReturnedOf self.old caller slot (cmd.HUp 0) reply.Value self.new result }
     {
-        // Read for the proof alone: the state is one over the heap.
         let _before = self.contents.objects();
         let handle = self.contents.live_handle(slot);
         let came = on_handles::raise_count_of(&mut self.contents, slot, handle);
@@ -147,7 +142,6 @@ impl Store {
         requires live { IsSome (handle_at self.old.state slot) }
         ensures { HasReturnedOf self.old caller slot (cmd.HDown 0) reply.Value self.new result }
     {
-        // Read for the proof alone: the state is one over the heap.
         let _before = self.contents.objects();
         let handle = self.contents.live_handle(slot);
         let came = on_handles::lower_count_of(&mut self.contents, slot, handle);
@@ -162,7 +156,6 @@ impl Store {
         requires live { IsSome (handle_at self.now.state slot) }
         ensures { HasReturnedOf self.now caller slot (cmd.AddrOf 0) reply.Place self.now result }
     {
-        // Read for the proof alone: the state is one over the heap.
         let _before = self.contents.objects();
         let handle = self.contents.live_handle(slot);
         pinned_addresses::address_by(&self.contents, handle)

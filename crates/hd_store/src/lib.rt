@@ -4,9 +4,11 @@
 
 mod anchors;
 mod collection;
+mod collection_calls;
 mod commands;
 mod contents;
 mod entries;
+mod entry_calls;
 mod handle_calls;
 mod handles;
 mod info;
@@ -17,10 +19,13 @@ mod objects;
 mod on_entries;
 mod parts;
 mod pinned_addresses;
+mod replies;
 mod rooting;
 mod store;
 
+pub use collection_calls::Root;
 pub use contents::Contents;
+pub use entry_calls::Lookup;
 pub use hd_model::{Extra as ExtraInfo, Handle as HandleInfo};
 pub use info::EntryInfo;
 pub use store::Store;

@@ -9,14 +9,14 @@ ghost use Rattle.hd_model.specs.State.{given_of, block_of, first_slot, identity_
 ghost use Rattle.hd_store.specs.{Reading.named_in, Reading.IsNamed, Store.seen_by, Offers.IsOffer, Inside.KeepsNames, Inside.IsSlotGiven, Inside.IsMadeHandle};
 ghost use Rattle.hd_model.specs.declared.data.Reply.TheVariants as reply;
 ghost use Rattle.hd_commands.specs.Done.{done_making, done_of, done_with, entry_by, ComesTo};
-ghost use Rattle.hd_store.specs.Calls.{pointed_made};
+ghost use Rattle.hd_store.specs.{Calls.pointed_made, Replies.done_trimming};
 ghost use Rattle.hd_store.specs.Inside.{HasRun, IsPlainStep};
 
 use crate::contents::Contents;
-use hd_commands::{Done, Parts};
+use hd_commands::Parts;
 use hd_heap::NewFault;
 use hd_model::limits::{BLOCKS, FIELDS, REGISTERS, ROWS};
-use hd_model::{Addr, Extra, Grown, Handle, Id, Kind, Make, Memory, Refusal, Reply, Slot};
+use hd_model::{Addr, Extra, Grown, Handle, Id, Kind, Make, Memory, Refusal, Slot};
 use hd_seg::Full;
 
 /// `new rD F`. A full heap is reported before memory is taken.
@@ -215,25 +215,26 @@ pub(crate) fn new_handle(
         let e = entry_by caller c (done_of (done_making result)) in
         HasRun store.old caller c offer e (IsPlainStep store.old c store.new e) }
 {
-    let (slot, grown) = make_handle(store, caller, make, t, offer)?;
-    store.set_handle_register(caller, d, Some(slot));
-    Ok((slot, grown))
+    match make_handle(store, caller, make, t, offer) {
+        Ok((slot, grown)) => {
+            store.set_handle_register(caller, d, Some(slot));
+            Ok((slot, grown))
+        }
+        Err(refusal) => Err(refusal),
+    }
 }
 
 /// `trim KIND`: gives back the block of the offered slot or, without one, none.
-pub(crate) fn trim(store: &mut Contents, caller: u32, kind: Kind, offer: Option<Slot>) -> Done
+pub(crate) fn trim(store: &mut Contents, caller: u32, kind: Kind, offer: Option<Slot>) -> Grown
     requires single { is_paired kind ≡ false }
     requires offer { IsOffer store.old.state caller (cmds.Trim kind) offer }
-    ensures { let c = cmds.Trim kind in let e = entry_by caller c result in
+    ensures { let c = cmds.Trim kind in let e = entry_by caller c (done_trimming result) in
         HasRun store.old caller c offer e (IsPlainStep store.old c store.new e) }
 {
     let Some(slot) = offer else {
-        return Done::of(Reply::Value(0));
+        return Grown::Zero;
     };
     let block = slot.0 / ROWS;
     store.take_back(kind, block);
-    Done {
-        grown: Grown::Back(block),
-        ..Done::of(Reply::Value(1))
-    }
+    Grown::Back(block)
 }

@@ -1,4 +1,6 @@
 // The commands on objects, locals, statics and the queue, each as a call by value.
+// What reads the number of objects before and after does so for the proof alone: the state is then
+// one over the heap.
 ghost use Rattle.std.specs.Prelude.{◌≡◌, ◌+◌, ◌<◌, ◌≤◌, ◌^◌, Ok, MatchResult};
 ghost use Rattle.hd_model.specs.declared.command.Cmd.TheVariants as cmd;
 ghost use Rattle.hd_model.specs.declared.data.Reply.TheVariants as reply;
@@ -31,7 +33,6 @@ impl Store {
             MatchResult result (HasReturned m caller c reply.Object self.new)
             (λ _. RanOut m.numbers m.state c m self.new) }
     {
-        // Read for the proof alone: the state is one over the heap.
         let _before = self.contents.objects();
         let came = making::new_object(&mut self.contents, caller, d, fields, fin)?;
         let _after = self.contents.objects();
@@ -45,7 +46,6 @@ impl Store {
         requires registers { (o < REGISTERS) × (v < REGISTERS) }
         ensures { HasReturned self.old caller (cmd.Set o i v) (λ _. reply.Done) self.new result }
     {
-        // Read for the proof alone: the state is one over the heap.
         let _before = self.contents.objects();
         let came = on_objects::set_field(&mut self.contents, caller, o, i, v);
         let _after = self.contents.objects();
@@ -59,7 +59,6 @@ impl Store {
         requires registers { (d < REGISTERS) × (o < REGISTERS) }
         ensures { HasReturned self.old caller (cmd.Get d o i) load_reply self.new result }
     {
-        // Read for the proof alone: the state is one over the heap.
         let _before = self.contents.objects();
         let came = on_objects::get_field(&mut self.contents, caller, d, o, i);
         let _after = self.contents.objects();
@@ -73,7 +72,6 @@ impl Store {
         requires register { o < REGISTERS }
         ensures { HasReturned self.old caller (cmd.Val o n) (λ _. reply.Done) self.new result }
     {
-        // Read for the proof alone: the state is one over the heap.
         let _before = self.contents.objects();
         let came = on_objects::set_value(&mut self.contents, caller, o, n);
         let _after = self.contents.objects();
@@ -87,7 +85,6 @@ impl Store {
         requires register { o < REGISTERS }
         ensures { HasReturned self.now caller (cmd.Read o) reply.Value self.now result }
     {
-        // Read for the proof alone: the state is one over the heap.
         let _before = self.contents.objects();
         on_objects::read_value(&self.contents, caller, o)
     }
@@ -99,7 +96,6 @@ impl Store {
         requires register { o < REGISTERS }
         ensures { HasReturned self.now caller (cmd.Gen o) reply.Generation self.now result }
     {
-        // Read for the proof alone: the state is one over the heap.
         let _before = self.contents.objects();
         on_objects::read_generation(&self.contents, caller, o)
     }
@@ -111,7 +107,6 @@ impl Store {
         requires register { o < REGISTERS }
         ensures { HasReturned self.old caller (cmd.Suppress o) (λ _. reply.Done) self.new result }
     {
-        // Read for the proof alone: the state is one over the heap.
         let _before = self.contents.objects();
         let came = on_objects::set_registered(&mut self.contents, caller, o, false);
         let _after = self.contents.objects();
@@ -125,7 +120,6 @@ impl Store {
         requires register { o < REGISTERS }
         ensures { HasReturned self.old caller (cmd.Reregister o) (λ _. reply.Done) self.new result }
     {
-        // Read for the proof alone: the state is one over the heap.
         let _before = self.contents.objects();
         let came = on_objects::set_registered(&mut self.contents, caller, o, true);
         let _after = self.contents.objects();
@@ -137,9 +131,8 @@ impl Store {
     pub fn copy_register(&mut self, caller: u32, d: u8, s: u8)
         requires caller { caller < self.old.numbers.callers }
         requires registers { (d < REGISTERS) × (s < REGISTERS) }
-        ensures { HasReturned self.old caller (cmd.Copy d s) (λ _. reply.Done) self.new (Ok tt) }
+        ensures { HasReturned self.old caller (cmd.Copy d s) (λ _. reply.Done) self.new (Ok (tt {0})) }
     {
-        // Read for the proof alone: the state is one over the heap.
         let _before = self.contents.objects();
         on_objects::copy_register(&mut self.contents, caller, d, s);
         let _after = self.contents.objects();
@@ -150,9 +143,8 @@ impl Store {
     pub fn clear_register(&mut self, caller: u32, d: u8)
         requires caller { caller < self.old.numbers.callers }
         requires register { d < REGISTERS }
-        ensures { HasReturned self.old caller (cmd.Clear d) (λ _. reply.Done) self.new (Ok tt) }
+        ensures { HasReturned self.old caller (cmd.Clear d) (λ _. reply.Done) self.new (Ok (tt {0})) }
     {
-        // Read for the proof alone: the state is one over the heap.
         let _before = self.contents.objects();
         on_objects::clear_register(&mut self.contents, caller, d);
         let _after = self.contents.objects();
@@ -163,9 +155,8 @@ impl Store {
     pub fn put_static(&mut self, caller: u32, k: u8, s: u8)
         requires caller { caller < self.old.numbers.callers }
         requires registers { (k < REGISTERS) × (s < REGISTERS) }
-        ensures { HasReturned self.old caller (cmd.SPut k s) (λ _. reply.Done) self.new (Ok tt) }
+        ensures { HasReturned self.old caller (cmd.SPut k s) (λ _. reply.Done) self.new (Ok (tt {0})) }
     {
-        // Read for the proof alone: the state is one over the heap.
         let _before = self.contents.objects();
         on_objects::put_static(&mut self.contents, caller, k, s);
         let _after = self.contents.objects();
@@ -178,7 +169,6 @@ impl Store {
         requires registers { (d < REGISTERS) × (k < REGISTERS) }
         ensures { HasReturned self.old caller (cmd.SGet d k) load_reply self.new (Ok result) }
     {
-        // Read for the proof alone: the state is one over the heap.
         let _before = self.contents.objects();
         let came = on_objects::get_static(&mut self.contents, caller, d, k);
         let _after = self.contents.objects();
@@ -193,7 +183,6 @@ impl Store {
         requires register { d < REGISTERS }
         ensures { HasReturned self.old caller (cmd.Final d) queued_reply self.new (Ok result) }
     {
-        // Read for the proof alone: the state is one over the heap.
         let _before = self.contents.objects();
         let came = on_objects::take_queued(&mut self.contents, caller, d);
         let _after = self.contents.objects();

@@ -1,18 +1,58 @@
 // The commands on the weak table.
-ghost use Rattle.std.specs.Prelude.{◌≡◌, ◌<◌};
+ghost use Rattle.std.specs.Prelude.{◌≡◌, ◌<◌, IsSome, Some};
 ghost use Rattle.hd_model.specs.declared.command.Cmd.TheVariants as cmds;
 ghost use Rattle.hd_model.specs.{WellFormed.HasHandles, WellFormed.HasWeakTable, Valid.IsValid};
-ghost use Rattle.hd_commands.specs.Done.{done_of, entry_by};
-ghost use Rattle.hd_store.specs.Inside.{HasRun, IsPlainStep};
-ghost use Rattle.hd_store.specs.{Visited.TakesSteps, Offers.IsOffer, Offers.needs_slot};
+ghost use Rattle.hd_model.specs.State.{register_of};
+ghost use Rattle.hd_commands.specs.Done.{done_making, done_of, done_with, entry_by};
+ghost use Rattle.hd_store.specs.Inside.{HasNoEntry, HasRun, IsPlainStep};
+ghost use Rattle.hd_store.specs.{Reading.name_in, Replies.found_reply, Replies.removed_reply, Visited.TakesSteps, Offers.IsOffer, Offers.needs_slot};
+ghost use Rattle.std.specs.FinMap.{get};
 
 use crate::contents::Contents;
+use crate::entry_calls::Lookup;
 use crate::making::slot_given;
+use hd_commands::Parts;
 use hd_commands::on_objects::{load, object_in};
-use hd_commands::{Done, Parts, load_reply};
 use hd_model::limits::REGISTERS;
-use hd_model::{Cmd, Grown, Kind, Refusal, Reply, Slot, Steps};
+use hd_model::{Addr, Cmd, Grown, Kind, Refusal, Slot, Steps};
 use std::sync::ledger::Ledger;
+
+// The entry of a key that has none: in the least idle slot or, without one, in the offered slot or
+// the first of a new block.
+fn put_entry(
+    store: &mut Contents,
+    caller: u32,
+    k: u8,
+    v: u8,
+    key: Addr,
+    offer: Option<Slot>,
+) -> Result<(Slot, Grown), Refusal>
+    requires handles { HasHandles store.old.numbers store.old.state }
+    requires weak { HasWeakTable store.old.state }
+    requires caller { caller < store.old.numbers.callers }
+    requires registers { (k < REGISTERS) × (v < REGISTERS) }
+    requires offer { IsOffer store.old.state caller (cmds.CAdd k v) offer }
+    requires key { register_of store.old.state caller k ≡ Some (name_in store.old.names key) }
+    requires known { IsSome (get store.old.names key.0) }
+    requires new { HasNoEntry store.old key }
+    ensures { let c = cmds.CAdd k v in
+        let e = entry_by caller c (done_of (done_making result)) in
+        HasRun store.old caller c offer e (IsPlainStep store.old c store.new e) }
+{
+    let value = store.register(caller, v);
+    if let Some(slot) = store.idle_slot() {
+        store.lower_age(slot, 0);
+        store.fill_entry(slot, key, value);
+        return Ok((slot, Grown::Zero));
+    }
+    let (slot, grown) = match slot_given(store, Kind::Dependent, offer) {
+        Ok(slot_given) => slot_given,
+        Err(full) => return Err(Refusal::TableFull { given: full.given }),
+    };
+    store.lower_age(slot, 0);
+    store.hold_entry(slot, key, value);
+    Ok((slot, grown))
+}
 
 /// `cadd rK rV`: where no slot of the weak table is idle, it takes the offered slot or, without
 /// one, the first slot of a new block.
@@ -23,34 +63,23 @@ pub(crate) fn add_entry<L: Ledger>(
     v: u8,
     offer: Option<Slot>,
     steps: &mut Steps<L>,
-) -> Result<Done, Refusal>
+) -> Result<(Slot, Grown), Refusal>
     requires handles { HasHandles store.old.numbers store.old.state }
     requires weak { HasWeakTable store.old.state }
     requires caller { caller < store.old.numbers.callers }
     requires registers { (k < REGISTERS) × (v < REGISTERS) }
     requires offer { IsOffer store.old.state caller (cmds.CAdd k v) offer }
-    ensures done { let c = cmds.CAdd k v in let e = entry_by caller c (done_of result) in
+    ensures done { let c = cmds.CAdd k v in
+        let e = entry_by caller c (done_of (done_making result)) in
         HasRun store.old caller c offer e (IsPlainStep store.old c store.new e) }
-    ensures steps { let e = entry_by caller (cmds.CAdd k v) (done_of result) in
+    ensures steps { let e = entry_by caller (cmds.CAdd k v) (done_of (done_making result)) in
         TakesSteps store.old.state store.old.ages e steps.old steps.new }
 {
     let key = object_in(store, caller, k)?;
     if store.slot_of_key(key, steps).is_some() {
         return Err(Refusal::Present);
     }
-    let value = store.register(caller, v);
-    if let Some(slot) = store.idle_slot() {
-        store.lower_age(slot, 0);
-        store.fill_entry(slot, key, value);
-        return Ok(Done::in_slot(slot, Grown::Zero));
-    }
-    let (slot, grown) = match slot_given(store, Kind::Dependent, offer) {
-        Ok(slot_given) => slot_given,
-        Err(full) => return Err(Refusal::TableFull { given: full.given }),
-    };
-    store.lower_age(slot, 0);
-    store.hold_entry(slot, key, value);
-    Ok(Done::in_slot(slot, grown))
+    put_entry(store, caller, k, v, key, offer)
 }
 
 /// `cfind rD rK`.
@@ -60,48 +89,48 @@ pub(crate) fn find_entry<L: Ledger>(
     d: u8,
     k: u8,
     steps: &mut Steps<L>,
-) -> Result<Done, Refusal>
+) -> Result<Lookup, Refusal>
     requires caller { caller < store.old.numbers.callers }
     requires registers { (d < REGISTERS) × (k < REGISTERS) }
     ensures done { let c = cmds.CFind d k in
-        IsPlainStep store.old c store.new (entry_by caller c (done_of result)) }
-    ensures steps { let e = entry_by caller (cmds.CFind d k) (done_of result) in
+        IsPlainStep store.old c store.new (entry_by caller c (done_of (done_with found_reply result))) }
+    ensures steps { let e = entry_by caller (cmds.CFind d k) (done_of (done_with found_reply result)) in
         TakesSteps store.old.state store.old.ages e steps.old steps.new }
 {
     let at = object_in(store, caller, k)?;
     match store.slot_of_key(at, steps) {
         Some(slot) => {
             let value = store.entry_value(slot);
-            Ok(Done::of(load_reply(load(store, caller, d, value))))
+            Ok(Lookup::Value(load(store, caller, d, value)))
         }
         None => {
             store.set_register(caller, d, None);
-            Ok(Done::of(Reply::Absent))
+            Ok(Lookup::Absent)
         }
     }
 }
 
-/// `cremove rK`.
+/// `cremove rK`, which returns whether there was an entry.
 pub(crate) fn remove_entry<L: Ledger>(
     store: &mut Contents,
     caller: u32,
     k: u8,
     steps: &mut Steps<L>,
-) -> Result<Done, Refusal>
+) -> Result<bool, Refusal>
     requires caller { caller < store.old.numbers.callers }
     requires register { k < REGISTERS }
     ensures done { let c = cmds.CRemove k in
-        IsPlainStep store.old c store.new (entry_by caller c (done_of result)) }
-    ensures steps { let e = entry_by caller (cmds.CRemove k) (done_of result) in
+        IsPlainStep store.old c store.new (entry_by caller c (done_of (done_with removed_reply result))) }
+    ensures steps { let e = entry_by caller (cmds.CRemove k) (done_of (done_with removed_reply result)) in
         TakesSteps store.old.state store.old.ages e steps.old steps.new }
 {
     let at = object_in(store, caller, k)?;
     match store.slot_of_key(at, steps) {
         Some(slot) => {
             store.clear_entry(slot);
-            Ok(Done::of(Reply::Done))
+            Ok(true)
         }
-        None => Ok(Done::of(Reply::Absent)),
+        None => Ok(false),
     }
 }
 

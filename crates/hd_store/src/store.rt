@@ -11,7 +11,7 @@ ghost use Rattle.hd_store.specs.Offers.{IsOffer, needs_slot, FitsHeap, RanOut};
 
 use crate::contents::Contents;
 use crate::{commands, on_entries};
-use hd_commands::Parts;
+use hd_commands::{Parts, entry_of};
 use hd_model::limits::{BLOCKS, CALLERS, CLUMPS, HEAP, OLDEST, REGISTERS};
 use hd_model::{Cmd, Entry, Handle, Id, Memory, Slot, Steps};
 use std::alloc::Global;
@@ -61,7 +61,6 @@ impl Store {
     /// block of its kind whose slots are all free, and to no other command anything. A `new` asks
     /// that its caller's last serial can rise by one, and an `hup` that the count can. Out of
     /// memory changes nothing.
-    #[inline(always)]
     pub fn apply<L: Ledger>(
         &mut self,
         caller: u32,
@@ -86,9 +85,9 @@ impl Store {
     {
         // Read for the proof alone: the state is one over the heap.
         let _before = self.contents.objects();
-        let entry = commands::run(&mut self.contents, caller, cmd, offer, steps)?;
+        let came = commands::carry_out(&mut self.contents, caller, cmd, offer, steps)?;
         let _after = self.contents.objects();
-        Ok(entry)
+        Ok(entry_of(caller, cmd, came))
     }
 
     /// Does the same where nobody asks for the steps.

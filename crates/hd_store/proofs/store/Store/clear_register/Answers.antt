@@ -1,24 +1,18 @@
-use Rattle.hd_store.proofs.StoreWords.{Machine, Ok, refl, subst, sym, ◌<◌}
+use Rattle.hd_store.proofs.StoreWords.{Ok, refl}
 use Rattle.hd_model.specs.declared.command.Cmd.TheVariants as cmd
 use Rattle.hd_model.specs.declared.data.Reply.TheVariants as reply
-use Rattle.hd_store.specs.Calls.{HasReturned}
-use Rattle.hd_store.proofs.ValueCalls.{called, endless, sound-on, unaged}
+use Rattle.hd_commands.specs.Done.{done_with}
+use Rattle.hd_store.proofs.ValueCalls.{called, endless, sound-on}
 use Rattle.hd_store.proofs.store.Store.clear_register.Goals as goal
 
 pub invariant_of-self : goal.invariant_of-self
 invariant_of-self c =
-    sound-on c.self.invariant
-    (subst (λ (m : Machine). c.args.caller < m.numbers.callers) (sym c.self.view_is) c.requires.caller)
-    c.requires.register (endless refl)
-    c.objects-before.ensures.heap c.objects-after.ensures.heap refl refl refl refl c.clear_register.ensures
-    (unaged _ _)
+    sound-on (cmd.Clear c.args.d) (done_with (λ _. reply.Done) (Ok (tt {0}))) c.self.invariant c.self.view_is c.requires.caller
+    c.requires.register (endless refl) c.objects-before.ensures.heap c.objects-after.ensures.heap
+    refl refl refl refl c.clear_register.ensures refl
 
 pub returns : goal.returns
 returns c =
-    subst (λ (m : Machine). HasReturned m c.args.caller (cmd.Clear c.args.d) (λ _. reply.Done)
-    c.clear_register.new.parts (Ok tt)) c.self.view_is
-    (called c.self.invariant
-    (subst (λ (m : Machine). c.args.caller < m.numbers.callers) (sym c.self.view_is) c.requires.caller)
-    c.requires.register (endless refl)
-    c.objects-before.ensures.heap c.objects-after.ensures.heap refl refl refl refl c.clear_register.ensures
-    (unaged _ _))
+    called (cmd.Clear c.args.d) (done_with (λ _. reply.Done) (Ok (tt {0}))) c.self.invariant c.self.view_is c.requires.caller
+    c.requires.register (endless refl) c.objects-before.ensures.heap c.objects-after.ensures.heap
+    refl refl refl refl c.clear_register.ensures refl

@@ -1,36 +1,19 @@
-use Rattle.hd_store.proofs.StoreWords.{Machine, ap, arith, refl, subst, sym, ◌<◌}
-use Rattle.hd_model.specs.Step.{decided}
-use Rattle.hd_model.specs.declared.command.Cmd.TheVariants as cmd
 use Rattle.hd_model.specs.declared.data.Reply.TheVariants as reply
-use Rattle.hd_store.specs.Calls.{HasReturnedOf}
-use Rattle.hd_store.proofs.{SoundCalls.has-handles, ValueCalls.endless}
-use Rattle.hd_store.proofs.SlotCalls.{called-of, target-registers, sound-of, target_set, target-aged}
-use Rattle.hd_store.proofs.store.Store.set_target.Goals.{After-set_target_of-came}
+use Rattle.hd_commands.specs.Done.{done_with}
+use Rattle.hd_store.proofs.{SoundCalls.has-handles, SlotCalls.sets-target}
 use Rattle.hd_store.proofs.store.Store.set_target.Goals as goal
-
-known : (c : After-set_target_of-came) → c.args.caller < c.self.inside.contents.numbers.callers
-known c = subst (λ (m : Machine). c.args.caller < m.numbers.callers) (sym c.self.view_is) c.requires.caller
 
 pub live_handle-handle-requires-clause-handles : goal.live_handle-handle-requires-clause-handles
 live_handle-handle-requires-clause-handles c = has-handles c.self.inside.contents c.self.invariant
 
 pub invariant_of-self : goal.invariant_of-self
 invariant_of-self c =
-    sound-of c.self.invariant (known c) (omega arith, c.requires.register) (endless refl)
-    c.objects-before.ensures.heap c.objects-after.ensures.heap refl refl refl
-    (ap decided (target_set c.self.inside.contents c.args.caller c.args.slot _ c.self.invariant (known c)
-    c.live_handle-handle.ensures.is c.args.t)) c.set_target_of-came.ensures (target-aged
-    c.self.inside.contents c.args.caller c.args.slot _ c.self.invariant (known c)
-    c.live_handle-handle.ensures.is c.args.t _ _ c.set_target_of-came.ensures.0) (target-registers _ _ _ _ _)
+    (sets-target c.args.slot (done_with (λ _. reply.Done) c.set_target_of-came.result) c.self.invariant c.self.view_is c.requires.caller
+    c.objects-before.ensures.heap c.objects-after.ensures.heap
+    c.live_handle-handle.ensures.is c.args.t c.requires.register c.set_target_of-came.ensures).0
 
 pub returns : goal.returns
 returns c =
-    subst (λ (m : Machine). HasReturnedOf m c.args.caller c.args.slot (cmd.HSet 0 c.args.t) (λ _.
-    reply.Done) c.set_target_of-came.new.parts c.set_target_of-came.result)
-    c.self.view_is
-    (called-of c.self.invariant (known c) (omega arith, c.requires.register) (endless refl)
-    c.objects-before.ensures.heap c.objects-after.ensures.heap refl refl refl
-    (ap decided (target_set c.self.inside.contents c.args.caller c.args.slot _ c.self.invariant (known c)
-    c.live_handle-handle.ensures.is c.args.t)) c.set_target_of-came.ensures (target-aged
-    c.self.inside.contents c.args.caller c.args.slot _ c.self.invariant (known c)
-    c.live_handle-handle.ensures.is c.args.t _ _ c.set_target_of-came.ensures.0) (target-registers _ _ _ _ _))
+    (sets-target c.args.slot (done_with (λ _. reply.Done) c.set_target_of-came.result) c.self.invariant c.self.view_is c.requires.caller
+    c.objects-before.ensures.heap c.objects-after.ensures.heap
+    c.live_handle-handle.ensures.is c.args.t c.requires.register c.set_target_of-came.ensures).1

@@ -1,28 +1,22 @@
-use Rattle.hd_store.proofs.StoreWords.{Machine, refl, subst, sym, ◌<◌}
+use Rattle.hd_store.proofs.StoreWords.{arith, refl}
 use Rattle.hd_model.specs.declared.command.Cmd.TheVariants as cmd
 use Rattle.hd_model.specs.declared.data.Reply.TheVariants as reply
-use Rattle.hd_store.specs.Calls.{HasReturned}
+use Rattle.hd_commands.specs.Done.{done_with}
 use Rattle.hd_store.proofs.ValueCalls.{called, endless, sound-on, unaged}
 use Rattle.hd_store.proofs.store.Store.set_value.Goals as goal
 
 pub set_value-came-requires-clause-object : goal.set_value-came-requires-clause-object
-set_value-came-requires-clause-object c = c.self.invariant.well_formed.names.registers c.args.caller
-    c.args.o
+set_value-came-requires-clause-object c =
+    c.self.invariant.well_formed.names.registers c.args.caller c.args.o
 
 pub invariant_of-self : goal.invariant_of-self
 invariant_of-self c =
-    sound-on c.self.invariant
-    (subst (λ (m : Machine). c.args.caller < m.numbers.callers) (sym c.self.view_is) c.requires.caller)
-    (c.requires.register, c.ranges.n) (endless refl)
-    c.objects-before.ensures.heap c.objects-after.ensures.heap refl refl refl refl c.set_value-came.ensures
-    (unaged _ _)
+    sound-on (cmd.Val c.args.o c.args.n) (done_with (λ _. reply.Done) c.set_value-came.result) c.self.invariant c.self.view_is c.requires.caller
+    (c.requires.register, omega (arith, c.ranges.n.fits)) (endless refl) c.objects-before.ensures.heap c.objects-after.ensures.heap
+    refl refl refl refl c.set_value-came.ensures (unaged _ _)
 
 pub returns : goal.returns
 returns c =
-    subst (λ (m : Machine). HasReturned m c.args.caller (cmd.Val c.args.o c.args.n) (λ _. reply.Done)
-    c.set_value-came.new.parts c.set_value-came.result) c.self.view_is
-    (called c.self.invariant
-    (subst (λ (m : Machine). c.args.caller < m.numbers.callers) (sym c.self.view_is) c.requires.caller)
-    (c.requires.register, c.ranges.n) (endless refl)
-    c.objects-before.ensures.heap c.objects-after.ensures.heap refl refl refl refl c.set_value-came.ensures
-    (unaged _ _))
+    called (cmd.Val c.args.o c.args.n) (done_with (λ _. reply.Done) c.set_value-came.result) c.self.invariant c.self.view_is c.requires.caller
+    (c.requires.register, omega (arith, c.ranges.n.fits)) (endless refl) c.objects-before.ensures.heap c.objects-after.ensures.heap
+    refl refl refl refl c.set_value-came.ensures (unaged _ _)
