@@ -21,12 +21,12 @@ use Rattle.hd_model.proofs.Collections.{one_collection}
 use Rattle.hd_model.proofs.AnchorChains.{one_root}
 use Rattle.hd_commands.specs.declared.done.Done.{Done}
 use Rattle.hd_plain.specs.declared.choice.Choice.{Choice}
-use Rattle.hd_plain.specs.MachineViews.{MachineView}
+use Rattle.hd_plain.specs.MachineViews.{MachineView, seen_by}
 use Rattle.hd_plain.specs.Commands.{ComesToRoot, MayStep}
 use Rattle.hd_plain.specs.ChosenSteps.{IsNoStep, IsTheStep, WayComesTo}
-use Rattle.hd_plain.specs.Inside.{DecidedBy}
 use Rattle.hd_commands.specs.Done.{entry_by}
 use Rattle.hd_commands.specs.Done.{done_of}
+use Rattle.hd_commands.specs.Decided.{DecidedBy}
 
 -- an entry with these parts
 pub same_entry : (e : Entry) (caller : ℕ) (c : Cmd) (made : Done) → e.caller ≡ caller → e.cmd ≡ c
@@ -99,25 +99,26 @@ module _ (caller : ℕ) (choice : Choice) (old new : MachineView) where
   }
 
   -- a command whose outcome the state decides goes its way
-  pub decided_goes : (way : Way) (result : Result Done Refusal) → DecidedBy way old new result
+  pub decided_goes : (way : Way) (k : Cmd) (result : Result Done Refusal)
+      → DecidedBy way (seen_by old) caller k (seen_by new) result
       → WayComesTo caller way choice old new (Some result)
-  decided_goes (decided wanted) result did = λ c. record {
+  decided_goes (decided wanted) k result did = λ c. record {
     does = record {
       reply = ap (λ (m : Done). m.reply) did.0;
       slot = ap (λ (m : Done). m.slot) did.0;
       grown = ap (λ (m : Done). m.grown) did.0;
-      after = did.2;
+      after = did.1.1;
     };
-    numbers = did.1;
+    numbers = did.1.0;
     only = λ e after is by of chosen. outcome_entry e after c wanted (done_of result) by of is did.0;
   }
-  decided_goes (makes_object d fields fin) result did = absurd did
-  decided_goes (makes_handle d make t) result did = absurd did
-  decided_goes (collects n) result did = absurd did
-  decided_goes (replies_address h) result did = absurd did
-  decided_goes (gives_back kind) result did = absurd did
-  decided_goes (adds_entry v key) result did = absurd did
-  decided_goes (replies_root r) result did = absurd did
+  decided_goes (makes_object d fields fin) k result did = absurd did
+  decided_goes (makes_handle d make t) k result did = absurd did
+  decided_goes (collects n) k result did = absurd did
+  decided_goes (replies_address h) k result did = absurd did
+  decided_goes (gives_back kind) k result did = absurd did
+  decided_goes (adds_entry v key) k result did = absurd did
+  decided_goes (replies_root r) k result did = absurd did
 
 -- a command by its way is a step
 module _ (old new : MachineView) (c : Cmd) (choice : Choice) (may : MayStep old choice.caller c) where

@@ -1,5 +1,5 @@
 -- What private clauses alone cite.
-use Rattle.std.specs.Prelude.{ℕ, List, map, Option, Some, ◌≡◌, ◌==◌, cond, [], ◌∷◌, ◌++◌, None, ◌+◌, ◌<◌, ◌≤◌, Bool, true, false, length, ◌&&◌, nat_le, not, ◌≢◌, ◌^◌, is_none, is_some, ◌||◌, Ok, Result, ◌*◌, option_map, ◌⊎◌, Contains, nat_lt, replicate, Decides}
+use Rattle.std.specs.Prelude.{ℕ, List, map, Option, Some, ◌≡◌, ◌==◌, cond, [], ◌∷◌, ◌++◌, None, ◌+◌, ◌<◌, ◌≤◌, Bool, true, false, length, ◌&&◌, nat_le, not, ◌≢◌, ◌^◌, Ok, ◌*◌, option_map, ◌⊎◌, Contains, nat_lt, replicate, Decides}
 use Rattle.std.specs.FinMap.{FinMap, get, insert, remove, keys}
 use Rattle.std.specs.Ordering.{nat_cmp}
 use Rattle.std.specs.Option.{option_map_or}
@@ -7,13 +7,8 @@ use Rattle.hd_model.specs.Anchors.{AnchorOf, EdgeOf}
 use Rattle.hd_model.specs.Reach.{IsReached, IsRoot}
 use Rattle.hd_model.specs.Scene.{scene_of}
 use Rattle.hd_model.specs.declared.data.Id.{Id}
-use Rattle.hd_model.specs.declared.command.Cmd.{Cmd}
 use Rattle.hd_model.specs.declared.data.Kind.{Kind}
 use Rattle.hd_model.specs.declared.data.Grown.{Grown}
-use Rattle.hd_model.specs.declared.class.Class.{Class}
-use Rattle.hd_model.specs.Class.{class_of}
-use Rattle.hd_model.specs.Rows.{Touched}
-use Rattle.hd_model.specs.Touched.{touched_by}
 use Rattle.hd_model.specs.Leads.{IsClosure}
 use Rattle.hd_model.specs.declared.data.Report.{Report}
 use Rattle.hd_model.specs.State.{State, Handle, secondary_of, WeakEntry, Object, secondary, use_of, object_by_id, with_object, weak_handle}
@@ -24,9 +19,7 @@ use Rattle.hd_plain.specs.declared.machine.Seats.{Seats}
 use Rattle.hd_commands.specs.declared.done.Done.{Done}
 use Rattle.hd_model.specs.declared.data.Grown.TheVariants.{Zero, One, Two, Back}
 use Rattle.hd_model.specs.Command.{Outcome}
-use Rattle.hd_model.specs.Step.{pinned_by, Way, decided, makes_object, makes_handle, collects, replies_address, gives_back, adds_entry, replies_root}
-use Rattle.hd_model.specs.declared.data.Refusal.{Refusal}
-use Rattle.hd_commands.specs.Done.{done_of}
+use Rattle.hd_model.specs.Step.{pinned_by}
 use Rattle.hd_plain.specs.declared.marks.Attached.{Attached}
 use Rattle.hd_plain.specs.Attaching.{secondaries}
 use Rattle.hd_plain.specs.declared.collecting.Fates.{Fates}
@@ -39,7 +32,6 @@ use Rattle.hd_plain.specs.declared.collecting.Decided.{Decided}
 use Rattle.hd_plain.specs.declared.collecting.Walk.{Walk}
 use Rattle.hd_plain.specs.MachineViews.{Becomes, MachineView}
 use Rattle.std.specs.FinMap as fin
-use Rattle.hd_model.specs.declared.class.Class.TheVariants as class
 use Rattle.hd_maps.specs.declared.data.Edit.TheVariants as edit
 use Rattle.hd_maps.specs.StoredObjects.{edited}
 use Rattle.hd_maps.specs.WeakSlots.{entry_in}
@@ -221,61 +213,6 @@ Does wanted old new made = ComesTo wanted old new (Ok made)
 -- a change of an object is made
 abbrev pub Edits : MachineView → Id → Edit → MachineView → Type 0
 Edits old id edit new = Becomes old (with_object old.state id (edited edit (object_by_id old.state id))) new
-
--- the commands that take no memory and that the state decides: by their class, but for a `cremove`, which
--- takes memory here
-abbrev pub class_is_plain : Class → Bool
-class_is_plain (class.MakesObject fields) = false
-class_is_plain (class.TakesSlot make t) = false
-class_is_plain (class.StoresTarget h t) = true
-class_is_plain (class.StoresSecondary h) = true
-class_is_plain class.Frees = true
-class_is_plain (class.GivesBack kind) = false
-class_is_plain (class.Collects n) = false
-class_is_plain (class.RepliesAddress h) = false
-class_is_plain (class.AddsEntry k v) = false
-class_is_plain (class.LooksUp k) = true
-class_is_plain (class.Searches s) = false
-class_is_plain class.Plain = true
-
-abbrev pub is_plain : Cmd → Bool
-is_plain c = class_is_plain (class_of c) && is_none (touched_by c).takes_out
-
--- whether a command of the class changes what a handle references, or frees it
-abbrev pub class_rewrites : Class → Bool
-class_rewrites (class.MakesObject fields) = false
-class_rewrites (class.TakesSlot make t) = false
-class_rewrites (class.StoresTarget h t) = true
-class_rewrites (class.StoresSecondary h) = true
-class_rewrites class.Frees = true
-class_rewrites (class.GivesBack kind) = false
-class_rewrites (class.Collects n) = false
-class_rewrites (class.RepliesAddress h) = false
-class_rewrites (class.AddsEntry k v) = false
-class_rewrites (class.LooksUp k) = false
-class_rewrites (class.Searches s) = false
-class_rewrites class.Plain = false
-
--- whether what is touched are a register by copying, or the queue; whether a static, or the board or what is
--- picked from it
-abbrev pub copies_or_takes : Touched → Bool
-copies_or_takes t = is_some t.copied || t.queue
-
-abbrev pub puts_or_picks : Touched → Bool
-puts_or_picks t = is_some t.static || is_some t.board || is_some t.picked
-
--- a command whose outcome the state decides came to it
-abbrev pub DecidedBy : Way → MachineView → MachineView → Result Done Refusal → Type 0
-DecidedBy (decided wanted) old new result =
-    (done_of result ≡ record { reply = wanted.reply; slot = wanted.slot; grown = Zero })
-    × (new.numbers ≡ old.numbers) × (new.state ≡ wanted.after)
-DecidedBy (makes_object d fields fin) old new result = ⊥
-DecidedBy (makes_handle d make t) old new result = ⊥
-DecidedBy (collects n) old new result = ⊥
-DecidedBy (replies_address h) old new result = ⊥
-DecidedBy (gives_back kind) old new result = ⊥
-DecidedBy (adds_entry v key) old new result = ⊥
-DecidedBy (replies_root r) old new result = ⊥
 
 -- what the table needs to grow
 abbrev pub Grows : MachineView → Kind → Grown → Type 0

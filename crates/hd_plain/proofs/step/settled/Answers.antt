@@ -8,8 +8,8 @@ use Rattle.hd_commands.specs.Done.{done_of}
 use Rattle.hd_plain.proofs.StepWays.{collect_goes, root_goes}
 use Rattle.hd_plain.proofs.step.settled.Goals as goal
 
-pub returns-then-is_plain : goal.returns-then-is_plain
-returns-then-is_plain c = c.decide.ensures
+pub returns-then-needs_parts_alone : goal.returns-then-needs_parts_alone
+returns-then-needs_parts_alone c = c.decide.ensures
 
 pub returns-in_ok-report-in-Collect : goal.returns-in_ok-report-in-Collect
 returns-in_ok-report-in-Collect c =
