@@ -1,5 +1,5 @@
 -- Searches that go on where one part has no member.
-use Rattle.hd_tiers.proofs.Basics.{FinSet, HasNoneBetween, HasNoneFrom, IfNone, IfSome, IsLeastFrom, None, Option, Some, arith, cases_lt, contains, inl, inr, nat_cmp, subst, sym, ℕ, ◌<◌, ◌≡◌, ◌≤◌}
+use Rattle.hd_tiers.proofs.Basics.{FinSet, HasNoneBetween, HasNoneFrom, IfNone, IfSome, IsLeastFrom, None, Option, Some, arith, cases_lt, inl, inr, nat_cmp, subst, sym, ℕ, ◌≡◌, ◌≤◌}
 
 -- what a search that found nothing says, and where it says so
 pub none_in : {A P : Type 0} {o : Option A} → o ≡ None → IfNone o P → P

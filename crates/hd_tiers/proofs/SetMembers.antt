@@ -1,5 +1,5 @@
 -- Members of sets of numbers after one change, and of runs of numbers.
-use Rattle.hd_tiers.proofs.Basics.{BITS, Bool, FinSet, List, ap, arith, cases_eq, cond, contains, contains-difference, contains-empty, contains-from_list_nat, contains-insert, contains-remove, contains-union, difference, eq-eqb, eq_by_cmp, false, filter, inl, inr, insert, list_any, nat_cmp, nat_cmp_total, nat_eq, ne_eqb, not, range_with_len, refl, remove, suc, true, union, unsigned_tied, zero, ℕ, ◌&&◌, ◌*◌, ◌+◌, ◌/◌, ◌<◌, ◌||◌, ◌∙◌, ◌∷◌, ◌≡◌, ◌≢◌, ◌≤◌, ◌⊎◌}
+use Rattle.hd_tiers.proofs.Basics.{BITS, Bool, FinSet, List, ap, arith, cases_eq, cond, contains, contains-difference, contains-from_list_nat, contains-insert, contains-remove, contains-union, difference, eq-eqb, eq_by_cmp, false, filter, inl, inr, insert, list_any, nat_cmp, nat_cmp_total, nat_eq, ne_eqb, not, range_with_len, refl, remove, suc, true, union, unsigned_tied, zero, ℕ, ◌&&◌, ◌*◌, ◌+◌, ◌/◌, ◌<◌, ◌||◌, ◌∙◌, ◌∷◌, ◌≡◌, ◌≢◌, ◌≤◌, ◌⊎◌}
 use Rattle.hd_tiers.specs.Sets.{numbers_of}
 
 or-true : (a : Bool) → (a || true) ≡ true

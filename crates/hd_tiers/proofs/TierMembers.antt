@@ -2,6 +2,11 @@
 use Rattle.hd_tiers.proofs.Basics.{BITS, Err, HasNoneBetween, HasNoneFrom, HasNoneOf, HasSomeOf, NumberSet, IfNone, IfSome, IsLeastFrom, IsLeastOf, IsTiered, MatchResult, None, Ok, Option, Result, Some, ap, arith, both_ways, cases_eq, cases_lt, contains, contains-empty, empty, false, false_from_ne_true, inl, inr, insert, max, nat_cmp, refl, remove, subst, sym, true, ℕ, ◌*◌, ◌+◌, ◌/◌, ◌<◌, ◌∙◌, ◌≡◌, ◌≢◌, ◌≤◌, ◌⊎◌}
 use Rattle.hd_tiers.proofs.SetMembers.{insert_same, insert_other, insert_keeps, remove_same, remove_other}
 
+pub along : {numbers new marked left : NumberSet} → new ≡ numbers → left ≡ marked → IsTiered numbers marked
+    → IsTiered new left
+along {numbers} {new} {marked} {left} n m tiered =
+    subst (λ a. IsTiered a left) (sym n) (subst (λ b. IsTiered numbers b) (sym m) tiered)
+
 module _ {numbers marked : NumberSet} (inv : IsTiered numbers marked) where
   -- ---- a number is added
 
@@ -30,7 +35,7 @@ module _ {numbers marked : NumberSet} (inv : IsTiered numbers marked) where
       some = λ block member. still block (inv.some block member);
     }
 
-    pub inserted_first : IsTiered (record numbers { members = insert numbers.members i })
+    inserted_first : IsTiered (record numbers { members = insert numbers.members i })
         (record marked { members = insert marked.members (i / BITS) })
     inserted_first = record {
       wide = inv.wide;
@@ -45,6 +50,12 @@ module _ {numbers marked : NumberSet} (inv : IsTiered numbers marked) where
             (sym (insert_other marked.members (i / BITS) block apart) ∙ member))
       ];
     }
+
+    -- by the number of the block that was inserted above
+    pub inserted_at : {left : NumberSet} (at : ℕ) → left ≡ record marked { members = insert marked.members at }
+        → at ≡ i / BITS → IsTiered (record numbers { members = insert numbers.members i }) left
+    inserted_at at is its =
+        along refl (is ∙ ap (λ n. record marked { members = insert marked.members n }) its) inserted_first
 
   -- ---- a number is removed
 
@@ -84,7 +95,7 @@ module _ {numbers marked : NumberSet} (inv : IsTiered numbers marked) where
         left (inl some) has = some
         left (inr none) has = absurd (both_ways _ (none has.number has.of_block) has.member)
 
-    pub removed_last : HasNoneOf (remove numbers.members i) (i / BITS)
+    removed_last : HasNoneOf (remove numbers.members i) (i / BITS)
         → IsTiered (record numbers { members = remove numbers.members i })
         (record marked { members = remove marked.members (i / BITS) })
     removed_last none = record {
@@ -99,6 +110,13 @@ module _ {numbers marked : NumberSet} (inv : IsTiered numbers marked) where
             (sym (remove_other marked.members (i / BITS) block apart) ∙ member))
       ];
     }
+
+    -- by the number of the block that was removed above
+    pub removed_at : {left : NumberSet} (at : ℕ) → left ≡ record marked { members = remove marked.members at }
+        → at ≡ i / BITS → HasNoneOf (remove numbers.members i) (i / BITS)
+        → IsTiered (record numbers { members = remove numbers.members i }) left
+    removed_at at is its none =
+        along refl (is ∙ ap (λ n. record marked { members = remove marked.members n }) its) (removed_last none)
 
   -- ---- searches
 
@@ -172,11 +190,6 @@ opened numbers marked blocks numbers_is marked_is = record {
 pub with_room : {numbers marked : NumberSet} → IsTiered numbers marked → (n m : ℕ) → n ≤ BITS * m
     → IsTiered (record numbers { room = n }) (record marked { room = m })
 with_room inv n m le = record { wide = le; marks = inv.marks; some = inv.some }
-
-pub along : {numbers new marked left : NumberSet} → new ≡ numbers → left ≡ marked → IsTiered numbers marked
-    → IsTiered new left
-along {numbers} {new} {marked} {left} n m tiered =
-    subst (λ a. IsTiered a left) (sym n) (subst (λ b. IsTiered numbers b) (sym m) tiered)
 
 -- what a removal says of the block, by what it wrote
 module _ (numbers after : NumberSet) (i : ℕ)

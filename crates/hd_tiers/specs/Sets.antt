@@ -1,6 +1,6 @@
 -- Sets of numbers with a least member. A block is 64 numbers, which one mask keeps: number i is bit i % 64 of
 -- mask i / 64. This project's own format.
-use Rattle.std.specs.Prelude.{◌≡◌, ℕ, ◌+◌, ◌*◌, ◌/◌, ◌<◌, ◌≤◌, true, false, refl}
+use Rattle.std.specs.Prelude.{◌≡◌, ℕ, ◌*◌, ◌/◌, ◌<◌, ◌≤◌, true, false, refl}
 use Rattle.std.specs.Coded.{Coded, code_by, coded×, coded_ℕ}
 use Rattle.std.specs.FinSet.{FinSet, code, contains, from_list}
 use Rattle.std.specs.List.{range_with_len}

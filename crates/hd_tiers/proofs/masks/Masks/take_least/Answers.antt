@@ -1,4 +1,4 @@
-use Rattle.hd_tiers.proofs.Basics.{BITS, and_le_l, ap, arith, bit_and, bit_not, both_ways, eq-eqb, eqb-true, get_or, get_or_default_zero, refl, length, w64, ◌<◌, ◌^◌, ◌∙◌, ◌≡◌}
+use Rattle.hd_tiers.proofs.Basics.{BITS, IsLeastOf, and_le_l, ap, arith, bit_and, bit_not, both_ways, eq-eqb, eqb-true, get_or, get_or_default_zero, length, refl, remove, subst, w64, ◌<◌, ◌^◌, ◌∙◌, ◌≡◌}
 use Rattle.hd_tiers.proofs.MaskMembers.{after_none, after_some, all_of, full_from, least_of, none_of, positive, room_is, taken_at}
 use Rattle.hd_tiers.proofs.Searches.{at_none}
 use Rattle.hd_tiers.proofs.masks.Masks.take_least.Goals as goal
@@ -11,11 +11,13 @@ returns-clause-least c =
     let within : block < length masks = omega (arith, room_is masks c.args.self.now c.self.view_is) in
     let read : mask ≡ get_or masks block 0 = c.index-mask.ensures ∙ get_or_default_zero masks block mask within
     in
-    least_of masks c.args.self.now c.self.view_is _ _ read c.in_ok-row.ensures.within c.in_ok-row.ensures.set
-    c.in_ok-row.ensures.least
+    subst (IsLeastOf c.args.self.now.members block) (omega arith)
+    (least_of masks c.args.self.now c.self.view_is _ _ read c.in_ok-row.ensures.within c.in_ok-row.ensures.set
+    c.in_ok-row.ensures.least)
 
 pub returns-clause-taken : goal.returns-clause-taken
 returns-clause-taken c =
+    let now = c.args.self.now in
     let masks = c.self.inside.masks.items in
     let block = c.args.block in
     let mask = c.index-mask.result.now in
@@ -25,8 +27,9 @@ returns-clause-taken c =
     let fits : mask < 2 ^ 64 = omega arith in
     let read : mask ≡ get_or masks block 0 = c.index-mask.ensures ∙ get_or_default_zero masks block mask within
     in
-    taken_at masks c.args.self.now c.self.view_is _ _ _ within read fits low word
+    taken_at masks now c.self.view_is _ _ _ within read fits low word
     (ap (λ b. bit_and mask (bit_not w64 b)) c.bit.ensures.value)
+    ∙ ap (λ n. record now { members = remove now.members n }) (omega arith)
 
 pub returns-clause-last : goal.returns-clause-last
 returns-clause-last c e =

@@ -1,5 +1,5 @@
 use Rattle.hd_tiers.proofs.Basics.{NumberSet, ap, arith, refl}
-use Rattle.hd_tiers.proofs.TierMembers.{along, inserted_first, inserted_more}
+use Rattle.hd_tiers.proofs.TierMembers.{along, inserted_at, inserted_more}
 use Rattle.hd_tiers.proofs.tier.TierNumbers.insert.Goals as goal
 
 pub insert-requires : goal.insert-requires
@@ -8,8 +8,7 @@ insert-requires g c =
 
 pub invariant_of-self : goal.invariant_of-self
 invariant_of-self g c =
-    along c.add-added.ensures.value c.insert.ensures
-    (inserted_first c.self.invariant c.args.i)
+    along c.add-added.ensures.value refl (inserted_at c.self.invariant c.args.i _ c.insert.ensures (omega arith))
 
 pub invariant_of-self-else-added : goal.invariant_of-self-else-added
 invariant_of-self-else-added g c =
