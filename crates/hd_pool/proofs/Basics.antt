@@ -1,6 +1,6 @@
 -- The names that most proofs of this crate cite, passed on from one place.
 pub use Rattle.std.proofs.lemmas.Option.{same_Some}
-pub use Rattle.std.proofs.Common.{Bool, IsSome, List, None, Option, Some, ap, arith, false, get_or, inl, inr, length, not, refl, replicate, rules, set, subst, suc, sym, true, zero, ℕ, ◌*◌, ◌+◌, ◌-◌, ◌/◌, ◌<◌, ◌∙◌, ◌≡◌, ◌≢◌, ◌≤◌, ◌⊎◌}
+pub use Rattle.std.proofs.Common.{Bool, IsSome, List, None, Option, Some, ap, arith, false, get_or, inl, inr, length, refl, replicate, rules, set, subst, sym, true, ℕ, ◌*◌, ◌+◌, ◌-◌, ◌/◌, ◌<◌, ◌∙◌, ◌≡◌, ◌≢◌, ◌≤◌, ◌⊎◌}
 pub use Rattle.std.proofs.lemmas.Bool.{both_ways, cases_eq, cases_lt, true≢false}
 pub use Rattle.std.proofs.lemmas.List.{get_or-set_other, get_or-set_same, get_or_past, get_or_read, length-set}
 pub use Rattle.std.specs.FinMap.{get}
