@@ -21,3 +21,6 @@ pub mod JournalTexts
 pub mod WorkedLines
 pub mod CommandOutcomes
 pub mod WorkedCommands
+pub mod WorkedTables
+pub mod WorkedChoices
+pub mod NumberedLines

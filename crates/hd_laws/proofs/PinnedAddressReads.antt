@@ -55,7 +55,7 @@ address_is_returned_again n s t e h id p step is by has =
     does.outcome.reply ∙ ap (λ (o : Outcome). o.reply) (reply_is s e.caller h id by does.address)
     ∙ ap reply.Place same
 
-same_number : {r : Reply} {p q : ℕ} → r ≡ reply.Place p → r ≡ reply.Place q → p ≡ q
+pub same_number : {r : Reply} {p q : ℕ} → r ≡ reply.Place p → r ≡ reply.Place q → p ≡ q
 same_number a b = cc
 
 -- `addr` gives the object the pinned address that it returns

@@ -43,16 +43,16 @@ object_two = object_with [] 0 false
 abbrev objects : List (ℕ × Object Id)
 objects = (2, object_two) ∷ (1, object_one) ∷ []
 
-abbrev handles : List (ℕ × Handle Id)
+abbrev pub handles : List (ℕ × Handle Id)
 handles =
     (448, variable_of strength_of.Short) ∷ (385, pinned_two) ∷ (384, pinned_null) ∷ (257, counted_by 2)
     ∷ (256, counted_by 0) ∷ (129, dependent_one) ∷ (128, dependent_null) ∷ (65, strong_null)
     ∷ (64, strong_one) ∷ []
 
-one_there : get worked.objects 1 ≡ Some object_one
+pub one_there : get worked.objects 1 ≡ Some object_one
 one_there = get-from_entries nat_cmp_total objects 1
 
-two_there : get worked.objects 2 ≡ Some object_two
+pub two_there : get worked.objects 2 ≡ Some object_two
 two_there = get-from_entries nat_cmp_total objects 2
 
 slot_64 : handle_at worked (slot_of 64) ≡ Some strong_one
@@ -79,7 +79,7 @@ slot_257 = get-from_entries nat_cmp_total handles 257
 slot_384 : handle_at worked (slot_of 384) ≡ Some pinned_null
 slot_384 = get-from_entries nat_cmp_total handles 384
 
-slot_385 : handle_at worked (slot_of 385) ≡ Some pinned_two
+pub slot_385 : handle_at worked (slot_of 385) ≡ Some pinned_two
 slot_385 = get-from_entries nat_cmp_total handles 385
 
 slot_448 : handle_at worked (slot_of 448) ≡ Some (variable_of strength_of.Short)
@@ -88,7 +88,7 @@ slot_448 = get-from_entries nat_cmp_total handles 448
 cells : total_size worked ≡ 7
 cells = ap (λ (es : List (ℕ × Object Id)). sum_by size_of (map (λ e. e.1) es)) (all_entries objects)
 
-abbrev attached : List (ℕ × Option (WeakEntry Id))
+abbrev pub attached : List (ℕ × Option (WeakEntry Id))
 attached = (130, Some (record { key = id_of 1; value = Some (id_of 2) })) ∷ []
 
 entry_there : get worked.weak 130 ≡ Some (Some (record { key = id_of 1; value = Some (id_of 2) }))
@@ -179,7 +179,7 @@ way_one : (v : ℕ) → way_of worked 0 (cmd.CAdd 0 v) ≡ decided (refuses refu
 way_one v = ap (λ o. way_of_adding worked 0 v (option_map_or (λ _. is_refused refusal.Present) o
     (option_map_or (λ slot. in_idle slot (id_of 1)) (idle_slot worked) (in_new (id_of 1))))) key_one
 
-way_two : way_of worked 0 (cmd.CAdd 1 0) ≡ way_of_adding worked 0 0 (in_new (id_of 2))
+pub way_two : way_of worked 0 (cmd.CAdd 1 0) ≡ way_of_adding worked 0 0 (in_new (id_of 2))
 way_two =
     ap (λ o. way_of_adding worked 0 0 (option_map_or (λ _. is_refused refusal.Present) o
     (option_map_or (λ slot. in_idle slot (id_of 2)) (idle_slot worked) (in_new (id_of 2))))) key_two

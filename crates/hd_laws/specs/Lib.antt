@@ -1,12 +1,15 @@
 pub mod AnchorSamples
+pub mod ChoiceLaws
 pub mod CollectionLaws
 pub mod CollectionSamples
 pub mod CommandLaws
 pub mod Constants
 pub mod DueClumps
+pub mod LineLaws
 pub mod RangeLaws
 pub mod ReadingLaws
 pub mod RootText
+pub mod TableLaws
 pub mod TextLaws
 pub mod UserLaws
 pub mod WeakLaws

@@ -19,6 +19,8 @@ ghost use Rattle.hd_laws.specs.CollectionLaws.{AgesHideNothing};
 ghost use Rattle.hd_laws.specs.CollectionLaws.{CollectionsExist};
 ghost use Rattle.hd_model.specs.CollectionLaws.{RescuedObjectsStay};
 ghost use Rattle.hd_laws.specs.CollectionSamples.{PremisesAreMet};
+ghost use Rattle.hd_laws.specs.ChoiceLaws.{AddressesGoWithPins, CompactHeapsHaveFewRegions};
+ghost use Rattle.hd_laws.specs.TableLaws.{AgesMoveSo};
 
 /// From a state, a collection leads to at most one state, with one report.
 pub fn one_collection()
@@ -150,4 +152,23 @@ pub fn collections_exist()
 #[tactic(auto, using(crate::proofs::CollectionSamples::premises_are_met))]
 pub fn premises_are_met()
     ensures { PremisesAreMet }
+{}
+
+/// In a worked state each store lowers the age of its clump to what it needs and no further, other
+/// commands lower none, and a collection raises each by one, at most to 2.
+#[tactic(auto, using(crate::proofs::WorkedTables::ages_move_so))]
+pub fn ages_move_so()
+    ensures { AgesMoveSo }
+{}
+
+/// A compact heap of which 1,000 cells are taken, with two pinned objects, has at most 10 regions
+/// in use.
+pub fn compact_heaps_have_few_regions()
+    ensures { CompactHeapsHaveFewRegions }
+{}
+
+/// A collection keeps the address of each object that some handle pins, and forgets that of each
+/// other object.
+pub fn addresses_go_with_pins()
+    ensures { AddressesGoWithPins }
 {}

@@ -1,6 +1,8 @@
 ghost use Rattle.hd_laws.specs.TextLaws.{TextsAreThese, CallersCountTheirLines};
 ghost use Rattle.hd_laws.specs.TextLaws.{TextsTellSlotsAndBlocks, EmptyTextsLackLineOne};
 ghost use Rattle.hd_laws.specs.ReadingLaws.{ReadingsAreThese};
+ghost use Rattle.hd_laws.specs.LineLaws.{LinesAreThese, WrongLinesAreNumbered};
+ghost use Rattle.hd_laws.specs.TableLaws.{LoadsAreThese};
 
 /// The text of a worked journal of three callers, plain and full, the text of each reply, the name
 /// of each kind, and the line of a load, are these bytes.
@@ -33,4 +35,24 @@ pub fn texts_tell_slots_and_blocks()
 #[tactic(auto, using(crate::proofs::WorkedLines::readings_are_these))]
 pub fn readings_are_these()
     ensures { ReadingsAreThese }
+{}
+
+/// The commands of a load: its kinds go round by six, its collections by three after each 16th
+/// round, and one round is written out.
+#[tactic(auto, using(crate::proofs::WorkedTables::loads_are_these))]
+pub fn loads_are_these()
+    ensures { LoadsAreThese }
+{}
+
+/// The line of one of each command, and of an `hnew` of each kind, and a worked list of roots.
+#[tactic(auto, using(crate::proofs::NumberedLines::lines_are_these))]
+pub fn lines_are_these()
+    ensures { LinesAreThese }
+{}
+
+/// Lines are cut after each byte 10. The line that a verdict names has a number from 1 to one more
+/// than there are lines, and it is 1 where the first line is not right.
+#[tactic(auto, using(crate::proofs::NumberedLines::wrong_lines_are_numbered))]
+pub fn wrong_lines_are_numbered()
+    ensures { WrongLinesAreNumbered }
 {}
