@@ -46,7 +46,7 @@ module _ {m : Machine} {p : FreeSlots} {stamps : List ℕ} {last : Change} {v : 
 
     pub host_added : (r : FreeSlots) → r ≡ noted q change (Some slot) grown → IsHost k r stamps
     host_added r is = host_after host view known did q offers r
-        (subst (λ x. r ≡ noted q x (Some slot) grown) change_is is) tt
+        (subst (λ x. r ≡ noted q x (Some slot) grown) change_is is) refl
 
     pub adds : AddsEntry v context key value (view_of k stamps (record { slot = Some slot; grown = grown }))
     adds = record {
@@ -62,7 +62,7 @@ module _ {m : Machine} {p : FreeSlots} {stamps : List ℕ} {last : Change} {v : 
 
     pub host_unadded : IsHost k q stamps
     host_unadded = host_after host view known none q offers q
-        (noted_none q (change_in m.state context (cmd.CAdd key value))) tt
+        (noted_none q (change_in m.state context (cmd.CAdd key value))) refl
 
     pub adds_none : {fault : Fault} → fault ≡ fault_of why
         → FailsBy v context None (cmd.CAdd key value) fault × IsAsItWas v (view_of k stamps last)

@@ -2,6 +2,7 @@ mod Registers
 mod CallPool
 mod EmptyRegisters
 mod Refused
+mod LiveEntries
 mod CallHost
 mod WholeHost
 mod FirstHost
@@ -16,4 +17,3 @@ mod AddedEntry
 mod SameHost
 mod FreedHandle
 mod NextHandle
-mod TargetLoads

@@ -1,13 +1,15 @@
 -- The slot and the stamp in a handle: which handles are stale, and that a handle is that of one slot.
-use Rattle.std.proofs.Common.{List, None, Option, Some, ap, arith, get_or, inl, inr, is_some, length, refl, slice_get, subst, sym, true, ℕ, ◌%◌, ◌*◌, ◌+◌, ◌/◌, ◌<◌, ◌^◌, ◌∙◌, ◌≡◌, ◌≢◌, ◌≤◌, ◌⊎◌}
-use Rattle.std.proofs.lemmas.Bool.{true≢false}
+use Rattle.std.proofs.Common.{Bool, List, None, Some, ap, arith, false, get_or, inl, inr, is_some, length, refl, slice_get, subst, sym, true, ℕ, ◌%◌, ◌*◌, ◌+◌, ◌/◌, ◌<◌, ◌^◌, ◌∙◌, ◌≡◌, ◌≢◌, ◌≤◌, ◌⊎◌}
+use Rattle.std.proofs.lemmas.List.{length-map}
 use Rattle.std.proofs.lemmas.Option.{slice_get_cases, get_or_from_slice_get, none-some}
-use Rattle.std.specs.Prelude.{IfSome, IsSome}
-use Rattle.std.specs.FinMap.{get}
+use Rattle.std.specs.Prelude.{IfSome, IsSome, slice_index}
 use Rattle.hd_model.specs.{declared.data.Slot.Slot, State.handle_at}
+use Rattle.hd_pool.specs.Pool.{FreeSlots}
+use Rattle.hd_store.specs.Store.{Machine}
+use Rattle.hd_host.specs.declared.change.Change.{Change}
 use Rattle.hd_host.specs.declared.handle.Handle.{Handle}
-use Rattle.hd_host.specs.{Handles.IsOf, Handles.IsStale, Handles.handle_of, Handles.stamp_of, View.HostView}
-use Rattle.hd_host.proofs.WholeHost.{IsWhole}
+use Rattle.hd_host.specs.{Handles.IsOf, Handles.IsStale, Handles.stamp_of, Inside.IsHost, Inside.low_bits, View.HostView}
+use Rattle.hd_host.proofs.{CallHost.view_of, LiveEntries.stamp_in, WholeHost.IsWhole, WholeHost.whole}
 
 module _ {v : HostView} (whole : IsWhole v) where
   pub live_within : (slot : Slot) → IsSome (handle_at v.machine.state slot) → slot.0 < length v.stamps
@@ -32,54 +34,87 @@ module _ {v : HostView} (whole : IsWhole v) where
         same : slot.0 ≡ other.0
         same = sym (slot_is of) ∙ slot_is also
 
-    -- nor is it that of a live slot where its own is not live
-    pub gone_stale : (at : Slot) → at.0 < 2 ^ 16 → handle ≡ handle_of v at → handle_at v.machine.state at ≡ None
-        → IsStale v handle
-    gone_stale at small is gone other of =
-        let slot = slot_is of in
-        let same : at.0 ≡ other.0 = omega (arith, small, slot, ap (λ (h : Handle). h.0) is) in
-        true≢false (sym (subst (λ x. is_some (get v.machine.state.handles x) ≡ true) (sym same) of.live)
-        ∙ ap is_some gone)
+module _ {m : Machine} {p : FreeSlots} {entries : List ℕ} {last : Change} {v : HostView} (host : IsHost m p entries)
+    (view : view_of m entries last ≡ v) where
+  all : IsWhole v
+  all = whole host view
 
-    module _ {stamps : List ℕ} (are : stamps ≡ v.stamps) {at : Slot}
-        (at_is : at ≡ record { 0 = handle.0 % 2 ^ 16 }) where
-      slot_at : {slot : Slot} → IsOf v handle slot → at.0 ≡ slot.0
-      slot_at of = ap (λ (s : Slot). s.0) at_is ∙ slot_is of
+  live_in : (slot : Slot) → is_some (handle_at m.state slot) ≡ is_some (handle_at v.machine.state slot)
+  live_in slot = ap (λ (x : HostView). is_some (handle_at x.machine.state slot)) view
 
-      stamp_at : {slot : Slot} → IsOf v handle slot → get_or stamps at.0 0 ≡ handle.0 / 2 ^ 16
-      stamp_at {slot = slot} of =
-          ap (λ x. get_or stamps x 0) (slot_at of) ∙ ap (λ (xs : List ℕ). get_or xs slot.0 0) are ∙ sym (stamp_is of)
+  stamp_same : (slot : Slot) → slice_index entries slot.0 / 2 ^ 16 ≡ stamp_of v slot
+  stamp_same slot = sym (stamp_in entries slot.0) ∙ ap (λ (x : HostView). stamp_of x slot) view
 
-      -- it is stale where the table has no such slot, and where the slot has another stamp
-      past_stale : slice_get stamps at.0 ≡ None → IsStale v handle
-      past_stale none slot of = by (slice_get_cases stamps at.0).1
-        where
-          by : ((x : ℕ) × (at.0 < length stamps) × (slice_get stamps at.0 ≡ Some x) × (get_or stamps at.0 x ≡ x))
-              ⊎ ((length stamps ≤ at.0) × (slice_get stamps at.0 ≡ None)) → ⊥
-          by (inl within) = none-some within.0 (sym none ∙ within.2)
-          by (inr past) =
-              absurd (omega (arith, past.0, slot_at of, live_within slot of.live, ap length are))
+  pub within : (slot : Slot) → IsSome (handle_at v.machine.state slot) → slot.0 < length entries
+  within slot live = omega (
+    arith,
+    live_within all slot live,
+    ap (λ (x : HostView). length x.stamps) view,
+    length-map entries (λ entry. entry / 2 ^ 16),
+  )
 
-      other_stale : (stamp : ℕ) → slice_get stamps at.0 ≡ Some stamp → stamp ≢ handle.0 / 2 ^ 16
-          → IsStale v handle
-      other_stale stamp found apart slot of =
-          apart (sym (get_or_from_slice_get stamps at.0 stamp 0 found) ∙ stamp_at of)
+  -- the entry of a live slot is its handle
+  pub entry_is : (slot : Slot) → IsSome (handle_at v.machine.state slot)
+      → slice_index entries slot.0 ≡ stamp_of v slot * 2 ^ 16 + slot.0
+  entry_is slot live = omega (
+    arith,
+    stamp_same slot,
+    host.live slot (within slot live) ∙ ap (λ b. low_bits b slot) (live_in slot ∙ live),
+  )
 
-      pub stale_by : {stamp : ℕ} → stamp ≡ handle.0 / 2 ^ 16
-          → IfSome (slice_get stamps at.0) (λ last. last ≢ stamp) → IsStale v handle
-      stale_by {stamp = stamp} is other = by (slice_get stamps at.0) refl other
-        where
-          by : (o : Option ℕ) → slice_get stamps at.0 ≡ o → IfSome o (λ last. last ≢ stamp) → IsStale v handle
-          by None none other = past_stale none
-          by (Some last) found other = other_stale last found (λ same. other (same ∙ sym is))
+  -- so a number that is the entry of its slot is the handle of a live one
+  module _ (handle : Handle) {at : Slot} (at_is : at ≡ record { 0 = handle.0 % 2 ^ 16 }) where
+    at_low : at.0 ≡ handle.0 % 2 ^ 16
+    at_low = ap (λ (s : Slot). s.0) at_is
 
-      -- else it is the handle of that slot
-      pub is_handle : (stamp : ℕ) → slice_get stamps at.0 ≡ Some stamp → stamp ≡ handle.0 / 2 ^ 16
-          → handle ≡ handle_of v at
-      is_handle stamp found is = λ i. record { 0 = same i }
-        where
-          read : stamp_of v at ≡ stamp
-          read = sym (ap (λ (xs : List ℕ). get_or xs at.0 0) are) ∙ get_or_from_slice_get stamps at.0 stamp 0 found
+    pub live_by : slice_get entries (handle.0 % 2 ^ 16) ≡ Some handle.0 → IsOf v handle at
+    live_by found = by (slice_get_cases entries (handle.0 % 2 ^ 16)).1
+      where
+        entry : slice_index entries at.0 ≡ handle.0
+        entry = ap (slice_index entries) at_low
+            ∙ get_or_from_slice_get entries (handle.0 % 2 ^ 16) handle.0 0 found
 
-          same : handle.0 ≡ stamp_of v at * 2 ^ 16 + at.0
-          same = omega (arith, is, read, ap (λ (s : Slot). s.0) at_is)
+        is : is_some (handle_at m.state at) ≡ true → IsOf v handle at
+        is live = record {
+          live = sym (live_in at) ∙ live;
+          is = λ i. record { 0 = same i };
+        }
+          where
+            same : handle.0 ≡ stamp_of v at * 2 ^ 16 + at.0
+            same = sym entry ∙ entry_is at (sym (live_in at) ∙ live)
+
+        lives : at.0 < length entries → (b : Bool) → is_some (handle_at m.state at) ≡ b
+            → is_some (handle_at m.state at) ≡ true
+        lives low true live = live
+        lives low false gone = absurd (omega (
+          arith,
+          low,
+          at_low,
+          entry,
+          host.live at low ∙ ap (λ b. low_bits b at) gone,
+          host.stamps,
+          host.limits.blocks,
+        ))
+
+        by : ((x : ℕ) × (handle.0 % 2 ^ 16 < length entries) × (slice_get entries (handle.0 % 2 ^ 16) ≡ Some x)
+            × (get_or entries (handle.0 % 2 ^ 16) x ≡ x))
+            ⊎ ((length entries ≤ handle.0 % 2 ^ 16) × (slice_get entries (handle.0 % 2 ^ 16) ≡ None))
+            → IsOf v handle at
+        by (inl low) = is (lives (omega (arith, low.1, at_low)) (is_some (handle_at m.state at)) refl)
+        by (inr past) = absurd (none-some handle.0 (sym past.1 ∙ found))
+
+  -- and any other is stale
+  pub stale_by : {handle : Handle} → IfSome (slice_get entries (handle.0 % 2 ^ 16)) (λ entry. entry ≢ handle.0)
+      → IsStale v handle
+  stale_by {handle = handle} other slot of =
+      let here : handle.0 % 2 ^ 16 ≡ slot.0 = slot_is all of in
+      by (slice_get_cases entries slot.0).1 (subst (λ i. IfSome (slice_get entries i) (λ entry. entry ≢ handle.0)) here
+      other)
+    where
+      by : ((x : ℕ) × (slot.0 < length entries) × (slice_get entries slot.0 ≡ Some x) × (get_or entries slot.0 x ≡ x))
+          ⊎ ((length entries ≤ slot.0) × (slice_get entries slot.0 ≡ None))
+          → IfSome (slice_get entries slot.0) (λ entry. entry ≢ handle.0) → ⊥
+      by (inl low) apart = subst (λ o. IfSome o (λ entry. entry ≢ handle.0)) low.2 apart
+          (sym (get_or_from_slice_get entries slot.0 low.0 0 low.2) ∙ entry_is slot of.live
+          ∙ sym (ap (λ (h : Handle). h.0) of.is))
+      by (inr past) apart = absurd (omega (arith, past.0, within slot of.live))

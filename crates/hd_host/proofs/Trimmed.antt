@@ -69,7 +69,7 @@ module _ {m : Machine} {p : FreeSlots} {stamps : List ℕ} {last : Change} {v : 
     may_note = may_note_by host view known did q offers
 
     pub host_trimmed : (r : FreeSlots) → r ≡ noted q (GivesBack kind) None grown → IsHost k r stamps
-    host_trimmed r is = host_after host view known did q offers r is tt
+    host_trimmed r is = host_after host view known did q offers r is refl
 
     pub trims : {given : ℕ} → given ≡ given_back grown
         → Trims v kind given (view_of k stamps (record { slot = None; grown = grown }))

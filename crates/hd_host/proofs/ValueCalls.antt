@@ -2,7 +2,7 @@
 pub use Rattle.std.proofs.Common.{refl}
 pub use Rattle.hd_host.proofs.Registers.{called_numbers}
 use Rattle.std.proofs.Common.{Err, List, None, Ok, Option, Result, Some, ap, arith, false, subst, sym, ℕ, ◌<◌, ◌∙◌, ◌≡◌}
-use Rattle.std.specs.{FinMap.empty, Prelude.IfSome}
+use Rattle.std.specs.{FinMap.empty}
 use Rattle.hd_model.proofs.{AgedRuns.nothing_at, StepFrames.untouched_stays}
 use Rattle.hd_model.specs.{declared.command.Cmd.Cmd, declared.data.Entry.Entry, declared.data.Refusal.Refusal, declared.data.Reply.Reply, declared.data.Slot.Slot, Aging.is_refused, PinnedAddresses.with_pinned, State.Numbers, State.handle_register_of, Touched.touched_by}
 use Rattle.hd_model.specs.declared.data.Reply.TheVariants as reply
@@ -12,11 +12,11 @@ use Rattle.hd_slots.specs.Change.{Offers, change_in, noted}
 use Rattle.hd_slots.specs.declared.change.Change.TheVariants.{Keeps}
 use Rattle.hd_store.specs.{Calls.HasCalled, Calls.HasReturned, Calls.HasReturnedOf, Calls.KeepsFirst, Calls.pointed, Store.Machine}
 use Rattle.hd_host.specs.{declared.change.Change.Change, declared.fault.Fault.Fault, declared.handle.Handle.Handle, Calls.FailsBy, Calls.FailsOf, Calls.HasReplied, Calls.RepliesOf, Calls.Tries, Calls.TriesOf, Handles.IsOf, Replies.RepliesTo, View.HostView, View.IsAsItWas, Inside.fault_of, Inside.HasMoved, Inside.IsHost, Inside.Settled, Inside.no_change}
-use Rattle.hd_host.proofs.CallHost.{done_by, host_after, refused_by, stepped_by, view_of}
+use Rattle.hd_host.proofs.CallHost.{done_by, host_after, parts_of, refused_by, stepped_by, view_of}
 use Rattle.hd_host.proofs.{HandleRefused.refused_of, Registers.not_pointed, Registers.pointed-again, WholeHost.whole}
 
 -- the number of contexts stays
-pub callers_by : {m : Machine} {stamps : List ℕ} {last : Change} {v : HostView} {n : Numbers} → view_of m stamps last ≡ v
+pub callers_by : {m : Machine} {stamps : List ℕ} {last : Change} {v : HostView} {n : Numbers} → parts_of m stamps last ≡ v
     → n ≡ m.numbers → n.callers ≡ v.machine.numbers.callers
 callers_by view same = ap (λ n. n.callers) same ∙ ap (λ (x : HostView). x.machine.numbers.callers) view
 
@@ -55,9 +55,9 @@ module _ {m : Machine} {p : FreeSlots} {stamps : List ℕ} {last : Change} {v : 
   unoffered : Offers p p (change_in m.state context c) None
   unoffered = subst (λ x. Offers p p x None) (sym keeps) (refl, refl)
 
-  pub host_kept : IfSome (touched_by c).handle_register (λ h. h ≡ 0) → IsHost k p stamps
-  host_kept first =
-      host_after host view known did p unoffered p (ap (λ x. noted p x e.slot e.grown) (sym keeps)) first
+  pub host_kept : (touched_by c).handle_register ≡ None → IsHost k p stamps
+  host_kept none =
+      host_after host view known did p unoffered p (ap (λ x. noted p x e.slot e.grown) (sym keeps)) none
 
   pub replied_by : is_refused e.reply ≡ false → RepliesTo c e.reply
       → HasReplied v context slot c e.reply (view_of k stamps (record { slot = e.slot; grown = e.grown }))
@@ -74,8 +74,7 @@ module _ {m : Machine} {p : FreeSlots} {stamps : List ℕ} {last : Change} {v : 
     (view : view_of m stamps last ≡ v) {context : ℕ} (known : context < v.machine.numbers.callers) {c : Cmd}
     (none : (touched_by c).handle_register ≡ None) (keeps : change_in m.state context c ≡ Keeps) {k : Machine} where
   pub host_on : {e : Entry} → HasCalled m context c None k e → IsHost k p stamps
-  host_on called = host_kept host view known (moved_plainly host called none) keeps
-      (subst (λ o. IfSome o (λ h. h ≡ 0)) (sym none) tt)
+  host_on called = host_kept host view known (moved_plainly host called none) keeps none
 
   -- it is never refused
   pub replied_on : (answer : Reply) → HasCalled m context c None k (entry_by context c (replied answer))
@@ -113,8 +112,7 @@ module _ {m : Machine} {p : FreeSlots} {stamps : List ℕ} {last : Change} {v : 
 
   pub host_of : {e : Entry} → HasCalled (pointed m context (Some slot)) context c None (pointed k context (Some slot)) e
       × KeepsFirst m context k → IsHost k p stamps
-  host_of called = host_kept host view known (did_of called.0 called.1) keeps
-      (subst (λ o. IfSome o (λ h. h ≡ 0)) (sym none) tt)
+  host_of called = host_kept host view known (did_of called.0 called.1) keeps none
 
   pub replied_of : (answer : Reply)
       → HasCalled (pointed m context (Some slot)) context c None (pointed k context (Some slot))

@@ -1,9 +1,11 @@
 -- What is always true of a host, over what contracts see of it.
-use Rattle.std.proofs.Common.{List, None, Some, ap, arith, is_some, length, subst, ℕ, ◌*◌, ◌+◌, ◌/◌, ◌<◌, ◌≡◌, ◌≤◌}
+use Rattle.std.proofs.Common.{List, None, Some, ap, arith, is_some, length, subst, ℕ, ◌*◌, ◌+◌, ◌/◌, ◌<◌, ◌^◌, ◌∙◌, ◌≡◌, ◌≤◌}
+use Rattle.std.proofs.lemmas.List.{length-map}
 use Rattle.std.specs.Prelude.{IsSome}
 use Rattle.hd_model.proofs.MapEntries.{some_value}
 use Rattle.hd_model.specs.{declared.data.Slot.Slot, declared.limits.TheConstants.ROWS}
-use Rattle.hd_model.specs.State.{handle_at, handle_register_of}
+use Rattle.hd_model.specs.State.{Numbers, State, handle_at, handle_register_of}
+use Rattle.hd_slots.specs.Tied.{IsTied}
 use Rattle.hd_pool.specs.Pool.{FreeSlots}
 use Rattle.hd_store.specs.{Offers.HasLimits, Store.Machine}
 use Rattle.hd_host.specs.declared.change.Change.{Change}
@@ -22,17 +24,21 @@ pub record IsWhole (v : HostView) : Type 0 where
   pub live : (slot : Slot) → IsSome (handle_at v.machine.state slot) → slot.0 / ROWS ≤ v.machine.numbers.blocks
   pub stamps : length v.stamps ≡ ROWS * (v.machine.numbers.blocks + 1)
 
+-- a live slot is one of the table's
+pub live_low : {n : Numbers} {s : State} {p : FreeSlots} → IsTied n s p → (slot : Slot) → IsSome (handle_at s slot)
+    → slot.0 / ROWS ≤ n.blocks
+live_low {s = s} tied slot live =
+    let held = some_value (handle_at s slot) live in
+    (tied.well_formed.handles.blocks (slot.0 / ROWS) (ap is_some (tied.well_formed.handles.kinds slot.0 held.0 held.1))).1
+
 pub whole : {m : Machine} {p : FreeSlots} {stamps : List ℕ} {last : Change} {v : HostView} → IsHost m p stamps
     → view_of m stamps last ≡ v → IsWhole v
-whole {m = m} host view = subst IsWhole view (record {
+whole {m = m} {stamps = stamps} host view = subst IsWhole view (record {
   limits = host.limits;
   empty = host.empty;
   named = λ context slot known. cell_here m.state.handle_registers context 0 (Some slot) None
       (omega (arith, known, host.tied.well_formed.shape.handle_registers))
       (omega (arith, host.tied.well_formed.shape.each_handle_registers context known));
-  live = λ slot live.
-      let held = some_value (handle_at m.state slot) live in
-      (host.tied.well_formed.handles.blocks (slot.0 / ROWS)
-      (ap is_some (host.tied.well_formed.handles.kinds slot.0 held.0 held.1))).1;
-  stamps = host.stamps;
+  live = live_low host.tied;
+  stamps = length-map stamps (λ entry. entry / 2 ^ 16) ∙ host.stamps;
 })

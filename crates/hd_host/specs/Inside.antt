@@ -1,12 +1,13 @@
 -- What private clauses alone cite.
-use Rattle.std.specs.Prelude.{◌≡◌, ℕ, Option, None, Result, Ok, Err, ◌+◌, ◌*◌, List, length}
-use Rattle.hd_model.specs.{declared.data.Entry.Entry, declared.data.Slot.Slot, declared.command.Cmd.Cmd, State.State, State.handle_register_of, declared.limits.TheConstants.ROWS, declared.data.Refusal.Refusal}
+use Rattle.std.specs.Prelude.{◌≡◌, ℕ, Bool, true, false, Option, None, Result, Ok, Err, ◌+◌, ◌*◌, ◌/◌, ◌%◌, ◌<◌, ◌^◌, List, is_some, length, map, slice_index}
+use Rattle.hd_model.specs.{declared.data.Entry.Entry, declared.data.Slot.Slot, declared.command.Cmd.Cmd, State.State, State.handle_at, State.handle_register_of, declared.limits.TheConstants.ROWS, declared.data.Refusal.Refusal}
 use Rattle.hd_model.specs.declared.data.Grown.TheVariants.{Zero}
 use Rattle.hd_store.specs.Calls.{pointed, HasCalled}
 use Rattle.hd_store.specs.{Store.Machine, Offers.HasLimits}
 use Rattle.hd_pool.specs.Pool.{FreeSlots}
 use Rattle.hd_slots.specs.Tied.{IsTied}
 use Rattle.hd_host.specs.{declared.change.Change.Change, View.state_in, declared.fault.Fault.Fault}
+use Rattle.hd_host.specs.declared.stamps.TheConstants.{FREE}
 use Rattle.hd_model.specs.declared.data.Refusal.TheVariants as refusal
 use Rattle.hd_host.specs.declared.fault.Fault.TheVariants as fault
 
@@ -46,10 +47,25 @@ pub record HasMoved (old : Machine) (context : ℕ) (slot : Option Slot) (comman
 
 -- ---- what is always true of the parts of a host
 
+-- the stamps of slots, by their entries, each of which is a stamp above 16 bits
+abbrev pub stamps_in : List ℕ → List ℕ
+stamps_in = map (λ entry. entry / 2 ^ 16)
+
+-- these are the number of the slot where it is live, and else one that no slot has
+abbrev pub low_bits : Bool → Slot → ℕ
+low_bits true slot = slot.0
+low_bits false slot = FREE
+
+-- which slots are live, by their entries
+abbrev pub ShowsLive : State → List ℕ → Type 0
+ShowsLive s entries = (slot : Slot) → slot.0 < length entries
+    → slice_index entries slot.0 % 2 ^ 16 ≡ low_bits (is_some (handle_at s slot)) slot
+
 -- the numbers are within the limits, the store is well formed, the pool has the slots that are free in its
--- state, no handle register has a slot, and there is a stamp for each slot
-pub record IsHost (m : Machine) (p : FreeSlots) (given : List ℕ) : Type 0 where
+-- state, no handle register has a slot, and there is an entry for each slot, which shows whether it is live
+pub record IsHost (m : Machine) (p : FreeSlots) (entries : List ℕ) : Type 0 where
   pub limits : HasLimits m.numbers
   pub tied : IsTied m.numbers (state_in m) p
   pub empty : (context h : ℕ) → handle_register_of m.state context h ≡ None
-  pub stamps : length given ≡ ROWS * (m.numbers.blocks + 1)
+  pub stamps : length entries ≡ ROWS * (m.numbers.blocks + 1)
+  pub live : ShowsLive m.state entries

@@ -1,5 +1,4 @@
-ghost use Rattle.std.specs.Prelude.{◌≡◌, ◌+◌, ◌*◌, ◌/◌, ◌%◌, ◌<◌, ◌^◌};
-ghost use Rattle.hd_host.specs.Handles.{stamped};
+ghost use Rattle.std.specs.Prelude.{◌≡◌, ◌/◌, ◌%◌, ◌<◌, ◌^◌};
 
 use hd_model::Slot;
 
@@ -12,15 +11,6 @@ const SLOTS: u64 = 1 << 16;
 pub struct Handle(pub u64);
 
 impl Handle {
-    // The handle in a slot with a stamp.
-    pub(crate) fn stamped(slot: Slot, stamp: u64) -> Handle
-        requires slot { slot.0 < 2 ^ 16 }
-        requires stamp { stamp < 2 ^ 48 }
-        ensures { result ≡ stamped slot stamp }
-    {
-        Handle(stamp * SLOTS + u64::from(slot.0))
-    }
-
     // Its slot, which may be any number below 2^16.
     #[inline(always)]
     pub(crate) fn slot(self) -> Slot
@@ -32,7 +22,8 @@ impl Handle {
     // Its stamp.
     #[inline(always)]
     pub(crate) fn stamp(self) -> u64
-        ensures { result ≡ self.0 / 2 ^ 16 }
+        ensures value { result ≡ self.0 / 2 ^ 16 }
+        ensures most { result < 2 ^ 48 }
     {
         self.0 / SLOTS
     }

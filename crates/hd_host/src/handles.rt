@@ -36,6 +36,7 @@ impl Host {
         match self.store.make_handle(context, make, target, offered) {
             Ok((slot, grown)) => {
                 note_slot(&mut self.pool, change, Some(slot), grown);
+                self.stamps.make(slot);
                 self.last = Change {
                     slot: Some(slot),
                     grown,
@@ -59,12 +60,12 @@ impl Host {
         let Some(slot) = self.live_slot(handle) else {
             return Err(Fault::Stale);
         };
-        if self.stamps.at(slot) == END {
+        if handle.stamp() == END {
             return Err(Fault::Exhausted);
         }
         self.store.free_handle(0, slot);
         note_slot(&mut self.pool, Slots::Frees, Some(slot), Grown::Zero);
-        self.stamps.raise(slot);
+        self.stamps.free(slot);
         self.last = Change {
             slot: Some(slot),
             grown: Grown::Zero,
@@ -80,7 +81,7 @@ impl Host {
         ensures does { TriesOf self.old context handle (cmd.HGet dst 0) load_reply self.new result }
         ensures contexts { self.new.machine.numbers.callers ≡ self.old.machine.numbers.callers }
     {
-        let Some(slot) = self.slot_of(handle) else {
+        let Some(slot) = self.live_slot(handle) else {
             return Err(Fault::Stale);
         };
         let Some(target) = self.store.load_target(context, dst, slot) else {
@@ -210,7 +211,7 @@ impl Host {
         requires { IsSome (handle_at self.now.machine.state slot) }
         ensures { result ≡ handle_of self.now slot }
     {
-        Handle::stamped(slot, self.stamps.at(slot))
+        self.stamps.at(slot)
     }
 
     // Whether the count of the handle in a slot is at its end.

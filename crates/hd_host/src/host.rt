@@ -1,7 +1,7 @@
-ghost use Rattle.std.specs.Prelude.{◌≡◌, ◌<◌, ◌≤◌, ◌^◌, ◌*◌, ◌+◌, replicate, None, IfOk, MatchOption};
+ghost use Rattle.std.specs.Prelude.{◌≡◌, ◌≤◌, ◌*◌, ◌+◌, replicate, None, IfOk, MatchOption};
 ghost use Rattle.hd_model.specs.declared.data.Grown.TheVariants.{Zero};
 ghost use Rattle.hd_model.specs.State.{Numbers, start_of};
-ghost use Rattle.hd_host.specs.Handles.{IsOf, IsStale, handle_of};
+ghost use Rattle.hd_host.specs.Handles.{IsOf, IsStale};
 
 use crate::change::Change;
 use crate::handle::Handle;
@@ -42,13 +42,17 @@ pub struct Host {
 }
 
 impl Model for Host {
-    ghost use Rattle.hd_host.specs.{View.HostView, View.host_view_code, Inside.IsHost};
+    ghost use Rattle.hd_host.specs.{View.HostView, View.host_view_code, Inside.IsHost, Inside.stamps_in};
 
     ghost Value = { HostView };
 
     ghost coded = { host_view_code };
 
-    ghost view = { λ h. record { machine = h.store; stamps = h.stamps; last = h.last } };
+    ghost view = { λ h. record {
+      machine = h.store;
+      stamps = stamps_in h.stamps;
+      last = h.last;
+    } };
 
     ghost invariant = { λ h. IsHost h.store h.pool h.stamps };
 }
@@ -97,33 +101,17 @@ impl Host {
         self.last
     }
 
-    // The slot of a handle, if its stamp is the slot's. Whether the slot is live is not looked at.
-    #[inline(always)]
-    pub(crate) fn slot_of(&self, handle: Handle) -> Option<Slot>
-        ensures { MatchOption result (IsStale self.now handle)
-            (λ slot. (handle ≡ handle_of self.now slot) × (slot.0 < 2 ^ 16)) }
-    {
-        let slot = handle.slot();
-        if self.stamps.is(slot, handle.stamp()) {
-            Some(slot)
-        } else {
-            None
-        }
-    }
-
     // The slot of a live handle.
     #[inline(always)]
     pub(crate) fn live_slot(&self, handle: Handle) -> Option<Slot>
         ensures { MatchOption result (IsStale self.now handle) (IsOf self.now handle) }
     {
-        // Read for the proof alone: the slot of a live handle is small.
+        // Read for the proof alone: each slot has an entry.
         let _last = self.last;
-        let Some(slot) = self.slot_of(handle) else {
-            return None;
-        };
-        match self.store.handle(slot) {
-            Some(_) => Some(slot),
-            None => None,
+        if self.stamps.is_live(handle) {
+            Some(handle.slot())
+        } else {
+            None
         }
     }
 }

@@ -73,7 +73,7 @@ impl Host {
             × (handle_at self.now.machine.state slot ≡ Some (handle_of info)))
             (λ fault. (fault ≡ Stale) × IsStale self.now handle) }
     {
-        let Some(slot) = self.slot_of(handle) else {
+        let Some(slot) = self.live_slot(handle) else {
             return Err(Fault::Stale);
         };
         match self.store.handle(slot) {

@@ -1,7 +1,8 @@
-// The stamps of slots: how often the handle in each was freed.
-ghost use Rattle.std.specs.Prelude.{◌≡◌, ◌≢◌, true, false, Some, IfSome, ◌+◌, ◌*◌, ◌<◌, ◌≤◌, length, replicate, slice_get, slice_index, slice_set, IfOk};
-ghost use Rattle.hd_host.specs.declared.stamps.TheConstants.{END};
+// The stamps of slots: how often the handle in each was freed, each with whether the slot is live.
+ghost use Rattle.std.specs.Prelude.{◌≡◌, ◌≢◌, true, false, Some, IfSome, ◌+◌, ◌*◌, ◌/◌, ◌%◌, ◌<◌, ◌≤◌, ◌^◌, length, replicate, slice_get, slice_index, slice_set, IfOk};
+ghost use Rattle.hd_host.specs.declared.stamps.TheConstants.{END, FREE};
 
+use crate::handle::Handle;
 use hd_model::limits::{BLOCKS, ROWS};
 use hd_model::{Memory, Slot};
 use std::alloc::Global;
@@ -10,67 +11,92 @@ use std::marker::Model;
 /// The last stamp. A handle that has it is not freed, since no stamp comes after it.
 pub(crate) const END: u64 = (1 << 48) - 1;
 
-/// The stamps of the slots of a table, by slot. All memory is taken by `open`.
+/// What stands in the low bits of the entry of a slot that is not live: no slot has this number.
+pub(crate) const FREE: u64 = (1 << 16) - 1;
+
+/// An entry for each slot of a table: its handle while it is live, and else the stamp that its next
+/// handle gets, above a number that no slot has. So one comparison tells a live handle from any
+/// other number. All memory is taken by `open`.
 #[derive(Drop)]
 pub(crate) struct Stamps {
-    stamps: Vec<u64>,
+    entries: Vec<u64>,
 }
 
 impl Model for Stamps {
     ghost use Rattle.std.specs.Prelude.{ℕ, ◌≤◌, List, All};
     ghost use Rattle.std.specs.Coded.{coded_ℕ, coded_list};
-    ghost use Rattle.hd_host.specs.declared.stamps.TheConstants.{END};
+    ghost use Rattle.hd_host.specs.declared.stamps.TheConstants.{MOST};
 
     ghost Value = { List ℕ };
 
     ghost coded = { coded_list coded_ℕ };
 
-    ghost view = { λ s. s.stamps.items };
+    ghost view = { λ s. s.entries.items };
 
-    ghost invariant = { λ s. All (λ stamp. stamp ≤ END) s.stamps.items };
+    ghost invariant = { λ s. All (λ entry. entry ≤ MOST) s.entries.items };
 }
+
+/// The greatest entry.
+pub(crate) const MOST: u64 = u64::MAX;
 
 impl Stamps {
     /// Those of a table in which no handle was freed, of `blocks` blocks, which are numbered from
     /// 1.
     pub(crate) fn open(alloc: Global, blocks: u32) -> Result<Stamps, Memory>
         requires { blocks ≤ BLOCKS }
-        ensures { IfOk result (λ s. s ≡ replicate (ROWS * (blocks + 1)) 0) }
+        ensures { IfOk result (λ s. s ≡ replicate (ROWS * (blocks + 1)) FREE) }
     {
-        match vec![in alloc; 0; (ROWS * (blocks + 1)) as usize] {
-            Ok(stamps) => Ok(Stamps { stamps }),
+        match vec![in alloc; FREE; (ROWS * (blocks + 1)) as usize] {
+            Ok(entries) => Ok(Stamps { entries }),
             Err(_) => Err(Memory),
         }
     }
 
-    /// Whether a stamp is that of a slot, which may be any number.
+    /// Whether a handle, which may be any number, is the entry of its slot.
     #[inline(always)]
-    pub(crate) fn is(&self, slot: Slot, stamp: u64) -> bool
-        ensures own { result ≡ true → slice_get self.now slot.0 ≡ Some stamp }
-        ensures other { result ≡ false → IfSome (slice_get self.now slot.0) (λ last. last ≢ stamp) }
+    pub(crate) fn is_live(&self, handle: Handle) -> bool
+        ensures own { result ≡ true → slice_get self.now (handle.0 % 2 ^ 16) ≡ Some handle.0 }
+        ensures other { result ≡ false →
+            IfSome (slice_get self.now (handle.0 % 2 ^ 16)) (λ entry. entry ≢ handle.0) }
     {
-        match self.stamps.get(slot.0 as usize) {
-            Some(last) => *last == stamp,
+        match self.entries.get(handle.slot().0 as usize) {
+            Some(entry) => *entry == handle.0,
             None => false,
         }
     }
 
-    /// The stamp of a slot of the table.
-    pub(crate) fn at(&self, slot: Slot) -> u64
+    /// The entry of a slot, which is its handle where the slot is live.
+    #[inline(always)]
+    pub(crate) fn at(&self, slot: Slot) -> Handle
         requires { slot.0 < length self.now }
-        ensures value { result ≡ slice_index self.now slot.0 }
-        ensures most { result ≤ END }
+        ensures { result ≡ record { 0 = slice_index self.now slot.0 } }
     {
-        self.stamps[slot.0 as usize]
+        Handle(self.entries[slot.0 as usize])
     }
 
-    /// A handle in a slot is freed: its stamp rises.
-    pub(crate) fn raise(&mut self, slot: Slot)
+    /// A handle is made in a slot that was not live.
+    #[inline(always)]
+    pub(crate) fn make(&mut self, slot: Slot)
         requires slot { slot.0 < length self.old }
-        requires end { slice_index self.old slot.0 < END }
-        ensures { self.new ≡ slice_set self.old slot.0 (slice_index self.old slot.0 + 1) }
+        requires small { slot.0 < 2 ^ 16 }
+        requires free { slice_index self.old slot.0 % 2 ^ 16 ≡ FREE }
+        ensures { self.new ≡
+            slice_set self.old slot.0 (slice_index self.old slot.0 / 2 ^ 16 * 2 ^ 16 + slot.0) }
     {
-        let stamp = self.stamps[slot.0 as usize];
-        self.stamps[slot.0 as usize] = stamp + 1;
+        let entry = self.entries[slot.0 as usize];
+        self.entries[slot.0 as usize] = entry - FREE + u64::from(slot.0);
+    }
+
+    /// The handle in a live slot is freed: the stamp of the slot rises.
+    #[inline(always)]
+    pub(crate) fn free(&mut self, slot: Slot)
+        requires slot { slot.0 < length self.old }
+        requires live { slice_index self.old slot.0 % 2 ^ 16 ≡ slot.0 }
+        requires end { slice_index self.old slot.0 / 2 ^ 16 < END }
+        ensures { self.new ≡ slice_set self.old slot.0
+            ((slice_index self.old slot.0 / 2 ^ 16 + 1) * 2 ^ 16 + FREE) }
+    {
+        let entry = self.entries[slot.0 as usize];
+        self.entries[slot.0 as usize] = entry - u64::from(slot.0) + (FREE + 1) + FREE;
     }
 }

@@ -1,4 +1,4 @@
-use Rattle.hd_host.proofs.MadeHandle.{host_made, host_unmade, live_made, makes, makes_none, may_note, offered_free}
+use Rattle.hd_host.proofs.MadeHandle.{free, host_made, host_unmade, live_made, makes, makes_none, may_note, offered_free, small, within}
 use Rattle.hd_host.proofs.ValueCalls.{called_numbers, callers_by}
 use Rattle.hd_host.proofs.host.Host.handle_new.Goals as goal
 
@@ -12,11 +12,26 @@ note_slot-requires c =
     may_note c.self.invariant c.self.view_is c.requires.context c.args.make c.args.target c.kind.ensures
     c.offer-offered.new.pool c.offer-offered.result c.offer-offered.ensures c.make_handle.new.self c.in-Ok.ensures
 
+pub make-requires-clause-slot : goal.make-requires-clause-slot
+make-requires-clause-slot c =
+    within c.self.invariant c.self.view_is c.requires.context c.args.make c.args.target c.kind.ensures
+    c.offer-offered.new.pool c.offer-offered.result c.offer-offered.ensures c.make_handle.new.self c.in-Ok.ensures
+
+pub make-requires-clause-small : goal.make-requires-clause-small
+make-requires-clause-small c =
+    small c.self.invariant c.self.view_is c.requires.context c.args.make c.args.target c.kind.ensures
+    c.offer-offered.new.pool c.offer-offered.result c.offer-offered.ensures c.make_handle.new.self c.in-Ok.ensures
+
+pub make-requires-clause-free : goal.make-requires-clause-free
+make-requires-clause-free c =
+    free c.self.invariant c.self.view_is c.requires.context c.args.make c.args.target c.kind.ensures
+    c.offer-offered.new.pool c.offer-offered.result c.offer-offered.ensures c.make_handle.new.self c.in-Ok.ensures
+
 pub invariant_of-self : goal.invariant_of-self
 invariant_of-self c =
     host_made c.self.invariant c.self.view_is c.requires.context c.args.make c.args.target c.kind.ensures
     c.offer-offered.new.pool c.offer-offered.result c.offer-offered.ensures c.make_handle.new.self c.in-Ok.ensures
-    c.note_slot.new.pool c.note_slot.ensures
+    c.make.ensures c.note_slot.new.pool c.note_slot.ensures
 
 pub handle_in-requires : goal.handle_in-requires
 handle_in-requires c =
@@ -27,7 +42,7 @@ pub returns-in-Ok-clause-does : goal.returns-in-Ok-clause-does
 returns-in-Ok-clause-does c =
     makes c.self.invariant c.self.view_is c.requires.context c.args.make c.args.target c.kind.ensures
     c.offer-offered.new.pool c.offer-offered.result c.offer-offered.ensures c.make_handle.new.self c.in-Ok.ensures
-    c.handle_in.ensures
+    c.make.ensures c.handle_in.ensures
 
 pub returns-in-Ok-clause-contexts : goal.returns-in-Ok-clause-contexts
 returns-in-Ok-clause-contexts c =

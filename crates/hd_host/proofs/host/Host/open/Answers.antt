@@ -4,7 +4,8 @@ use Rattle.std.specs.FinSet as set
 use Rattle.hd_model.specs.State.{Numbers}
 use Rattle.hd_model.specs.declared.limits.TheConstants.{ROWS}
 use Rattle.hd_store.specs.Offers.{HasLimits}
-use Rattle.hd_host.proofs.FirstHost.{host_at_first}
+use Rattle.hd_host.specs.{declared.stamps.TheConstants.FREE, Inside.stamps_in}
+use Rattle.hd_host.proofs.{FirstHost.host_at_first, LiveEntries.none_stamped}
 use Rattle.hd_host.proofs.host.Host.open.Goals as goal
 
 pub invariant_of-result : goal.invariant_of-result
@@ -16,4 +17,7 @@ invariant_of-result c =
     c.in_ok-store.ensures.state
     (c.in_ok-pool.ensures
     ∙ ap (λ (n : Numbers). record { blocks = n.blocks; kinds = map.empty; free = set.empty }) (sym numbers))
-    (c.in_ok-stamps.ensures ∙ ap (λ (n : Numbers). replicate (ROWS * (n.blocks + 1)) 0) (sym numbers))
+    (c.in_ok-stamps.ensures ∙ ap (λ (n : Numbers). replicate (ROWS * (n.blocks + 1)) FREE) (sym numbers))
+
+pub returns-clause-stamps : goal.returns-clause-stamps
+returns-clause-stamps c = ap stamps_in c.in_ok-stamps.ensures ∙ none_stamped (ROWS * (c.args.limits.blocks + 1))
