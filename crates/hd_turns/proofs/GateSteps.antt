@@ -1,10 +1,10 @@
 -- What an end knows and carries after each step at the gate.
-use Rattle.std.proofs.Common.{◌≡◌, ◌≢◌, ℕ, ◌+◌, ◌≤◌, ◌<◌, true, false, List, [], ◌∷◌, length, sym, refl, ap, ◌∙◌, subst, arith, Option, Some, None}
+use Rattle.std.proofs.Common.{◌≡◌, ℕ, ◌+◌, ◌≤◌, true, List, [], ◌∷◌, length, sym, refl, ap, ◌∙◌, subst, arith, Option, Some, None}
 use mathlib.Core.Option.{none}
-use Rattle.atomic_table.specs.Table.{State, Allows, step, rest}
+use Rattle.atomic_table.specs.Table.{Allows, step, rest}
 use Rattle.hd_turns.specs.declared.rule.View.{View}
-use Rattle.hd_turns.specs.Views.{Enters, Known, MayLeave, gave_back, handed_out, looked, took}
-use Rattle.hd_turns.specs.Rule.{Entered, Kept, carried_by, entered, left}
+use Rattle.hd_turns.specs.Views.{Enters, MayLeave, gave_back, handed_out, looked, took}
+use Rattle.hd_turns.specs.Rule.{Entered, HasFreed, Kept, MayFree, carried_by, left}
 use Rattle.hd_turns.proofs.TableSteps.{Mine, leaves}
 
 module _ {W : Type 0} where
@@ -85,22 +85,30 @@ module _ {W : Type 0} where
     new_is = ap handed_out e.new_is;
   }
 
-  -- what carries the value, and nothing after it
-  pub is_full : (m m' : Mine W) (w : W) → m.1 ≡ carried_by m.0.has_gate → m.0.has_gate ≡ true
-      → m' ≡ (m.0, (0, Some w) ∷ rest m.1) → m' ≡ (m.0, (0, Some w) ∷ [])
-  is_full m m' w seated gate after =
-      after ∙ ap (λ (l : List (ℕ × Option W)). (m.0, (0, Some w) ∷ rest l)) (seated ∙ ap carried_by gate)
+  -- the value that is carried, once it was exchanged for none
+  pub is_put : (m m' : Mine W) (w : W) → m.1 ≡ (0, None) ∷ [] → m' ≡ (m.0, (0, Some w) ∷ rest m.1)
+      → m' ≡ (m.0, (0, Some w) ∷ [])
+  is_put m m' w carried after = after ∙ ap (λ (l : List (ℕ × Option W)). (m.0, (0, Some w) ∷ rest l)) carried
 
-  pub has_left : (m m' m'' : Mine W) (w : W) (number : ℕ) → m' ≡ (m.0, (0, Some w) ∷ [])
-      → left (step 0 0 number 0 none) m' number m'' → m'' ≡ (gave_back w m.0, [])
-  has_left m m' m'' w number full did =
-      did w (ap (λ (z : Mine W). z.1) full) ∙ ap (λ (z : Mine W). (gave_back w z.0, [])) full
+  pub has_left : (m m' m'' : Mine W) (w : W) → m' ≡ (m.0, (0, Some w) ∷ []) → HasFreed m' m''
+      → m'' ≡ (gave_back w m.0, [])
+  has_left m m' m'' w put freed =
+      freed w (ap (λ (z : Mine W). z.1) put) ∙ ap (λ (z : Mine W). (gave_back w z.0, [])) put
+
+  pub may_free : {turn : ℕ → W → W → Type 0} (m m' : Mine W) (w : W) → m' ≡ (m.0, (0, Some w) ∷ [])
+      → m.0.has_gate ≡ true → MayLeave turn w m.0 → MayFree turn m'
+  may_free {turn} m m' w put gate may = subst (MayFree turn) (sym put) (record {
+    gate = gate;
+    value = w;
+    carried = refl;
+    may = may;
+  })
 
 module _ {W : Type 0} (turn : ℕ → W → W → Type 0) where
-  pub leaves_from : (slots id number stored : ℕ) (m m' : Mine W) (w : W) → stored ≡ number + 1
-      → m.0.has_gate ≡ true → length m.0.seen ≡ number → MayLeave turn w m.0 → m' ≡ (m.0, (0, Some w) ∷ [])
-      → Allows (Kept turn) slots id m' 0 (λ _. stored) (λ _. left (step slots 0 stored 0 none) m' stored)
-  leaves_from slots id number stored m m' w is gate long may full =
-      subst (λ (z : ℕ × Mine W). Allows (Kept turn) slots id z.1 0 (λ _. z.0)
-      (λ _. left (step slots 0 z.0 0 none) z.1 z.0)) (λ i. (sym is i, sym full i))
-      (leaves turn slots id number m.0 w gate long may)
+  pub leaves_from : (slots id number stored : ℕ) (m : Mine W) → stored ≡ number + 1 → length m.0.seen ≡ number
+      → MayFree turn m
+      → Allows (Kept turn) slots id m 0 (λ _. stored) (λ _. left (step slots 0 stored 0 none) m stored)
+  leaves_from slots id number stored m is long may =
+      subst (λ (z : ℕ × List (ℕ × Option W)). Allows (Kept turn) slots id (m.0, z.1) 0 (λ _. z.0)
+      (λ _. left (step slots 0 z.0 0 none) (m.0, z.1) z.0)) (λ i. (sym is i, sym may.carried i))
+      (leaves turn slots id number m.0 may.value may.gate long may.may)

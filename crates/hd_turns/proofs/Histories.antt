@@ -1,5 +1,5 @@
 -- Histories, and what an end has seen of one.
-use Rattle.std.proofs.Common.{◌≡◌, ◌≢◌, ℕ, zero, suc, ◌+◌, ◌<◌, List, [], ◌∷◌, ◌++◌, length, refl, sym, ap, ◌∙◌, subst, arith}
+use Rattle.std.proofs.Common.{◌≡◌, ◌≢◌, ℕ, ◌+◌, List, [], ◌∷◌, ◌++◌, length, sym, ap, subst, arith}
 use Rattle.hd_turns.specs.Views.{AreOthers, AreTurns, GoesOn}
 use Rattle.hd_turns.specs.Rule.{AreBelow}
 

@@ -1,15 +1,15 @@
 -- Each step keeps the rule of the table.
-use Rattle.std.proofs.Common.{◌≡◌, ◌≢◌, ℕ, zero, suc, ◌+◌, ◌<◌, Bool, true, false, List, [], ◌∷◌, ◌++◌, length, get_or, set, sym, refl, ap, ◌∙◌, subst, ⊎_elim, inl, inr, ◌⊎◌, arith, Option, Some, None, get_or-set_same, length-set, length-append, eqb}
+use Rattle.std.proofs.Common.{◌≡◌, ◌≢◌, ℕ, zero, suc, ◌+◌, ◌<◌, true, false, List, [], ◌∷◌, ◌++◌, length, get_or, set, sym, refl, ap, ◌∙◌, subst, ⊎_elim, inl, inr, ◌⊎◌, arith, Option, Some, get_or-set_same, length-set, length-append, eqb}
 use mathlib.Core.Option.{none, some, some-injective, some-ne-none}
 use mathlib.Core.Option as maybe
 use prog.Atomic.{either}
 use lib.ListN.{get_elem?}
 use lib.Seq.{set-get_or}
-use Rattle.atomic_table.specs.Table.{Act, State, Me, Valid, carried_after, step, stepped, keeps, takes, gives, Allows, Splits, opening}
+use Rattle.atomic_table.specs.Table.{Act, Me, Valid, carried_after, step, stepped, keeps, takes, gives, Allows, Splits, opening}
 use Rattle.atomic_table.proofs.Lists.{at_set, set_again, exchanged}
 use Rattle.hd_turns.specs.declared.rule.View.{View}
 use Rattle.hd_turns.specs.Views.{GoesOn, MayLeave, gave_back, looked, next_of, passed_on, starting, took}
-use Rattle.hd_turns.specs.Rule.{AreBelow, IsView, Kept, entered, left, looked_at}
+use Rattle.hd_turns.specs.Rule.{IsView, Kept, entered, left, looked_at}
 use Rattle.hd_turns.proofs.Histories.{below_more, sees_all, sees_as, sees_less}
 
 -- what is so of the element that was set and of all others is so of each

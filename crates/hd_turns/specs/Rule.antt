@@ -4,7 +4,7 @@ use mathlib.Core.Option.{some, none}
 use lib.ListN.{get_elem?}
 use Rattle.atomic_table.specs.Table.{State, Me, Step}
 use Rattle.hd_turns.specs.declared.rule.View.{View}
-use Rattle.hd_turns.specs.Views.{AreTurns, Enters, GoesOn, gave_back, looked}
+use Rattle.hd_turns.specs.Views.{AreTurns, Enters, GoesOn, MayLeave, gave_back, looked}
 
 module _ {W : Type 0} where
   -- the slots that an end has taken, between two calls
@@ -62,5 +62,16 @@ module _ {W : Type 0} where
       → Me (Option W) (View W) → Type 0
   entered turn step m n m' = (n ≡ step.first → Entered turn n m m') × (n ≢ step.first → m' ≡ m)
 
+  -- an end that has the gate may give it back with the value that it carries
+  pub record MayFree (turn : ℕ → W → W → Type 0) (m : Me (Option W) (View W)) : Type 0 where
+    pub gate : m.0.has_gate ≡ true
+    pub value : W
+    pub carried : m.1 ≡ (0, Some value) ∷ []
+    pub may : MayLeave turn value m.0
+
+  -- the gate was given back with the value that was carried
+  abbrev pub HasFreed : Me (Option W) (View W) → Me (Option W) (View W) → Type 0
+  HasFreed m m' = (value : W) → m.1 ≡ (0, Some value) ∷ [] → m' ≡ (gave_back value m.0, [])
+
   abbrev pub left : Step (Option W) → Me (Option W) (View W) → ℕ → Me (Option W) (View W) → Type 0
-  left step m n m' = (value : W) → m.1 ≡ (0, Some value) ∷ [] → m' ≡ (gave_back value m.0, [])
+  left step m n m' = HasFreed m m'

@@ -1,7 +1,7 @@
 // The gate: one word of the table, and one slot with the value.
-ghost use Rattle.std.specs.Prelude.{◌≡◌, ◌<◌, ◌+◌, true, false, [], ◌∷◌, length, IfOk, IfSome, IfNone, Some};
+ghost use Rattle.std.specs.Prelude.{◌≡◌, ◌<◌, ◌+◌, true, false, [], ◌∷◌, length, IfOk, IfSome, IfNone, Some, None};
 ghost use Rattle.std.specs.Bool.{OnTrue, OnFalse};
-ghost use Rattle.hd_turns.specs.Rule.{Entered};
+ghost use Rattle.hd_turns.specs.Rule.{Entered, HasFreed, MayFree};
 ghost use Rattle.hd_turns.specs.declared.gate.TheConstants.{FULL, LOOKS};
 ghost use Rattle.hd_turns.specs.Views.{Enters, MayLeave, gave_back, looked, next_of, passed_on, starting};
 
@@ -42,7 +42,8 @@ impl<W: Turn> Model for Gate<W> {
 
     ghost view = { λ g. g.table.shared.table_id };
 
-    ghost invariant = { λ g. (g.table.shared.table_id.words ≡ 1) × (g.table.shared.table_id.slots ≡ 1) };
+    ghost invariant = { λ g. (g.table.shared.table_id.words ≡ 1)
+        × (g.table.shared.table_id.slots ≡ 1) };
 }
 
 /// An end's token. It has no bytes. Seen as its table and what the end knows.
@@ -162,6 +163,44 @@ impl<W: Turn> Gate<W> {
         None
     }
 
+    // The value that a turn leaves goes into its slot.
+    fn put_value(&self, place: &mut Place<Option<W>, View<W>>, value: W)
+        requires table { place.old.table_id ≡ self.now }
+        requires gate { place.old.me.0.has_gate ≡ true }
+        requires carried { place.old.me.1 ≡ (0, None) ∷ [] }
+        requires turn { MayLeave W.turn value place.old.me.0 }
+        ensures table { place.new.table_id ≡ place.old.table_id }
+        ensures value { place.new.me ≡ (place.old.me.0, (0, Some value) ∷ []) }
+        ensures may { MayFree W.turn place.new.me }
+    {
+        self.table.shared.exchange(place, VALUE, Some(value));
+    }
+
+    // The gate is free, and the turn with this number is the newest of the history.
+    fn set_free(&self, place: &mut Place<Option<W>, View<W>>, turn: u64)
+        requires table { place.old.table_id ≡ self.now }
+        requires number { (length place.old.me.0.seen ≡ turn) × (turn < FULL) }
+        requires may { MayFree W.turn place.old.me }
+        ensures table { place.new.table_id ≡ place.old.table_id }
+        ensures freed { HasFreed place.old.me place.new.me }
+    {
+        self.table.shared.store::<Leave>(place, GATE, turn + 1);
+    }
+
+    // What `leave` does, of the token.
+    fn leave_at(&self, place: &mut Place<Option<W>, View<W>>, turn: u64, value: W)
+        requires table { place.old.table_id ≡ self.now }
+        requires gate { place.old.me.0.has_gate ≡ true }
+        requires carried { place.old.me.1 ≡ (0, None) ∷ [] }
+        requires number { (length place.old.me.0.seen ≡ turn) × (turn < FULL) }
+        requires turn { MayLeave W.turn value place.old.me.0 }
+        ensures table { place.new.table_id ≡ place.old.table_id }
+        ensures left { place.new.me ≡ (gave_back value place.old.me.0, []) }
+    {
+        self.put_value(place, value);
+        self.set_free(place, turn);
+    }
+
     /// Gives the gate back with what a turn left, whose number this is.
     pub(crate) fn leave(&self, seat: &mut Seat<W>, turn: u64, value: W)
         requires seat { seat.old.table ≡ self.now }
@@ -170,8 +209,6 @@ impl<W: Turn> Gate<W> {
         requires turn { MayLeave W.turn value seat.old.view }
         ensures { seat.new ≡ record seat.old { view = gave_back value seat.old.view } }
     {
-        let shared = &self.table.shared;
-        shared.exchange(&mut seat.place, VALUE, Some(value));
-        shared.store::<Leave>(&mut seat.place, GATE, turn + 1);
+        self.leave_at(&mut seat.place, turn, value);
     }
 }

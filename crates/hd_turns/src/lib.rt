@@ -2,7 +2,7 @@
 //! never waited for. All turns of all ends are one history, which exists in the proofs alone.
 //!
 //! ```text
-//! gate    0 while an end has its turn, else the length of the history, which begins with the opening
+//! gate    0 while an end has its turn, else the history's length: its first entry is the opening
 //! value   in the table's slot while the gate is free, else with the end that has its turn
 //!
 //! try_enter    looks at the gate; where it is free: n -> 0, if it still is n, and takes the value.

@@ -1,4 +1,4 @@
-//! Seven small programs over single crates, one after another: what each of them shows is told at
+//! Eight small programs over single crates, one after another: what each of them shows is told at
 //! the head of its module, and the pages of those crates quote them.
 #![tactic(auto)]
 
@@ -9,6 +9,7 @@ mod heap;
 mod host;
 mod script;
 mod seg;
+mod turns;
 
 use anyhow::Result;
 use hd_io::StdSink;
@@ -19,6 +20,7 @@ fn main(rt: HostRuntime) -> Result<()> {
     cwt::run(&rt, rt.alloc())?;
     host::run(&rt, rt.alloc())?;
     custody::run(&rt, rt.alloc())?;
+    turns::run(&rt, rt.alloc())?;
     script::run(rt.alloc(), &mut StdSink::over(rt.stdout()))?;
     audit::run(&rt, rt.alloc())
 }

@@ -1,4 +1,4 @@
-use Rattle.std.proofs.Common.{rules, ap, ◌∙◌, subst, arith}
+use Rattle.std.proofs.Common.{ap, ◌∙◌, subst, arith}
 use Rattle.hd_turns.specs.Views.{Enters, Known}
 use Rattle.hd_turns.proofs.GateSteps.{enters_after}
 use Rattle.hd_turns.proofs.gate.Gate.try_enter.Goals as goal
