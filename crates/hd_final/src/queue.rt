@@ -51,8 +51,18 @@ impl Final {
         })
     }
 
+    /// The number of objects for which there is room.
+    #[inline(always)]
+    pub fn room(&self) -> u32
+        ensures value { result ≡ self.now.room }
+        ensures queue { IsQueue self.now }
+    {
+        self.room
+    }
+
     /// Takes memory, so that there is room for at least `objects` objects. `revive` requires as
     /// much room as the heap has objects, and takes no memory.
+    #[inline(always)]
     pub fn reserve(&mut self, objects: u32) -> Result<(), Memory>
         ensures { MatchResult result
             (λ _. self.new ≡ record self.old { room = max objects self.old.room })
@@ -61,6 +71,17 @@ impl Final {
         if objects <= self.room {
             return Ok(());
         }
+        self.reserve_more(objects)
+    }
+
+    // Takes the memory, where there is less. Out of line, since there is mostly enough.
+    #[inline(never)]
+    fn reserve_more(&mut self, objects: u32) -> Result<(), Memory>
+        requires { self.old.room < objects }
+        ensures { MatchResult result
+            (λ _. self.new ≡ record self.old { room = max objects self.old.room })
+            (λ _. (self.new ≡ self.old) × (self.old.room < objects)) }
+    {
         let count = objects as usize;
         if self.queued.reserve(count - self.queued.len()).is_err() {
             return Err(Memory);
