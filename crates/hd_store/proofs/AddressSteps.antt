@@ -240,7 +240,8 @@ plain-kept m k caller c offer may e did =
     }
 
 pub plain-runs : (m k : Machine) (caller : ℕ) (c : Cmd) (offer : Option Slot) (steps : ℕ) (e : Entry)
-    → key_register (class_of c) ≡ None → HasRun m caller c offer e (IsPlainStep m c k e) → MayRun m caller c offer
+    → key_register (class_of c) ≡ None → HasRun m caller c offer e (IsPlainStep m c k e) → MayRun m caller c
+    offer
     → Ran m k caller c offer e steps steps
 plain-runs m k caller c offer steps e no_key ran may = (
   plain-kept m k caller c offer may e ran,
@@ -278,7 +279,8 @@ module _ (m k : Machine) (e : Entry) (keeps : KeepsPinned m e k) (h address : �
       ∙ get_inserted empty x.0 does.address ∙ ap Some address_is)
 
 -- what was done by a command was done by the one that was asked
-pub as-asked : (m k : Machine) (caller : ℕ) (given c : Cmd) (offer : Option Slot) (came r : Result Done Refusal)
+pub as-asked : (m k : Machine) (caller : ℕ) (given c : Cmd) (offer : Option Slot)
+    (came r : Result Done Refusal)
     (before after : ℕ) → given ≡ c → came ≡ r → MayRun m caller given offer
     → (MayRun m caller c offer → Ran m k caller c offer (entry_by caller c (done_of r)) before after)
     → Ran m k caller given offer (entry_by caller given (done_of came)) before after

@@ -34,7 +34,6 @@ pub mod SoundCalls
 pub mod OfferAddresses
 mod HeldEntries
 mod QueueIndexes
-mod TargetLoads
 mod ValueCalls
 mod SlotCalls
 mod PartsCommands

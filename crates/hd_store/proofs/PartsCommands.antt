@@ -72,7 +72,8 @@ module _ (m k : Machine) (caller : ℕ) (c : Cmd) (r : Result Done Refusal)
       by (adds_entry v key) is came = absurd came
       by (replies_root x) is came = absurd came
 
-  pub parts-run : (offer : Option Slot) (steps : ℕ) → MayRun m caller c offer → Ran m k caller c offer e steps steps
+  pub parts-run : (offer : Option Slot) (steps : ℕ) → MayRun m caller c offer → Ran m k caller c offer e
+      steps steps
   parts-run offer steps =
       let q = quiet m.state caller c alone in
       looked-run m k caller c offer r steps steps q.2 plain-step

@@ -1,8 +1,8 @@
 -- A call about the handle in a live slot is the command by a handle register that has the slot.
-use Rattle.hd_store.proofs.StoreWords.{Addr, Back, Bool, Cmd, Done, Entry, Err, FinMap, Grown, Handle, HasRun, Id, IfSome, IsFree, IsOffer, IsOverHeap, IsPlainStep, IsSome, HasAddress, IsFreeAddress, IsValid, KeepsPinned, Kind, List, Machine, Make, MatchOption, MatchResult, None, Ok, One, Option, Outcome, Refusal, Result, Slot, Some, State, aged_by, ap, arith, asks_of, count_of, cond, done_of, entry_by, false, false≢true, get, handle_at, handle_register_of, if◌then◌else◌, inl, inr, is_kind, is_some, kind_of, length, name_in, nat_cmp, pinned_in, length-set, get_or, no_room, option_map_or, refl, refuses, register_of, reply_with, secondary_of, seen_by, set, suc, sym, touched_by, true, Two, with_pinned, Zero, zero, [], ℕ, ◌&&◌, same_Some, subst, ◌+◌, ◌-◌, ◌<◌, ◌^◌, ◌∙◌, ◌∷◌, ◌≡◌}
+use Rattle.hd_store.proofs.StoreWords.{Addr, Back, Bool, Cmd, Done, Entry, Err, FinMap, Grown, Handle, HasRun, Id, IfSome, IsFree, IsOffer, IsOverHeap, IsPlainStep, IsSome, HasAddress, IsFreeAddress, IsValid, KeepsPinned, Kind, List, Machine, Make, MatchOption, MatchResult, None, Ok, One, Option, Outcome, Refusal, Result, Slot, Some, State, aged_by, ap, arith, asks_of, count_of, cond, done_of, entry_by, false, false≢true, get, handle_at, handle_register_of, if◌then◌else◌, inl, inr, is_kind, is_some, kind_of, length, name_in, nat_cmp, pinned_in, length-set, get_or, no_room, option_map, option_map_or, refl, refuses, register_of, reply_with, secondary_of, seen_by, set, suc, sym, touched_by, true, Two, with_pinned, Zero, zero, [], ℕ, ◌&&◌, same_Some, subst, ◌+◌, ◌-◌, ◌<◌, ◌^◌, ◌∙◌, ◌∷◌, ◌≡◌}
 use Rattle.std.specs.Prelude.{◌==◌}
 use Rattle.hd_model.specs.State.{secondary, strength, with_handle, with_handle_register, with_register, without_handle, without_secondary}
-use Rattle.hd_model.specs.Command.{free_handle, get_secondary, load_reply, lower_count, on_handle, raise_count, set_secondary, set_strength, set_target, with_count}
+use Rattle.hd_model.specs.Command.{free_handle, get_secondary, get_target_of, load_reply, lower_count, on_handle, raise_count, set_secondary, set_strength, set_target, with_count}
 use Rattle.hd_model.specs.Command.{free_handle_of, get_secondary_of, lower_count_of, raise_count_of, set_secondary_of, set_strength_of, set_target_of}
 use Rattle.hd_model.specs.declared.data.Strength.{Strength}
 use Rattle.hd_model.specs.declared.command.Cmd.TheVariants as cmd
@@ -13,11 +13,11 @@ use Rattle.hd_model.specs.Step.{TakesWay, decided, makes_handle, way_of, with_gr
 use Rattle.hd_model.specs.Aging.{is_refused, lowered_at, lowered_to}
 use Rattle.hd_model.proofs.ReadAfterWrite.{cell_here}
 use Rattle.hd_commands.specs.{Counts.MayCountUp, Seen.Seen}
-use Rattle.hd_commands.specs.Done.{ComesTo, ComesToAged, done_freeing, done_making, done_with}
+use Rattle.hd_commands.specs.Done.{ComesTo, ComesToAged, replied, done_freeing, done_making, done_with}
 use Rattle.hd_commands.specs.Handles.{pinned_of}
 use Rattle.hd_store.specs.Calls.{HasCalled, HasReturnedOf, IsSound, KeepsFirst, StaysWithin, pointed, pointed_made}
 use Rattle.hd_model.specs.declared.limits.TheConstants.{REGISTERS}
-use Rattle.hd_store.proofs.{AddressSteps.addr-refused, AddressSteps.addr-replies, SoundCalls.sound-pointed, TargetLoads.over-pointed, ValueCalls.called, ValueCalls.endless, ValueCalls.kept-called, ValueCalls.known-in, ValueCalls.run-called, ValueCalls.run-sound, ValueCalls.sound-on, ValueCalls.unaged, ValueCalls.unoffered}
+use Rattle.hd_store.proofs.{AddressSteps.addr-refused, AddressSteps.addr-replies, SoundCalls.sound-pointed, ValueCalls.called, ValueCalls.endless, ValueCalls.kept-called, ValueCalls.known-in, ValueCalls.run-called, ValueCalls.run-sound, ValueCalls.sound-on, ValueCalls.unaged, ValueCalls.unoffered}
 
 -- ---- a slot in a handle register is no part of what makes a store sound
 
@@ -32,7 +32,8 @@ rows-keep (row ∷ rows) zero d (suc i) v = refl
 rows-keep (row ∷ rows) (suc c) d zero v = refl
 rows-keep (row ∷ rows) (suc c) d (suc i) v = rows-keep rows c d i v
 
-pub sound-unpointed : (k : Machine) (caller : ℕ) (slot : Option Slot) → IsSound (pointed k caller slot) → IsSound k
+pub sound-unpointed : (k : Machine) (caller : ℕ) (slot : Option Slot) → IsSound (pointed k caller slot)
+    → IsSound k
 sound-unpointed k caller slot sound =
     let w = sound.well_formed in
     let rows = k.state.handle_registers in
@@ -79,6 +80,20 @@ sound-unpointed k caller slot sound =
         weak = record { kinds = w.weak.kinds; apart = w.weak.apart; once = w.weak.once };
       };
     }
+
+-- a slot in a handle register makes no difference to the heap and the table
+over-pointed : (m : Machine) (caller : ℕ) (slot : Option Slot) → IsOverHeap m
+    → IsOverHeap (pointed m caller slot)
+over-pointed m caller slot over = record {
+  names = over.names;
+  heap = record {
+    objects = over.heap.objects;
+    identities = over.heap.identities;
+    pinned = over.heap.pinned;
+    cards = over.heap.cards;
+  };
+  table = record { rows = over.table.rows; uses = over.table.uses };
+}
 
 -- a slot that is written and then another is the other alone
 cell-twice : (row : List (Option Slot)) (d : ℕ) (u v : Option Slot) → set (set row d u) d v ≡ set row d v
@@ -132,10 +147,12 @@ pub strength-registers : (s : State) (given : Strength) (slot : Slot) (handle : 
     → KeepsRegisters s (set_strength_of s given slot handle)
 strength-registers s given slot handle = kept-either s (is_kind handle.kind kind.Variable) _ _ refl refl
 
-pub raise-registers : (s : State) (slot : Slot) (handle : Handle Id) → KeepsRegisters s (raise_count_of s slot handle)
+pub raise-registers : (s : State) (slot : Slot) (handle : Handle Id)
+    → KeepsRegisters s (raise_count_of s slot handle)
 raise-registers s slot handle = kept-either s (is_kind handle.kind kind.Counted) _ _ refl refl
 
-pub lower-registers : (s : State) (slot : Slot) (handle : Handle Id) → KeepsRegisters s (lower_count_of s slot handle)
+pub lower-registers : (s : State) (slot : Slot) (handle : Handle Id)
+    → KeepsRegisters s (lower_count_of s slot handle)
 lower-registers s slot handle =
     kept-either s (is_kind handle.kind kind.Counted) _ _
     (kept-either s (count_of handle.extra == 0) _ _ refl refl) refl
@@ -161,13 +178,15 @@ module _ {m : Machine} {caller : ℕ} (slot : Slot) {handle : Handle Id} (sound 
   pub named : handle_register_of asking caller 0 ≡ Some slot
   named =
       let shape = sound.well_formed.shape in
-      cell_here m.state.handle_registers caller 0 (Some slot) None (omega (arith, known, shape.handle_registers))
+      cell_here m.state.handle_registers caller 0 (Some slot) None
+      (omega (arith, known, shape.handle_registers))
       (omega (arith, shape.each_handle_registers caller known))
 
   -- a command on a handle finds the one in the slot
   pub found : (act : Slot → Handle Id → Outcome) → on_handle asking caller 0 act ≡ act slot handle
   found act =
-      ap (λ o. option_map_or (λ at. option_map_or (act at) (handle_at m.state at) (refuses refusal.NotLive asking))
+      ap (λ o. option_map_or (λ at. option_map_or (act at) (handle_at m.state at)
+      (refuses refusal.NotLive asking))
       o (refuses refusal.EmptyRegister asking)) named
       ∙ ap (λ o. option_map_or (act slot) o (refuses refusal.NotLive asking)) live
 
@@ -179,7 +198,8 @@ module _ {m : Machine} {caller : ℕ} (slot : Slot) {handle : Handle Id} (sound 
   pub counts-up : ((h : Handle Id) → handle_at m.state slot ≡ Some h → count_of h.extra + 1 < 2 ^ 32)
       → (h : ℕ) → cmd.HUp 0 ≡ cmd.HUp h → MayCountUp asking caller h
   counts-up small h same at held names here =
-      let first = subst (λ x. handle_register_of asking caller x ≡ Some at) (sym (ap up_register same)) names in
+      let first = subst (λ x. handle_register_of asking caller x ≡ Some at) (sym (ap up_register same))
+      names in
       small held (subst (λ x. handle_at m.state x ≡ Some held) (same_Some at slot (sym first ∙ named)) here)
 
   pub target_set : (t : ℕ) → set_target asking caller 0 t
@@ -249,7 +269,8 @@ module _ {m : Machine} {caller : ℕ} (slot : Slot) {handle : Handle Id} (sound 
 
   pub target-aged : (t : ℕ) (w : Outcome) (r : Result Done Refusal)
       → done_of r ≡ record { reply = w.reply; slot = w.slot; grown = Zero }
-      → cond (is_refused w.reply) m.ages (lowered_to m.state m.ages (Some slot) (register_of m.state caller t))
+      → cond (is_refused w.reply) m.ages (lowered_to m.state m.ages (Some slot)
+      (register_of m.state caller t))
       ≡ aged_by from (entry_by caller (cmd.HSet 0 t) (done_of r)) m.ages
   target-aged t w r is =
       ap (λ (d : Done). cond (is_refused d.reply) m.ages
@@ -273,8 +294,8 @@ module _ {m : Machine} {caller : ℕ} (slot : Slot) {handle : Handle Id} (sound 
       ∙ ap (λ o. cond (is_refused (done_of r).reply) m.ages (lowered_at m.ages o 0))
       (sym (named slot sound known live))
 
--- a call about the handle in a slot leaves a sound store, and is the command, from a store with the slot in the
--- register to one with it
+-- a call about the handle in a slot leaves a sound store, and is the command, from a store with the slot in
+-- the register to one with it
 abbrev pub CameOf : Machine → Machine → ℕ → Slot → Cmd → Result Done Refusal → Type 0
 CameOf v k caller slot c r =
     IsSound k × (HasCalled (pointed v caller (Some slot)) caller c None (pointed k caller (Some slot))
@@ -315,9 +336,11 @@ module _ {m v k : Machine} {caller : ℕ} (slot : Slot) (c : Cmd) (r : Result Do
       let after = over-pointed k caller (Some slot) now in
       let pointed_view = ap (λ (x : Machine). pointed x caller (Some slot)) view in (
         sound-unpointed k caller (Some slot)
-            (sound-on c r pointed_sound pointed_view known valid within over after plain makes room way came_pointed aged),
+            (sound-on c r pointed_sound pointed_view known valid within over after plain makes room way
+            came_pointed aged),
         (
-          called c r pointed_sound pointed_view known valid within over after plain makes room way came_pointed aged,
+          called c r pointed_sound pointed_view known valid within over after plain makes room way
+              came_pointed aged,
           subst (λ (x : Machine). KeepsFirst x caller k) view first-kept,
         ),
       )
@@ -334,9 +357,9 @@ module _ {m v k : Machine} {caller : ℕ} (slot : Slot) {handle : Handle Id} (r 
       → CameOf v k caller slot (cmd.HSet 0 t) r
   sets-target t low came =
       let in_m = known-in view known in
-      came-of slot (cmd.HSet 0 t) r sound view known (omega arith, low) (endless refl) before now refl refl refl
-      (ap decided (target_set slot sound in_m live t)) came (target-aged slot sound in_m live t (set_target_of m.state caller t slot handle) r
-      came.0)
+      came-of slot (cmd.HSet 0 t) r sound view known (omega arith, low) (endless refl) before now
+      refl refl refl (ap decided (target_set slot sound in_m live t)) came
+      (target-aged slot sound in_m live t (set_target_of m.state caller t slot handle) r came.0)
       (target-registers m.state caller t slot handle)
 
   pub sets-secondary : (s : ℕ) → s < REGISTERS
@@ -346,20 +369,21 @@ module _ {m v k : Machine} {caller : ℕ} (slot : Slot) {handle : Handle Id} (r 
       → CameOf v k caller slot (cmd.HSec 0 s) r
   sets-secondary s low came =
       let in_m = known-in view known in
-      came-of slot (cmd.HSec 0 s) r sound view known (omega arith, low) (endless refl) before now refl refl refl
-      (ap decided (secondary_set slot sound in_m live s)) came (secondary-aged slot sound in_m live s
-      (set_secondary_of m.state caller s slot handle) r came.0)
+      came-of slot (cmd.HSec 0 s) r sound view known (omega arith, low) (endless refl) before now
+      refl refl refl (ap decided (secondary_set slot sound in_m live s)) came
+      (secondary-aged slot sound in_m live s (set_secondary_of m.state caller s slot handle) r came.0)
       (secondary-registers m.state caller s slot handle)
 
   pub gets-secondary : (d : ℕ) → d < REGISTERS
       → ComesTo (get_secondary_of m.state caller d slot handle) (seen_by m) (seen_by k) r
       → CameOf v k caller slot (cmd.HDep d 0) r
   gets-secondary d low came =
-      came-of slot (cmd.HDep d 0) r sound view known (low, omega arith) (endless refl) before now refl refl refl
-      (ap decided (secondary_got slot sound (known-in view known) live d)) came (unaged _ _)
+      came-of slot (cmd.HDep d 0) r sound view known (low, omega arith) (endless refl) before now
+      refl refl refl (ap decided (secondary_got slot sound (known-in view known) live d)) came (unaged _ _)
       (load-registers m.state caller d slot handle)
 
-  pub sets-strength : (to : Strength) → ComesTo (set_strength_of m.state to slot handle) (seen_by m) (seen_by k) r
+  pub sets-strength : (to : Strength)
+      → ComesTo (set_strength_of m.state to slot handle) (seen_by m) (seen_by k) r
       → CameOf v k caller slot (cmd.HVar 0 to) r
   sets-strength to came =
       came-of slot (cmd.HVar 0 to) r sound view known (omega arith) (endless refl) before now refl refl refl
@@ -374,7 +398,8 @@ module _ {m v k : Machine} {caller : ℕ} (slot : Slot) {handle : Handle Id} (r 
       came-of slot (cmd.HUp 0) r sound view known (omega arith) (record {
         serial = λ d fields fin same. absurd (cc same);
         count = counts-up slot (subst IsSound view sound) known in_v small;
-      }) before now refl refl refl (ap decided (count_raised slot sound (known-in view known) live)) came (unaged _ _)
+      }) before now refl refl refl (ap decided (count_raised slot sound (known-in view known) live)) came
+      (unaged _ _)
       (raise-registers m.state slot handle)
 
   pub lowers-count : ComesTo (lower_count_of m.state slot handle) (seen_by m) (seen_by k) r
@@ -384,10 +409,41 @@ module _ {m v k : Machine} {caller : ℕ} (slot : Slot) {handle : Handle Id} (r 
       (ap decided (count_lowered slot sound (known-in view known) live)) came (unaged _ _)
       (lower-registers m.state slot handle)
 
+-- a load of what it references
+module _ {m v k : Machine} {caller : ℕ} (slot : Slot) {handle : Handle Id} (sound : IsSound m) (view : m ≡ v)
+    (known : caller < v.numbers.callers) (before : IsOverHeap m) (now : IsOverHeap k)
+    (live : handle_at m.state slot ≡ Some handle) where
+  pub loads-target : (d : ℕ) (id : Option Id) → d < REGISTERS → handle.target ≡ id
+      → k ≡ record m { state = with_register m.state caller d id }
+      → CameOf v k caller slot (cmd.HGet d 0) (Ok (replied (load_reply id)))
+  loads-target d id low is left =
+      let w = get_target_of m.state caller d slot handle in
+      let r = Ok (replied (load_reply id)) in
+      let came : ComesTo w (seen_by m) (seen_by k) r = (
+        ap (λ t. replied (load_reply t)) (sym is),
+        (
+          ap (λ (x : Machine). x.numbers) left,
+          ap (λ (x : Machine). x.state) left ∙ ap (λ t. with_register m.state caller d t) (sym is),
+          ap (λ (x : Machine). x.ages) left,
+          ap (λ (x : Machine). (seen_by x).names) left,
+          ap (λ (x : Machine). x.names) left,
+        ),
+      ) in
+      came-of slot (cmd.HGet d 0) r sound view known (low, omega arith) (endless refl) before now
+      refl refl refl (ap decided (found slot sound (known-in view known) live
+      (get_target_of (pointed m caller (Some slot)).state caller d))) came (unaged _ _) refl
+
 -- the handle in a live slot
 pub live-one : (o : Option (Handle Id)) → IsSome o → (h : Handle Id) × (o ≡ Some h)
 live-one None live = absurd (false≢true live)
 live-one (Some h) live = (h, refl)
+
+-- the handle in a slot whose target was found
+pub with-target : (o : Option (Handle Id)) (t : Option Id)
+    → option_map (λ (h : Handle Id). h.target) o ≡ Some t
+    → (h : Handle Id) × ((o ≡ Some h) × (h.target ≡ t))
+with-target None t is = absurd (cc is)
+with-target (Some h) t is = (h, (refl, cc is))
 
 -- ---- the handle in a slot is freed
 
@@ -444,10 +500,12 @@ module _ {m v k : Machine} {caller : ℕ} (slot : Slot) {handle : Handle Id} (so
       let over_after = over-pointed k caller None now in
       let pointed_view = ap (λ (x : Machine). pointed x caller (Some slot)) view in (
         sound-unpointed k caller None
-            (run-sound (cmd.HFree 0) pointed_sound pointed_view known (omega arith) tt (endless refl) over over_after
+            (run-sound (cmd.HFree 0) pointed_sound pointed_view known (omega arith) tt (endless refl) over
+            over_after
             free-ran),
         (
-          run-called (cmd.HFree 0) pointed_sound pointed_view known (omega arith) tt (endless refl) over over_after
+          run-called (cmd.HFree 0) pointed_sound pointed_view known (omega arith) tt (endless refl) over
+              over_after
               free-ran,
           subst (λ (x : Machine). KeepsFirst x caller k) view
               (ap (λ (p : Seen Addr (FinMap nat_cmp Id)). handle_register_of p.state caller 0) left),
@@ -461,7 +519,8 @@ made-over : (k : Machine) (caller : ℕ) (r : Result (Slot × Grown) Refusal) �
 made-over k caller (Ok made) over = over-pointed k caller (Some made.0) over
 made-over k caller (Err refused) over = over
 
-made-sound : (k : Machine) (caller : ℕ) (r : Result (Slot × Grown) Refusal) → IsSound (pointed_made k caller 0 r)
+made-sound : (k : Machine) (caller : ℕ) (r : Result (Slot × Grown) Refusal)
+    → IsSound (pointed_made k caller 0 r)
     → IsSound k
 made-sound k caller (Ok made) sound = sound-unpointed k caller (Some made.0) sound
 made-sound k caller (Err refused) sound = sound
@@ -472,7 +531,8 @@ made-offer s caller make t None free = tt
 made-offer s caller make t (Some slot) free = free
 
 -- growth writes no handle register, and a slot in the second of a caller leaves the first
-growth-registers : (s : State) (of : Kind) (grown : Grown) → (with_growth s of grown).handle_registers ≡ s.handle_registers
+growth-registers : (s : State) (of : Kind) (grown : Grown)
+    → (with_growth s of grown).handle_registers ≡ s.handle_registers
 growth-registers s of Zero = refl
 growth-registers s of (One block) = refl
 growth-registers s of (Two block other) = refl
@@ -505,13 +565,15 @@ make-first m k caller make t (Ok made) ran = by ran.step
     by (inr full) = let clash = full.refused.reply in cc
 make-first m k caller make t (Err refused) ran = by ran.step
   where
-    by : TakesWay m.numbers m.state (entry_by caller (cmd.HNew 1 make t) (done_of (done_making (Err refused))))
-        k.state (makes_handle 1 make t) → KeepsFirst m caller k
+    by : TakesWay m.numbers m.state
+        (entry_by caller (cmd.HNew 1 make t) (done_of (done_making (Err refused)))) k.state
+        (makes_handle 1 make t) → KeepsFirst m caller k
     by (inl is) = let clash = is.reply in cc
     by (inr full) = ap (λ (s : State). handle_register_of s caller 0) full.refused.after
 
 module _ {m v k : Machine} {caller : ℕ} (make : Make) (t : ℕ) {offer : Option Slot}
-    (r : Result (Slot × Grown) Refusal) (sound : IsSound m) (view : m ≡ v) (known : caller < v.numbers.callers)
+    (r : Result (Slot × Grown) Refusal) (sound : IsSound m) (view : m ≡ v)
+    (known : caller < v.numbers.callers)
     (before : IsOverHeap m) (now : IsOverHeap k) (valid : IsValid (cmd.HNew 0 make t))
     (free : IfSome offer (IsFree v.state (kind_of make)))
     (ran : (d : ℕ) → HasRun m caller (cmd.HNew d make t) offer
@@ -524,7 +586,8 @@ module _ {m v k : Machine} {caller : ℕ} (make : Make) (t : ℕ) {offer : Optio
       let offered = made-offer v.state caller make t offer free in
       let after = made-over k caller r now in (
         made-sound k caller r
-            (run-sound (cmd.HNew 0 make t) sound view known valid offered (endless refl) before after (ran 0)),
+            (run-sound (cmd.HNew 0 make t) sound view known valid offered (endless refl) before after
+            (ran 0)),
         (
           run-called (cmd.HNew 0 make t) sound view known valid offered (endless refl) before after (ran 0),
           subst (λ (x : Machine). KeepsFirst x caller k) view (make-first m k caller make t r (ran 1).effect),
@@ -534,48 +597,51 @@ module _ {m v k : Machine} {caller : ℕ} (make : Make) (t : ℕ) {offer : Optio
 -- ---- the address of what the handle in a slot pins
 
 module _ {m v : Machine} {caller : ℕ} (slot : Slot) {handle : Handle Id} (sound : IsSound m) (view : m ≡ v)
-    (known : caller < v.numbers.callers) (over : IsOverHeap m) (live : handle_at m.state slot ≡ Some handle) where
-  abbrev pinning : Machine
-  pinning = pointed m caller (Some slot)
+    (known : caller < v.numbers.callers) (over : IsOverHeap m) (live : handle_at m.state slot ≡ Some handle)
+  where
+    abbrev pinning : Machine
+    pinning = pointed m caller (Some slot)
 
-  pins-it : pinned_in pinning.state caller 0 ≡ pinned_of handle
-  pins-it =
-      ap (λ o. option_map_or (λ at. option_map_or pinned_of (handle_at m.state at) (Err refusal.NotLive)) o
-      (Err refusal.EmptyRegister)) (named slot sound (known-in view known) live)
-      ∙ ap (λ o. option_map_or pinned_of o (Err refusal.NotLive)) live
+    pins-it : pinned_in pinning.state caller 0 ≡ pinned_of handle
+    pins-it =
+        ap (λ o. option_map_or (λ at. option_map_or pinned_of (handle_at m.state at) (Err refusal.NotLive)) o
+        (Err refusal.EmptyRegister)) (named slot sound (known-in view known) live)
+        ∙ ap (λ o. option_map_or pinned_of o (Err refusal.NotLive)) live
 
-  address-ran : (r : Result ℕ Refusal)
-      → KeepsPinned pinning (entry_by caller (cmd.AddrOf 0) (done_of (done_with reply.Place r))) pinning
-      → HasCalled pinning caller (cmd.AddrOf 0) None pinning
-      (entry_by caller (cmd.AddrOf 0) (done_of (done_with reply.Place r)))
-  address-ran r kept =
-      let over_now = over-pointed m caller (Some slot) over in kept-called over_now over_now (unoffered (done_of (done_with reply.Place r)) refl kept)
+    address-ran : (r : Result ℕ Refusal)
+        → KeepsPinned pinning (entry_by caller (cmd.AddrOf 0) (done_of (done_with reply.Place r))) pinning
+        → HasCalled pinning caller (cmd.AddrOf 0) None pinning
+        (entry_by caller (cmd.AddrOf 0) (done_of (done_with reply.Place r)))
+    address-ran r kept =
+        let over_now = over-pointed m caller (Some slot) over in kept-called over_now over_now
+        (unoffered (done_of (done_with reply.Place r)) refl kept)
 
-  free-pointed : (before : FinMap nat_cmp ℕ) (o : Option ℕ) (x : Id) (a : ℕ)
-      → MatchOption o (IsFreeAddress (with_pinned m.state before) x a) (λ own. a ≡ own)
-      → MatchOption o (IsFreeAddress (with_pinned pinning.state before) x a) (λ own. a ≡ own)
-  free-pointed before None x a is = record { small = is.small; apart = is.apart }
-  free-pointed before (Some own) x a is = is
+    free-pointed : (before : FinMap nat_cmp ℕ) (o : Option ℕ) (x : Id) (a : ℕ)
+        → MatchOption o (IsFreeAddress (with_pinned m.state before) x a) (λ own. a ≡ own)
+        → MatchOption o (IsFreeAddress (with_pinned pinning.state before) x a) (λ own. a ≡ own)
+    free-pointed before None x a is = record { small = is.small; apart = is.apart }
+    free-pointed before (Some own) x a is = is
 
-  address-of : (r : Result ℕ Refusal)
-      → MatchResult r (λ a. (pinned_of handle ≡ Ok (name_in m.names (record { 0 = a })))
-      × HasAddress m (record { 0 = a })) (λ refused. pinned_of handle ≡ Err refused)
-      → HasCalled pinning caller (cmd.AddrOf 0) None pinning
-      (entry_by caller (cmd.AddrOf 0) (done_of (done_with reply.Place r)))
-  address-of (Ok a) is =
-      address-ran (Ok a) (addr-replies pinning caller 0 (known-in view known) (omega arith) (record { 0 = a })
-      (record {
-        may = λ before are. free-pointed before (get before (name_in m.names (record { 0 = a })).0)
-            (name_in m.names (record { 0 = a })) a (is.1.may before are);
-        addresses = is.1.addresses;
-      }) (sym (pins-it ∙ is.0)))
-  address-of (Err refused) is =
-      address-ran (Err refused)
-      (addr-refused pinning caller 0 (known-in view known) (omega arith) refused (sym (pins-it ∙ is)))
+    address-of : (r : Result ℕ Refusal)
+        → MatchResult r (λ a. (pinned_of handle ≡ Ok (name_in m.names (record { 0 = a })))
+        × HasAddress m (record { 0 = a })) (λ refused. pinned_of handle ≡ Err refused)
+        → HasCalled pinning caller (cmd.AddrOf 0) None pinning
+        (entry_by caller (cmd.AddrOf 0) (done_of (done_with reply.Place r)))
+    address-of (Ok a) is =
+        address-ran (Ok a) (addr-replies pinning caller 0 (known-in view known) (omega arith) (record { 0 = a })
+        (record {
+          may = λ before are. free-pointed before (get before (name_in m.names (record { 0 = a })).0)
+              (name_in m.names (record { 0 = a })) a (is.1.may before are);
+          addresses = is.1.addresses;
+        }) (sym (pins-it ∙ is.0)))
+    address-of (Err refused) is =
+        address-ran (Err refused)
+        (addr-refused pinning caller 0 (known-in view known) (omega arith) refused (sym (pins-it ∙ is)))
 
-  pub address-called : (r : Result ℕ Refusal)
-      → MatchResult r (λ a. (pinned_of handle ≡ Ok (name_in m.names (record { 0 = a })))
-      × HasAddress m (record { 0 = a })) (λ refused. pinned_of handle ≡ Err refused)
-      → HasReturnedOf v caller slot (cmd.AddrOf 0) reply.Place v r
-  address-called r is =
-      subst (λ (x : Machine). HasReturnedOf x caller slot (cmd.AddrOf 0) reply.Place x r) view (address-of r is, refl)
+    pub address-called : (r : Result ℕ Refusal)
+        → MatchResult r (λ a. (pinned_of handle ≡ Ok (name_in m.names (record { 0 = a })))
+        × HasAddress m (record { 0 = a })) (λ refused. pinned_of handle ≡ Err refused)
+        → HasReturnedOf v caller slot (cmd.AddrOf 0) reply.Place v r
+    address-called r is =
+        subst (λ (x : Machine). HasReturnedOf x caller slot (cmd.AddrOf 0) reply.Place x r) view
+        (address-of r is, refl)

@@ -53,7 +53,8 @@ module _ {m k : Machine} {caller : ℕ} {c : Cmd} {offer : Option Slot} {e : Ent
   stays-sound = sound-after m k e sound (plain-kept m k caller c offer may e ran).effect
 
 -- what is done without an offer, by a command that asks for no room
-pub unoffered : {T : Type 0} {m : Machine} {caller : ℕ} {c : Cmd} (d : Done) → asks_of m.state caller c ≡ no_room → T
+pub unoffered : {T : Type 0} {m : Machine} {caller : ℕ} {c : Cmd} (d : Done)
+    → asks_of m.state caller c ≡ no_room → T
     → HasRun m caller c None (entry_by caller c d) T
 unoffered {T} {m} {caller} {c} d room did = record {
   caller = refl;
@@ -69,7 +70,8 @@ known-in {m} {v} {caller} view = subst (λ (x : Machine). caller < x.numbers.cal
 
 -- a command of a store did what it does to its contents
 module _ {m v k : Machine} {caller : ℕ} (c : Cmd) {offer : Option Slot} {e : Entry} (sound : IsSound m)
-    (view : m ≡ v) (known : caller < v.numbers.callers) (valid : IsValid c) (offered : IsOffer v.state caller c offer)
+    (view : m ≡ v) (known : caller < v.numbers.callers) (valid : IsValid c)
+    (offered : IsOffer v.state caller c offer)
     (within : StaysWithin v.state caller c) (before : IsOverHeap m) (now : IsOverHeap k)
     (ran : HasRun m caller c offer e (IsPlainStep m c k e)) where
   may-run-in : MayRun m caller c offer
@@ -80,7 +82,8 @@ module _ {m v k : Machine} {caller : ℕ} (c : Cmd) {offer : Option Slot} {e : E
 
   pub run-called : HasCalled v caller c offer k e
   run-called =
-      subst (λ (x : Machine). HasCalled x caller c offer k e) view (has-called sound may-run-in before now ran)
+      subst (λ (x : Machine). HasCalled x caller c offer k e) view
+      (has-called sound may-run-in before now ran)
 
   pub run-sound : IsSound k
   run-sound = stays-sound sound may-run-in before now ran
@@ -123,7 +126,8 @@ module _ {m v k : Machine} {caller : ℕ} (c : Cmd) (r : Result Done Refusal) {w
 -- an object is made
 module _ {m k : Machine} {caller : ℕ} (d fields : ℕ) (fin : Bool) (r : Result Id Refusal)
     (serial : last_serial m.state caller + 1 < 2 ^ 32)
-    (came : ComesTo (new_object m.numbers m.state caller d fields fin) (seen_by (record m { names = k.names }))
+    (came : ComesTo (new_object m.numbers m.state caller d fields fin)
+    (seen_by (record m { names = k.names }))
     (seen_by k) (done_with reply.Object r))
     (names : KeepsNames m.names k.names) where
   pub object-ran : (offer : Option Slot) → IsOffer m.state caller (cmd.New d fields fin) offer
@@ -153,10 +157,12 @@ module _ {m k : Machine} {caller : ℕ} (d fields : ℕ) (fin : Bool) (r : Resul
     growth = tt;
   }
 
-module _ {m v k : Machine} {caller : ℕ} (d fields : ℕ) (fin : Bool) (r : Result Id Refusal) (sound : IsSound m)
+module _ {m v k : Machine} {caller : ℕ} (d fields : ℕ) (fin : Bool) (r : Result Id Refusal)
+    (sound : IsSound m)
     (view : m ≡ v) (known : caller < v.numbers.callers) (valid : IsValid (cmd.New d fields fin))
     (serial : last_serial v.state caller + 1 < 2 ^ 32) (before : IsOverHeap m) (now : IsOverHeap k)
-    (came : ComesTo (new_object m.numbers m.state caller d fields fin) (seen_by (record m { names = k.names }))
+    (came : ComesTo (new_object m.numbers m.state caller d fields fin)
+    (seen_by (record m { names = k.names }))
     (seen_by k) (done_with reply.Object r))
     (names : KeepsNames m.names k.names) where
   within-new : StaysWithin v.state caller (cmd.New d fields fin)
@@ -167,8 +173,8 @@ module _ {m v k : Machine} {caller : ℕ} (d fields : ℕ) (fin : Bool) (r : Res
       (IsPlainStep m (cmd.New d fields fin) k
       (entry_by caller (cmd.New d fields fin) (done_of (done_with reply.Object r))))
   made-run =
-      object-ran d fields fin r (subst (λ (x : Machine). last_serial x.state caller + 1 < 2 ^ 32) (sym view) serial) came names
-      None tt
+      object-ran d fields fin r
+      (subst (λ (x : Machine). last_serial x.state caller + 1 < 2 ^ 32) (sym view) serial) came names None tt
 
   pub object-called : HasCalled v caller (cmd.New d fields fin) None k
       (entry_by caller (cmd.New d fields fin) (done_of (done_with reply.Object r)))

@@ -1,13 +1,13 @@
 -- What a call of a store takes, and what it comes to.
 use Rattle.std.specs.Prelude.{◌≡◌, ℕ, ◌+◌, ◌<◌, ◌^◌, Bool, Option, None, Some, Result, Ok, Err}
 use Rattle.std.specs.{Option.ForSome, FinMap.empty}
-use Rattle.hd_model.specs.{declared.data.Entry.Entry, declared.data.Id.Id, declared.data.Slot.Slot, declared.data.Grown.Grown, declared.data.Grown.TheVariants.Zero, declared.data.Refusal.Refusal, declared.data.Reply.Reply, declared.command.Cmd.Cmd, Command.load_reply, PinnedAddresses.with_pinned, Valid.IsValid, WellFormed.IsWellFormed}
+use Rattle.hd_model.specs.{declared.data.Entry.Entry, declared.data.Id.Id, declared.data.Slot.Slot, declared.data.Grown.Grown, declared.data.Grown.TheVariants.Zero, declared.data.Refusal.Refusal, declared.data.Reply.Reply, declared.command.Cmd.Cmd, Command.load_reply, PinnedAddresses.with_pinned, WellFormed.IsWellFormed}
 use Rattle.hd_model.specs.declared.command.Cmd.TheVariants as cmd
 use Rattle.hd_model.specs.State.{State, handle_register_of, last_serial, with_handle_register}
 use Rattle.hd_commands.specs.Counts.{MayCountUp}
 use Rattle.hd_commands.specs.Done.{done_of, done_with, entry_by}
 use Rattle.hd_store.specs.{PinnedAddresses.KeepsPinned, StateHeap.KeepsStored, Store.Machine}
-use Rattle.hd_store.specs.Offers.{HasLimits, IsOffer, GrowsUnoffered, Takes}
+use Rattle.hd_store.specs.Offers.{HasLimits, GrowsUnoffered, Takes}
 
 -- what is so of every store: its numbers are within the limits, and its state is well formed
 pub record IsSound (m : Machine) : Type 0 where
@@ -32,13 +32,6 @@ load_entry caller d target = record {
   grown = Zero;
   reply = load_reply target;
 }
-
--- what a command of a caller asks of a store
-pub record MayCall (m : Machine) (number : ℕ) (c : Cmd) (offered : Option Slot) : Type 0 where
-  pub caller : number < m.numbers.callers
-  pub valid : IsValid c
-  pub offer : IsOffer m.state number c offered
-  pub within : StaysWithin m.state number c
 
 -- all that callers of a store learn of a command: the returned entry is of this command; from any pinned
 -- addresses that are those of their objects, it is a step from the state before to the one after with others

@@ -1,13 +1,13 @@
-ghost use Rattle.std.specs.Prelude.{◌≡◌, ◌*◌, ◌<◌, ◌≤◌, length, replicate, slice_index_or, true, IsTrue, IfOk, IfNone, IfSome, None, OnErr, MatchResult, Some, option_map};
+ghost use Rattle.std.specs.Prelude.{◌≡◌, ◌*◌, ◌<◌, ◌≤◌, length, replicate, slice_index_or, true, IsTrue, IfOk, IfNone, IfSome, None, OnErr, Some, option_map};
 ghost use Rattle.std.specs.FinMap.{get};
 ghost use Rattle.hd_model.specs.declared.command.Cmd.TheVariants as cmd;
 ghost use Rattle.hd_model.specs.Handles.{handle_of};
-ghost use Rattle.hd_model.specs.State.{Handle as Held, Numbers, start_of, handle_at, register_of, handle_register_of, static_of, board_of, with_register, with_handle_register};
+ghost use Rattle.hd_model.specs.State.{Handle as Held, Numbers, start_of, handle_at, register_of, handle_register_of, static_of, board_of, with_register};
 ghost use Rattle.hd_model.specs.{Valid.IsValid, Valid.takes_memory};
 ghost use Rattle.hd_model.specs.declared.data.{Id.Id};
 ghost use Rattle.hd_store.specs.{Visited.TakesSteps, Store.IsOverHeap};
-ghost use Rattle.hd_store.specs.Calls.{HasCalled, IsSound, MayCall, StaysWithin, load_entry, pointed};
-ghost use Rattle.hd_store.specs.Offers.{IsOffer, needs_slot, FitsHeap, RanOut};
+ghost use Rattle.hd_store.specs.Calls.{HasCalled, IsSound, StaysWithin, load_entry, pointed};
+ghost use Rattle.hd_store.specs.Offers.{IsOffer, needs_slot, FitsHeap};
 
 use crate::contents::Contents;
 use crate::{commands, on_entries};
@@ -90,56 +90,6 @@ impl Store {
         Ok(entry_of(caller, cmd, came))
     }
 
-    /// Does the same where nobody asks for the steps.
-    #[inline(always)]
-    pub fn apply_uncounted(
-        &mut self,
-        caller: u32,
-        cmd: Cmd,
-        offer: Option<Slot>,
-    ) -> Result<Entry, Memory>
-        requires { MayCall self.old caller cmd offer }
-        ensures { let n = self.old.numbers in let s = self.old.state in
-            MatchResult result (HasCalled self.old caller cmd offer self.new)
-            (λ _. RanOut n s cmd self.old self.new) }
-    {
-        self.apply_on::<Brand>(caller, cmd, offer, Blank::new(1))
-    }
-
-    // The same, with a counter that nothing reads.
-    #[inline(always)]
-    fn apply_on<L: Ledger>(
-        &mut self,
-        caller: u32,
-        cmd: Cmd,
-        offer: Option<Slot>,
-        blank: Blank,
-    ) -> Result<Entry, Memory>
-        requires may { MayCall self.old caller cmd offer }
-        requires blank { (L.name ≡ blank.name) × (L.parts ≡ blank.parts) × (0 < blank.parts) }
-        ensures { let n = self.old.numbers in let s = self.old.state in
-            MatchResult result (HasCalled self.old caller cmd offer self.new)
-            (λ _. RanOut n s cmd self.old self.new) }
-    {
-        let mut steps = Steps::<L>::open(blank);
-        match self.apply(caller, cmd, offer, &mut steps) {
-            Ok(entry) => Ok(entry),
-            Err(Memory) => Err(Memory),
-        }
-    }
-
-    /// Puts a slot, or nothing, into a handle register, as `GCHandle.FromIntPtr` makes a handle of
-    /// a number. No command of a script does this, so what comes after is no run of a script.
-    #[inline(always)]
-    pub fn point(&mut self, caller: u32, h: u8, slot: Option<Slot>)
-        requires caller { caller < self.old.numbers.callers }
-        requires register { h < REGISTERS }
-        ensures { self.new ≡
-            record self.old { state = with_handle_register self.old.state caller h slot } }
-    {
-        self.contents.set_handle_register(caller, h, slot);
-    }
-
     /// Gives an object register the target of the live handle in a slot, and returns it: what an
     /// `hget` does by a handle register that has the slot. Where the slot is not live nothing
     /// changes, and none is returned. The slot may be any number.
@@ -161,6 +111,7 @@ impl Store {
         let target = self.contents.target_in(slot)?;
         let id = self.contents.named(target);
         self.contents.set_register(caller, d, target);
+        let _after = self.contents.objects();
         Some(id)
     }
 

@@ -23,7 +23,8 @@ returns-in_ok-new_object-in-New g c =
     let r = done_with reply.Object came in
     as-asked m k c.args.caller c.args.cmd asked c.args.offer c.made.result r steps steps c.in-New.is
     c.made.ensures c.requires
-    (λ may. plain-runs m k c.args.caller asked c.args.offer steps (entry_by c.args.caller asked (done_of r)) refl
+    (λ may. plain-runs m k c.args.caller asked c.args.offer steps (entry_by c.args.caller asked (done_of r))
+    refl
     (object-ran c.in-New.d c.in-New.fields c.in-New.fin came
     (may.serial c.in-New.d c.in-New.fields c.in-New.fin refl) c.in_ok-new_object-in-New.ensures.done
     c.in_ok-new_object-in-New.ensures.names c.args.offer may.offer) may)

@@ -11,10 +11,12 @@ add_entry-came-requires-clause-weak g c = has-weak c.self.invariant
 
 pub invariant_of-self : goal.invariant_of-self
 invariant_of-self g c =
-    run-sound (cmd.CAdd c.args.k c.args.v) c.self.invariant c.self.view_is c.requires.caller c.requires.registers c.requires.offer
+    run-sound (cmd.CAdd c.args.k c.args.v) c.self.invariant c.self.view_is c.requires.caller
+    c.requires.registers c.requires.offer
     (endless refl) c.objects-before.ensures.heap c.objects-after.ensures.heap c.add_entry-came.ensures.done
 
 pub returns : goal.returns
 returns g c =
-    run-called (cmd.CAdd c.args.k c.args.v) c.self.invariant c.self.view_is c.requires.caller c.requires.registers c.requires.offer
+    run-called (cmd.CAdd c.args.k c.args.v) c.self.invariant c.self.view_is c.requires.caller
+    c.requires.registers c.requires.offer
     (endless refl) c.objects-before.ensures.heap c.objects-after.ensures.heap c.add_entry-came.ensures.done

@@ -35,13 +35,15 @@ invariant_of-self-2 g c =
 pub returns-clause-done : goal.returns-clause-done
 returns-clause-done g c =
     let k = c.carry_out.new.store in
-    subst (λ (v : Machine). HasCalled v c.args.caller c.args.cmd c.args.offer k c.entry_of.result) c.self.view_is
+    subst (λ (v : Machine). HasCalled v c.args.caller c.args.cmd c.args.offer k c.entry_of.result)
+    c.self.view_is
     (subst (HasCalled c.self.inside.contents c.args.caller c.args.cmd c.args.offer k) (sym c.entry_of.ensures)
     (kept-called c.objects-before.ensures.heap c.objects-after.ensures.heap c.in_ok-came.ensures.0))
 
 pub returns-clause-steps : goal.returns-clause-steps
 returns-clause-steps g c =
-    subst (λ (m : Machine). TakesSteps m.state m.ages c.entry_of.result c.args.steps.now c.carry_out.new.steps)
+    subst (λ (m : Machine). TakesSteps m.state m.ages c.entry_of.result c.args.steps.now
+    c.carry_out.new.steps)
     c.self.view_is
     (subst (λ e. TakesSteps c.self.inside.contents.state c.self.inside.contents.ages e c.args.steps.now
     c.carry_out.new.steps) (sym c.entry_of.ensures) c.in_ok-came.ensures.1)

@@ -7,12 +7,14 @@ use Rattle.hd_store.proofs.store.Store.clear_register.Goals as goal
 
 pub invariant_of-self : goal.invariant_of-self
 invariant_of-self c =
-    sound-on (cmd.Clear c.args.d) (done_with (λ _. reply.Done) (Ok (tt {0}))) c.self.invariant c.self.view_is c.requires.caller
+    sound-on (cmd.Clear c.args.d) (done_with (λ _. reply.Done) (Ok (tt {0}))) c.self.invariant
+    c.self.view_is c.requires.caller
     c.requires.register (endless refl) c.objects-before.ensures.heap c.objects-after.ensures.heap
     refl refl refl refl c.clear_register.ensures refl
 
 pub returns : goal.returns
 returns c =
-    called (cmd.Clear c.args.d) (done_with (λ _. reply.Done) (Ok (tt {0}))) c.self.invariant c.self.view_is c.requires.caller
+    called (cmd.Clear c.args.d) (done_with (λ _. reply.Done) (Ok (tt {0}))) c.self.invariant c.self.view_is
+    c.requires.caller
     c.requires.register (endless refl) c.objects-before.ensures.heap c.objects-after.ensures.heap
     refl refl refl refl c.clear_register.ensures refl

@@ -7,12 +7,14 @@ use Rattle.hd_store.proofs.store.Store.copy_register.Goals as goal
 
 pub invariant_of-self : goal.invariant_of-self
 invariant_of-self c =
-    sound-on (cmd.Copy c.args.d c.args.s) (done_with (λ _. reply.Done) (Ok (tt {0}))) c.self.invariant c.self.view_is c.requires.caller
+    sound-on (cmd.Copy c.args.d c.args.s) (done_with (λ _. reply.Done) (Ok (tt {0}))) c.self.invariant
+    c.self.view_is c.requires.caller
     c.requires.registers (endless refl) c.objects-before.ensures.heap c.objects-after.ensures.heap
     refl refl refl refl c.copy_register.ensures refl
 
 pub returns : goal.returns
 returns c =
-    called (cmd.Copy c.args.d c.args.s) (done_with (λ _. reply.Done) (Ok (tt {0}))) c.self.invariant c.self.view_is c.requires.caller
+    called (cmd.Copy c.args.d c.args.s) (done_with (λ _. reply.Done) (Ok (tt {0}))) c.self.invariant
+    c.self.view_is c.requires.caller
     c.requires.registers (endless refl) c.objects-before.ensures.heap c.objects-after.ensures.heap
     refl refl refl refl c.copy_register.ensures refl

@@ -8,12 +8,16 @@ live_handle-handle-requires-clause-handles c = has-handles c.self.inside.content
 
 pub invariant_of-self : goal.invariant_of-self
 invariant_of-self c =
-    (gets-secondary c.args.slot (done_with load_reply c.get_secondary_of-came.result) c.self.invariant c.self.view_is c.requires.caller
+    (gets-secondary c.args.slot (done_with load_reply c.get_secondary_of-came.result) c.self.invariant
+    c.self.view_is c.requires.caller
     c.objects-before.ensures.heap c.objects-after.ensures.heap
-    c.live_handle-handle.ensures.is c.args.d c.requires.register (c.get_secondary_of-came.ensures c.args.slot)).0
+    c.live_handle-handle.ensures.is c.args.d c.requires.register
+    (c.get_secondary_of-came.ensures c.args.slot)).0
 
 pub returns : goal.returns
 returns c =
-    (gets-secondary c.args.slot (done_with load_reply c.get_secondary_of-came.result) c.self.invariant c.self.view_is c.requires.caller
+    (gets-secondary c.args.slot (done_with load_reply c.get_secondary_of-came.result) c.self.invariant
+    c.self.view_is c.requires.caller
     c.objects-before.ensures.heap c.objects-after.ensures.heap
-    c.live_handle-handle.ensures.is c.args.d c.requires.register (c.get_secondary_of-came.ensures c.args.slot)).1
+    c.live_handle-handle.ensures.is c.args.d c.requires.register
+    (c.get_secondary_of-came.ensures c.args.slot)).1

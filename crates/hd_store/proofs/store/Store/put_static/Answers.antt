@@ -7,12 +7,14 @@ use Rattle.hd_store.proofs.store.Store.put_static.Goals as goal
 
 pub invariant_of-self : goal.invariant_of-self
 invariant_of-self c =
-    sound-on (cmd.SPut c.args.k c.args.s) (done_with (λ _. reply.Done) (Ok (tt {0}))) c.self.invariant c.self.view_is c.requires.caller
+    sound-on (cmd.SPut c.args.k c.args.s) (done_with (λ _. reply.Done) (Ok (tt {0}))) c.self.invariant
+    c.self.view_is c.requires.caller
     c.requires.registers (endless refl) c.objects-before.ensures.heap c.objects-after.ensures.heap
     refl refl refl refl c.put_static.ensures refl
 
 pub returns : goal.returns
 returns c =
-    called (cmd.SPut c.args.k c.args.s) (done_with (λ _. reply.Done) (Ok (tt {0}))) c.self.invariant c.self.view_is c.requires.caller
+    called (cmd.SPut c.args.k c.args.s) (done_with (λ _. reply.Done) (Ok (tt {0}))) c.self.invariant
+    c.self.view_is c.requires.caller
     c.requires.registers (endless refl) c.objects-before.ensures.heap c.objects-after.ensures.heap
     refl refl refl refl c.put_static.ensures refl

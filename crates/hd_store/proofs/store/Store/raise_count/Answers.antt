@@ -14,12 +14,14 @@ raise_count_of-came-requires-clause-small c =
 
 pub invariant_of-self : goal.invariant_of-self
 invariant_of-self c =
-    (raises-count c.args.slot (done_with reply.Value c.raise_count_of-came.result) c.self.invariant c.self.view_is c.requires.caller
+    (raises-count c.args.slot (done_with reply.Value c.raise_count_of-came.result) c.self.invariant
+    c.self.view_is c.requires.caller
     c.objects-before.ensures.heap c.objects-after.ensures.heap
     c.live_handle-handle.ensures.is c.requires.small c.raise_count_of-came.ensures).0
 
 pub returns : goal.returns
 returns c =
-    (raises-count c.args.slot (done_with reply.Value c.raise_count_of-came.result) c.self.invariant c.self.view_is c.requires.caller
+    (raises-count c.args.slot (done_with reply.Value c.raise_count_of-came.result) c.self.invariant
+    c.self.view_is c.requires.caller
     c.objects-before.ensures.heap c.objects-after.ensures.heap
     c.live_handle-handle.ensures.is c.requires.small c.raise_count_of-came.ensures).1

@@ -10,6 +10,7 @@ pub returns : goal.returns
 returns c =
     subst (λ (m : Machine). HasReturned c.args.self.now c.args.caller (cmd.Gen c.args.o) reply.Generation m
     c.read_generation.result) c.self.view_is
-    (called (cmd.Gen c.args.o) (done_with reply.Generation c.read_generation.result) c.self.invariant c.self.view_is c.requires.caller
+    (called (cmd.Gen c.args.o) (done_with reply.Generation c.read_generation.result) c.self.invariant
+    c.self.view_is c.requires.caller
     c.requires.register (endless refl) c.objects-before.ensures.heap c.objects-before.ensures.heap
     refl refl refl refl c.read_generation.ensures (unaged _ _))

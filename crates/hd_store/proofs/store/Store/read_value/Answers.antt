@@ -10,6 +10,7 @@ pub returns : goal.returns
 returns c =
     subst (λ (m : Machine). HasReturned c.args.self.now c.args.caller (cmd.Read c.args.o) reply.Value m
     c.read_value.result) c.self.view_is
-    (called (cmd.Read c.args.o) (done_with reply.Value c.read_value.result) c.self.invariant c.self.view_is c.requires.caller
+    (called (cmd.Read c.args.o) (done_with reply.Value c.read_value.result) c.self.invariant c.self.view_is
+    c.requires.caller
     c.requires.register (endless refl) c.objects-before.ensures.heap c.objects-before.ensures.heap
     refl refl refl refl c.read_value.ensures (unaged _ _))

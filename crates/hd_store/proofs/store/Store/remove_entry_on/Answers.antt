@@ -8,9 +8,13 @@ use Rattle.hd_store.proofs.store.Store.remove_entry_on.Goals as goal
 pub invariant_of-self : goal.invariant_of-self
 invariant_of-self g c =
     run-sound (cmd.CRemove c.args.k) c.self.invariant c.self.view_is c.requires.caller c.requires.register tt
-    (endless refl) c.objects-before.ensures.heap c.objects-after.ensures.heap (unoffered (done_of (done_with removed_reply c.remove_entry-came.result)) refl c.remove_entry-came.ensures.done)
+    (endless refl) c.objects-before.ensures.heap c.objects-after.ensures.heap
+    (unoffered (done_of (done_with removed_reply c.remove_entry-came.result)) refl
+    c.remove_entry-came.ensures.done)
 
 pub returns : goal.returns
 returns g c =
     run-called (cmd.CRemove c.args.k) c.self.invariant c.self.view_is c.requires.caller c.requires.register tt
-    (endless refl) c.objects-before.ensures.heap c.objects-after.ensures.heap (unoffered (done_of (done_with removed_reply c.remove_entry-came.result)) refl c.remove_entry-came.ensures.done)
+    (endless refl) c.objects-before.ensures.heap c.objects-after.ensures.heap
+    (unoffered (done_of (done_with removed_reply c.remove_entry-came.result)) refl
+    c.remove_entry-came.ensures.done)

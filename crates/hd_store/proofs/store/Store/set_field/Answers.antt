@@ -11,12 +11,16 @@ set_field-came-requires-clause-object c =
 
 pub invariant_of-self : goal.invariant_of-self
 invariant_of-self c =
-    sound-on (cmd.Set c.args.o c.args.i c.args.v) (done_with (λ _. reply.Done) c.set_field-came.result) c.self.invariant c.self.view_is c.requires.caller
-    (c.requires.registers.0, omega (arith, c.ranges.i.fits), c.requires.registers.1) (endless refl) c.objects-before.ensures.heap c.objects-after.ensures.heap
+    sound-on (cmd.Set c.args.o c.args.i c.args.v) (done_with (λ _. reply.Done) c.set_field-came.result)
+    c.self.invariant c.self.view_is c.requires.caller
+    (c.requires.registers.0, omega (arith, c.ranges.i.fits), c.requires.registers.1) (endless refl)
+    c.objects-before.ensures.heap c.objects-after.ensures.heap
     refl refl refl refl c.set_field-came.ensures (unaged _ _)
 
 pub returns : goal.returns
 returns c =
-    called (cmd.Set c.args.o c.args.i c.args.v) (done_with (λ _. reply.Done) c.set_field-came.result) c.self.invariant c.self.view_is c.requires.caller
-    (c.requires.registers.0, omega (arith, c.ranges.i.fits), c.requires.registers.1) (endless refl) c.objects-before.ensures.heap c.objects-after.ensures.heap
+    called (cmd.Set c.args.o c.args.i c.args.v) (done_with (λ _. reply.Done) c.set_field-came.result)
+    c.self.invariant c.self.view_is c.requires.caller
+    (c.requires.registers.0, omega (arith, c.ranges.i.fits), c.requires.registers.1) (endless refl)
+    c.objects-before.ensures.heap c.objects-after.ensures.heap
     refl refl refl refl c.set_field-came.ensures (unaged _ _)

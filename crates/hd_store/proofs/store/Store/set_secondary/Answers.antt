@@ -8,12 +8,14 @@ live_handle-handle-requires-clause-handles c = has-handles c.self.inside.content
 
 pub invariant_of-self : goal.invariant_of-self
 invariant_of-self c =
-    (sets-secondary c.args.slot (done_with (λ _. reply.Done) c.set_secondary_of-came.result) c.self.invariant c.self.view_is c.requires.caller
+    (sets-secondary c.args.slot (done_with (λ _. reply.Done) c.set_secondary_of-came.result)
+    c.self.invariant c.self.view_is c.requires.caller
     c.objects-before.ensures.heap c.objects-after.ensures.heap
     c.live_handle-handle.ensures.is c.args.s c.requires.register c.set_secondary_of-came.ensures).0
 
 pub returns : goal.returns
 returns c =
-    (sets-secondary c.args.slot (done_with (λ _. reply.Done) c.set_secondary_of-came.result) c.self.invariant c.self.view_is c.requires.caller
+    (sets-secondary c.args.slot (done_with (λ _. reply.Done) c.set_secondary_of-came.result)
+    c.self.invariant c.self.view_is c.requires.caller
     c.objects-before.ensures.heap c.objects-after.ensures.heap
     c.live_handle-handle.ensures.is c.args.s c.requires.register c.set_secondary_of-came.ensures).1

@@ -8,12 +8,14 @@ live_handle-handle-requires-clause-handles c = has-handles c.self.inside.content
 
 pub invariant_of-self : goal.invariant_of-self
 invariant_of-self c =
-    (sets-strength c.args.slot (done_with (λ _. reply.Done) c.set_strength_of-came.result) c.self.invariant c.self.view_is c.requires.caller
+    (sets-strength c.args.slot (done_with (λ _. reply.Done) c.set_strength_of-came.result) c.self.invariant
+    c.self.view_is c.requires.caller
     c.objects-before.ensures.heap c.objects-after.ensures.heap
     c.live_handle-handle.ensures.is c.args.to c.set_strength_of-came.ensures).0
 
 pub returns : goal.returns
 returns c =
-    (sets-strength c.args.slot (done_with (λ _. reply.Done) c.set_strength_of-came.result) c.self.invariant c.self.view_is c.requires.caller
+    (sets-strength c.args.slot (done_with (λ _. reply.Done) c.set_strength_of-came.result) c.self.invariant
+    c.self.view_is c.requires.caller
     c.objects-before.ensures.heap c.objects-after.ensures.heap
     c.live_handle-handle.ensures.is c.args.to c.set_strength_of-came.ensures).1

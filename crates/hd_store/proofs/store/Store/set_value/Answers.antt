@@ -11,12 +11,16 @@ set_value-came-requires-clause-object c =
 
 pub invariant_of-self : goal.invariant_of-self
 invariant_of-self c =
-    sound-on (cmd.Val c.args.o c.args.n) (done_with (λ _. reply.Done) c.set_value-came.result) c.self.invariant c.self.view_is c.requires.caller
-    (c.requires.register, omega (arith, c.ranges.n.fits)) (endless refl) c.objects-before.ensures.heap c.objects-after.ensures.heap
+    sound-on (cmd.Val c.args.o c.args.n) (done_with (λ _. reply.Done) c.set_value-came.result)
+    c.self.invariant c.self.view_is c.requires.caller
+    (c.requires.register, omega (arith, c.ranges.n.fits)) (endless refl) c.objects-before.ensures.heap
+    c.objects-after.ensures.heap
     refl refl refl refl c.set_value-came.ensures (unaged _ _)
 
 pub returns : goal.returns
 returns c =
-    called (cmd.Val c.args.o c.args.n) (done_with (λ _. reply.Done) c.set_value-came.result) c.self.invariant c.self.view_is c.requires.caller
-    (c.requires.register, omega (arith, c.ranges.n.fits)) (endless refl) c.objects-before.ensures.heap c.objects-after.ensures.heap
+    called (cmd.Val c.args.o c.args.n) (done_with (λ _. reply.Done) c.set_value-came.result)
+    c.self.invariant c.self.view_is c.requires.caller
+    (c.requires.register, omega (arith, c.ranges.n.fits)) (endless refl) c.objects-before.ensures.heap
+    c.objects-after.ensures.heap
     refl refl refl refl c.set_value-came.ensures (unaged _ _)

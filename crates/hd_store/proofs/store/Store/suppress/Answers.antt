@@ -11,12 +11,14 @@ set_registered-came-requires-clause-object c =
 
 pub invariant_of-self : goal.invariant_of-self
 invariant_of-self c =
-    sound-on (cmd.Suppress c.args.o) (done_with (λ _. reply.Done) c.set_registered-came.result) c.self.invariant c.self.view_is c.requires.caller
+    sound-on (cmd.Suppress c.args.o) (done_with (λ _. reply.Done) c.set_registered-came.result)
+    c.self.invariant c.self.view_is c.requires.caller
     c.requires.register (endless refl) c.objects-before.ensures.heap c.objects-after.ensures.heap
     refl refl refl refl c.set_registered-came.ensures (unaged _ _)
 
 pub returns : goal.returns
 returns c =
-    called (cmd.Suppress c.args.o) (done_with (λ _. reply.Done) c.set_registered-came.result) c.self.invariant c.self.view_is c.requires.caller
+    called (cmd.Suppress c.args.o) (done_with (λ _. reply.Done) c.set_registered-came.result)
+    c.self.invariant c.self.view_is c.requires.caller
     c.requires.register (endless refl) c.objects-before.ensures.heap c.objects-after.ensures.heap
     refl refl refl refl c.set_registered-came.ensures (unaged _ _)
