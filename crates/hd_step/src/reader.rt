@@ -1,6 +1,6 @@
 // Lines of a source, each as soon as it is there: nothing is read while a whole line is at hand.
-ghost use Rattle.std.specs.Prelude.{◌≡◌, ◌+◌, ◌≤◌, ◌<◌, [], ◌++◌, None, false, true, drop};
-ghost use Rattle.std.specs.Prelude.{length, take, position, IfOk, IfSome, IsErrOf};
+ghost use Rattle.std.specs.Prelude.{◌≡◌, ◌+◌, ◌-◌, ◌≤◌, ◌<◌, [], ◌++◌, None, false, true, drop};
+ghost use Rattle.std.specs.Prelude.{length, take, position, IfErr, IfOk, IfSome, IsErrOf};
 ghost use Rattle.std.specs.Io.KnownBytes.{IsAtEnd};
 ghost use Rattle.hd_io.specs.Source.{GaveCount, ReadBrokeOff, ReadFailed};
 ghost use Rattle.hd_model.specs.declared.limits.TheConstants.{MOST_BYTES};
@@ -171,22 +171,51 @@ impl Reader {
     {
         let mut chunk = [0; CHUNK];
         let asked = CHUNK.min(self.room + 1);
-        let Ok(count) = source.read(&mut chunk[..asked]) else {
-            return Err(ReadFault::Failed);
-        };
-        if count == 0 {
+        match source.read(&mut chunk[..asked]) {
+            Ok(count) => self.take_in(&chunk[..count]),
+            Err(_) => Err(ReadFault::Failed),
+        }
+    }
+
+    // Notes the end where nothing was read, or puts what was behind the bytes at hand.
+    #[inline(always)]
+    fn take_in(&mut self, read: &[u8]) -> Result<usize, ReadFault>
+        requires more { self.old.ended ≡ false }
+        requires few { length read.now ≤ self.old.room + 1 }
+        ensures count { IfOk result (λ n. n ≡ length read.now) }
+        ensures hand { IfOk result (λ _. self.new.bytes ≡ self.old.bytes ++ read.now) }
+        ensures room { IfOk result (λ _. self.new.room + length read.now ≡ self.old.room) }
+        ensures some { IfOk result (λ n. 0 < n → self.new.ended ≡ false) }
+        ensures none { IfOk result (λ n. n ≡ 0 → self.new ≡ record self.old { ended = true }) }
+        ensures unfailed { IsErrOf result ReadFault.Failed → ⊥ }
+        ensures too_long { IsErrOf result ReadFault.TooLong → length read.now ≡ self.old.room + 1 }
+        ensures memory { IsErrOf result ReadFault.Memory → length read.now ≤ self.old.room }
+    {
+        if read.is_empty() {
             self.is_at_end = true;
             return Ok(0);
         }
-        if count > self.room {
+        if read.len() > self.room {
             return Err(ReadFault::TooLong);
         }
+        self.keep(read)
+    }
+
+    // Puts bytes behind those at hand.
+    #[inline(always)]
+    fn keep(&mut self, read: &[u8]) -> Result<usize, ReadFault>
+        requires { length read.now ≤ self.old.room }
+        ensures count { IfOk result (λ n. n ≡ length read.now) }
+        ensures kept { IfOk result (λ _. self.new ≡ record self.old
+            { bytes = self.old.bytes ++ read.now; room = self.old.room - length read.now }) }
+        ensures memory { IfErr result (λ fault. fault ≡ ReadFault.Memory) }
+    {
         self.compact();
-        if self.bytes.extend_from_slice(&chunk[..count]).is_err() {
+        if self.bytes.extend_from_slice(read).is_err() {
             return Err(ReadFault::Memory);
         }
-        self.room -= count;
-        Ok(count)
+        self.room -= read.len();
+        Ok(read.len())
     }
 
     // Moves the bytes at hand to the front.

@@ -23,6 +23,14 @@ pub returns-in-Err-clause-memory : goal.returns-in-Err-clause-memory
 returns-in-Err-clause-memory g c = λ is.
     memory_more _ _ _ _ _ c.reading.invariant.filled (c.in-Err.ensures.memory is)
 
+pub returns-then-count-eq0-clause-filled : goal.returns-then-count-eq0-clause-filled
+returns-then-count-eq0-clause-filled g c =
+    filled_more _ _ _ _ _ _ c.reading.invariant.filled c.in-Ok.ensures.filled
+
+pub returns-in-Some-clause-filled : goal.returns-in-Some-clause-filled
+returns-in-Some-clause-filled g c =
+    filled_more _ _ _ _ _ _ c.reading.invariant.filled c.in-Ok.ensures.filled
+
 pub returns-in-Some-clause-first : goal.returns-in-Some-clause-first
 returns-in-Some-clause-first g c =
     let had = c.len-had.result in
