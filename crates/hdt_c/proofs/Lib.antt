@@ -3,3 +3,4 @@ pub mod Listings
 pub mod Makes
 pub mod LooseBoxes
 pub mod HeldBoxes
+pub mod HeaderNumbers

@@ -4,3 +4,4 @@ pub mod Status
 pub mod Arguments
 pub mod Exports
 pub mod Outs
+pub mod Numbers
