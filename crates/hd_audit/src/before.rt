@@ -19,7 +19,7 @@ use hd_commands::on_handles::pinned_in;
 use hd_commands::{Done, Parts, entry_of};
 use hd_model::limits::HEADER;
 use hd_model::{Cmd, Entry, Grown, Id, Kind, Memory, Refusal, Reply, Slot};
-use hd_plain::{has_one_step, is_all_free, is_free};
+use hd_plain::{is_all_free, is_free};
 use hd_print::{Line, end_line};
 use hd_script::Scripts;
 use std::alloc::Global;
@@ -154,15 +154,38 @@ impl<'a> Before<'a> {
         requires valid { IsValid cmd }
         ensures { MayHave self.now.numbers self.now.state caller cmd result }
     {
-        if has_one_step(cmd) {
-            return Entries::OfTheStep;
-        }
         match cmd {
             Cmd::HNew { d: _, make, t: _ } => Entries::InSlot(make.kind()),
             Cmd::Trim { kind } => Entries::OfBlock(kind),
             Cmd::CAdd { k, v } => self.adding_entries(caller, k, v),
             Cmd::AddrOf { s } => self.address_entries(caller, s),
-            _ => unreachable!(),
+            Cmd::New { .. }
+            | Cmd::Set { .. }
+            | Cmd::Get { .. }
+            | Cmd::Val { .. }
+            | Cmd::Read { .. }
+            | Cmd::Copy { .. }
+            | Cmd::Clear { .. }
+            | Cmd::SPut { .. }
+            | Cmd::SGet { .. }
+            | Cmd::Gen { .. }
+            | Cmd::Suppress { .. }
+            | Cmd::Reregister { .. }
+            | Cmd::Final { .. }
+            | Cmd::Collect { .. }
+            | Cmd::HGet { .. }
+            | Cmd::HSet { .. }
+            | Cmd::HSec { .. }
+            | Cmd::HDep { .. }
+            | Cmd::HVar { .. }
+            | Cmd::HFree { .. }
+            | Cmd::HPut { .. }
+            | Cmd::HPick { .. }
+            | Cmd::HUp { .. }
+            | Cmd::HDown { .. }
+            | Cmd::CFind { .. }
+            | Cmd::CRemove { .. }
+            | Cmd::GcRoot { .. } => Entries::OfTheStep,
         }
     }
 
