@@ -1,5 +1,7 @@
 // The callers of a script in threads of their own.
-ghost use Rattle.std.specs.Prelude.{◌≡◌, ◌<◌, ◌≤◌, [], length, map, All, Any, IfOk, MatchBool};
+ghost use Rattle.std.specs.Prelude.{◌≡◌, ◌<◌, ◌≤◌, [], length, map, sum, All, Any, IfOk, MatchBool};
+ghost use Rattle.hd_gate.specs.Shared.{AreAll, Begin};
+ghost use Rattle.hd_model.specs.State.{start_of};
 ghost use Rattle.hd_run.specs.{Bounds.numbers_for, Ending.RunCause, Modes.in_threads, Turns.list_of, Inside.Keeps};
 ghost use Rattle.hd_run.specs.Inside.{IsReadyToPlay, AreReadyToPlay, HasPlayed, HavePlayed};
 
@@ -10,6 +12,7 @@ use hd_gate::{Caller, Callers, Shared};
 use hd_io::Pace;
 use hd_model::Memory;
 use hd_script::Scripts;
+use hd_world::World;
 use std::alloc::{AllocError, Global};
 use std::sync::Wait;
 use std::thread;
@@ -57,8 +60,20 @@ impl Team {
         let Ok(rooms) = rooms(alloc, scripts) else {
             return Err(Memory);
         };
-        let world = limits.open(alloc, scripts)?;
-        let (shared, callers) = Shared::open(alloc, world, limits.blocks, &rooms)?;
+        Team::share(alloc, limits.open(alloc, scripts)?, limits.blocks, &rooms)
+    }
+
+    // Shares a world in which nothing was done among callers with these rooms.
+    fn share(alloc: Global, world: World, blocks: u32, rooms: &[u32]) -> Result<Team, Memory>
+        requires start { (world.state ≡ start_of world.numbers) × (world.journal ≡ []) }
+        requires same { blocks ≡ world.numbers.blocks }
+        requires callers { length rooms.now ≡ world.numbers.callers }
+        requires rooms { sum rooms.now ≤ world.spare }
+        ensures numbers { IfOk result (λ t. t.shared.numbers ≡ world.numbers) }
+        ensures all { IfOk result (λ t. AreAll t.shared t.callers) }
+        ensures begin { IfOk result (λ t. Begin rooms.now t.callers) }
+    {
+        let (shared, callers) = Shared::open(alloc, world, blocks, rooms)?;
         Ok(Team { shared, callers })
     }
 

@@ -1,15 +1,15 @@
 // Callers of `run` and `load` that are held until all have come.
 use crate::audits::read;
-use crate::row::{ROOM, status_at, streams};
+use crate::row::{status, status_at, streams};
 use crate::same::same;
 use hd_io::{MemorySink, Pace};
+use hd_model::Memory;
 use hd_model::limits::{BLOCKS, HEAP};
 use hd_run::run;
 use hd_script::Scripts;
 use std::alloc::Global;
 use std::sync::Wait;
 use std::sync::atomic::{AtomicU64, Ordering};
-use std::test::Fail;
 use std::thread::Threads;
 
 // Holds each of some callers before its second command until all have come to their own.
@@ -62,36 +62,37 @@ pub(crate) fn run_status<R: Threads + Wait + Sync, P: Pace>(
     sink: &mut MemorySink,
     pace: &P,
 ) -> u8 {
-    run(rt, alloc, scripts, HEAP, BLOCKS, full, sink, pace).status
+    status(run(rt, alloc, scripts, HEAP, BLOCKS, full, sink, pace))
 }
 
 #[test]
-fn two_callers_meet(rt: HostRuntime) -> Result<(), Fail> {
+fn two_callers_meet(rt: HostRuntime) -> Result<(), Memory> {
     let alloc = rt.alloc();
+    let mut ends = streams(alloc, &[], &[], &[])?;
     let scripts = read(
         &rt,
         alloc,
         b"new r0 0\nread r0\ncaller 1\nnew r0 0\nread r0\n",
-    )?;
-    let mut sink = MemorySink::open(alloc, ROOM, &[])?;
+    );
     let pace = Meeting::of(2);
     same(
         &rt,
-        run_status(&rt, alloc, &scripts, false, &mut sink, &pace),
+        run_status(&rt, alloc, &scripts, false, &mut ends.sink, &pace),
         0,
     );
     assert!(rt; pace.met());
     Ok(())
 }
 
+static LOAD: [&str; 3] = ["load", "--rounds", "1"];
+
 #[test]
-fn the_callers_of_a_load_meet(rt: HostRuntime) -> Result<(), Fail> {
-    let (mut source, mut sink) = streams(rt.alloc(), &[], &[], &[])?;
-    let words: &[&str] = &["load", "--rounds", "1"];
+fn the_callers_of_a_load_meet(rt: HostRuntime) -> Result<(), Memory> {
+    let mut ends = streams(rt.alloc(), &[], &[], &[])?;
     let pace = Meeting::of(4);
     same(
         &rt,
-        status_at(&rt, words, &mut source, &mut sink, &pace)?,
+        status_at(&rt, &LOAD, &mut ends.source, &mut ends.sink, &pace)?,
         0,
     );
     assert!(rt; pace.met());

@@ -1,24 +1,43 @@
 // Runs of the program over memory. None of these helpers has a clause, so that no test carries what
-// the calls promise.
+// the calls promise. Each returns `Memory`, since a `?` that makes another error of it is dear.
 use crate::same::same;
 use hd_io::{MemorySink, MemorySource, NoPace, Pace, Sink, Source};
-use hd_run::top;
+use hd_model::Memory;
+use hd_run::{Outcome, top};
 use std::alloc::{AllocError, Global};
 use std::process::Abort;
 use std::sync::Wait;
-use std::test::Fail;
 use std::thread::Threads;
 
 /// A run: the words after the program's name, the script and all that is written, each with `;` for
 /// a line end, and the status.
 pub(crate) type Row = (&'static [&'static str], &'static str, u8, &'static str);
 
+/// The words of a run by one thread. A table with references is a static, since a constant is made
+/// again, and proved, wherever it is named.
+pub(crate) static SOLO: [&str; 1] = ["solo"];
+
+/// Where a run reads and writes. What it has is let go by one call, wherever a test ends.
+pub(crate) struct Ends {
+    pub(crate) source: MemorySource,
+    pub(crate) sink: MemorySink,
+}
+
+impl Drop for Ends {
+    fn drop(self) {
+        let Ends {
+            source: _source,
+            sink: _sink,
+        } = self;
+    }
+}
+
 /// The room for what is written, in bytes.
 pub(crate) const ROOM: u32 = 65_536;
 
 /// The bytes of a text, with a line end in place of each `;`.
-pub(crate) fn lines(alloc: Global, text: &str) -> Result<Vec<u8>, AllocError> {
-    let mut bytes = text.as_bytes().to_vec(alloc)?;
+pub(crate) fn lines(alloc: Global, text: &[u8]) -> Result<Vec<u8>, AllocError> {
+    let mut bytes = text.to_vec(alloc)?;
     for byte in &mut bytes {
         if *byte == b';' {
             *byte = b'\n';
@@ -37,6 +56,11 @@ fn words_of(alloc: Global, words: &[&str]) -> Result<Vec<String>, AllocError> {
     Ok(all)
 }
 
+/// The status of a run. What the run keeps is let go here alone.
+pub(crate) fn status(outcome: Outcome) -> u8 {
+    outcome.status
+}
+
 /// Runs the program at a pace, and returns its status.
 pub(crate) fn status_at<R, S, K, P>(
     rt: &R,
@@ -44,15 +68,17 @@ pub(crate) fn status_at<R, S, K, P>(
     source: &mut S,
     sink: &mut K,
     pace: &P,
-) -> Result<u8, AllocError>
+) -> Result<u8, Memory>
 where
     R: AllocGlobal + Threads + Wait + Sync,
     S: Source,
     K: Sink,
     P: Pace,
 {
-    let words = words_of(rt.alloc(), words)?;
-    Ok(top(rt, rt.alloc(), &words, source, sink, pace).status)
+    let Ok(words) = words_of(rt.alloc(), words) else {
+        return Err(Memory);
+    };
+    Ok(status(top(rt, rt.alloc(), &words, source, sink, pace)))
 }
 
 /// Runs the program, and returns its status.
@@ -61,7 +87,7 @@ pub(crate) fn status_of<R, S, K>(
     words: &[&str],
     source: &mut S,
     sink: &mut K,
-) -> Result<u8, AllocError>
+) -> Result<u8, Memory>
 where
     R: AllocGlobal + Threads + Wait + Sync,
     S: Source,
@@ -76,36 +102,59 @@ pub(crate) fn streams(
     input: &[u8],
     unread: &[u32],
     unwritten: &[u32],
-) -> Result<(MemorySource, MemorySink), Fail> {
+) -> Result<Ends, Memory> {
     let source = MemorySource::open(alloc, input, unread)?;
-    Ok((source, MemorySink::open(alloc, ROOM, unwritten)?))
+    let sink = MemorySink::open(alloc, ROOM, unwritten)?;
+    Ok(Ends { source, sink })
+}
+
+/// The same for a script with `;` for a line end.
+pub(crate) fn streams_of(
+    alloc: Global,
+    script: &str,
+    unread: &[u32],
+    unwritten: &[u32],
+) -> Result<Ends, Memory> {
+    let Ok(input) = lines(alloc, script.as_bytes()) else {
+        return Err(Memory);
+    };
+    streams(alloc, &input, unread, unwritten)
+}
+
+// A sink has this text, which has `;` for a line end.
+fn has_text<R: Abort + AllocGlobal>(rt: &R, sink: &MemorySink, text: &[u8]) -> Result<(), Memory> {
+    let Ok(text) = lines(rt.alloc(), text) else {
+        return Err(Memory);
+    };
+    same(rt, sink.written(), Some(text.as_slice()));
+    Ok(())
 }
 
 /// Runs the program over a source and a sink: its status and what it writes must be these.
 pub(crate) fn comes_to<R>(
     rt: &R,
     words: &[&str],
-    ends: &mut (MemorySource, MemorySink),
+    ends: &mut Ends,
     status: u8,
     text: &[u8],
-) -> Result<(), Fail>
+) -> Result<(), Memory>
 where
     R: Abort + AllocGlobal + Threads + Wait + Sync,
 {
-    let found = status_of(rt, words, &mut ends.0, &mut ends.1)?;
-    same(rt, found, status);
-    same(rt, ends.1.written(), Some(text));
-    Ok(())
+    same(
+        rt,
+        status_of(rt, words, &mut ends.source, &mut ends.sink)?,
+        status,
+    );
+    has_text(rt, &ends.sink, text)
 }
 
 /// Does a row, where reads and writes of these numbers fail.
-pub(crate) fn fails<R>(rt: &R, row: Row, unread: &[u32], unwritten: &[u32]) -> Result<(), Fail>
+pub(crate) fn fails<R>(rt: &R, row: Row, unread: &[u32], unwritten: &[u32]) -> Result<(), Memory>
 where
     R: Abort + AllocGlobal + Threads + Wait + Sync,
 {
     let (words, script, status, text) = row;
-    let input = lines(rt.alloc(), script)?;
-    let text = lines(rt.alloc(), text)?;
-    let mut ends = streams(rt.alloc(), &input, unread, unwritten)?;
-    comes_to(rt, words, &mut ends, status, &text)
+    let mut ends = streams_of(rt.alloc(), script, unread, unwritten)?;
+    comes_to(rt, words, &mut ends, status, text.as_bytes())
 }

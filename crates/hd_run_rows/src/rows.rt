@@ -1,12 +1,12 @@
 // Worked rows: scripts, and all that the program writes for them, each with `;` for a line end.
-use crate::row::{Row, fails};
+use crate::row::{Row, SOLO, fails};
+use hd_model::Memory;
 use std::process::Abort;
 use std::sync::Wait;
-use std::test::Fail;
 use std::thread::Threads;
 
 // What registers, statics, the board and handles hold, and what is refused.
-const WITHOUT_COLLECTIONS: [(&str, &str); 9] = [
+static WITHOUT_COLLECTIONS: [(&str, &str); 9] = [
     ("", "end handles 0 objects 0 collections 0;"),
     (
         "hget r0 h0;hnew h0 strong r0;hget r1 h0;",
@@ -53,7 +53,7 @@ const WITHOUT_COLLECTIONS: [(&str, &str); 9] = [
 ];
 
 // What handles of each kind keep, and what they lose.
-const HELD: [(&str, &str); 10] = [
+static HELD: [(&str, &str); 10] = [
     (
         "new r0 2;hnew h0 strong r0;drop r0;collect 2;hget r1 h0;",
         "0 1 obj 0.1;0 2 ok;0 3 ok;0 4 kept 1 removed 0 short 0 long 0 dep 0 revived 0;\
@@ -121,7 +121,7 @@ const HELD: [(&str, &str); 10] = [
 
 // What is finalized, and what handles reference before and after. Collections of all generations
 // reply the same.
-const FINALIZED: [(&str, &str); 7] = [
+static FINALIZED: [(&str, &str); 7] = [
     (
         "new r0 0 fin;hnew h0 short r0;hnew h1 long r0;drop r0;collect 0;hget r1 h0;hget r2 h1;",
         "0 1 obj 0.1;0 2 ok;0 3 ok;0 4 ok;0 5 kept 1 removed 0 short 1 long 0 dep 0 revived 1;\
@@ -173,7 +173,7 @@ const FINALIZED: [(&str, &str); 7] = [
 ];
 
 // Objects that grow older and move.
-const OLDER: [(&str, &str); 6] = [
+static OLDER: [(&str, &str); 6] = [
     (
         "new r0 0;collect 0;collect 1;gen r0;hnew h0 short r0;drop r0;collect 1;hget r1 h0;\
          drop r1;collect 2;hget r1 h0;",
@@ -223,7 +223,7 @@ const OLDER: [(&str, &str); 6] = [
 ];
 
 // From which anchor an object is reached, and over how many edges.
-const ROOTED: [(&str, &str); 2] = [
+static ROOTED: [(&str, &str); 2] = [
     (
         "new r0 1;new r1 0;set r0 0 r1;sput 3 r0;gcroot r1;gcroot r0;new r2 0;gcroot r2;\
          gcroot r3;",
@@ -242,7 +242,7 @@ const USAGE: &str =
     "usage: hdt solo|run|load|roots|audit [--heap CELLS] [--blocks COUNT] [--rounds N] [--slots];";
 
 // Limits of the heap and of blocks, which the words name: one caller alone meets them.
-const LIMITED: [Row; 3] = [
+static LIMITED: [Row; 3] = [
     (
         &["solo", "--heap", "10"],
         "new r0 7;new r1 0;drop r0;collect 0;new r1 0;",
@@ -266,7 +266,7 @@ const LIMITED: [Row; 3] = [
 ];
 
 // Lists of roots, and the lines of loads.
-const LISTED: [Row; 4] = [
+static LISTED: [Row; 4] = [
     (
         &["roots"],
         "new r0 0;hnew h0 short r0;hnew h1 strong r0;hnew h2 var r0 pinned;",
@@ -295,7 +295,7 @@ const LISTED: [Row; 4] = [
 ];
 
 // A text that is that of a run, and others, which are no run from some line on.
-const JUDGED: [Row; 5] = [
+static JUDGED: [Row; 5] = [
     (
         &["audit"],
         "new r0 0;hnew h0 strong r0;=;0 1 obj 0.1;0 2 ok @64 +1;\
@@ -333,7 +333,7 @@ const JUDGED: [Row; 5] = [
 
 // Words that are not valid, lines that have no reading, and scripts that end in the middle of a
 // command.
-const REFUSED: [Row; 8] = [
+static REFUSED: [Row; 8] = [
     (&[], "new r0 0;", 2, USAGE),
     (&["walk"], "new r0 0;", 2, USAGE),
     (
@@ -365,18 +365,28 @@ const REFUSED: [Row; 8] = [
 ];
 
 // Does scripts by `hdt solo`.
-fn solo<R>(rt: &R, rows: &[(&'static str, &'static str)]) -> Result<(), Fail>
+fn solo<R>(rt: &R, rows: &[(&'static str, &'static str)]) -> Result<(), Memory>
 where
     R: Abort + AllocGlobal + Threads + Wait + Sync,
 {
     for (script, text) in rows {
-        fails(rt, (&["solo"], script, 0, text), &[], &[])?;
+        fails(rt, (&SOLO, script, 0, text), &[], &[])?;
+    }
+    Ok(())
+}
+
+fn solo_all<R>(rt: &R, parts: &[&[(&'static str, &'static str)]]) -> Result<(), Memory>
+where
+    R: Abort + AllocGlobal + Threads + Wait + Sync,
+{
+    for part in parts {
+        solo(rt, *part)?;
     }
     Ok(())
 }
 
 // Does rows in which no stream fails.
-fn all<R>(rt: &R, rows: &[Row]) -> Result<(), Fail>
+fn run<R>(rt: &R, rows: &[Row]) -> Result<(), Memory>
 where
     R: Abort + AllocGlobal + Threads + Wait + Sync,
 {
@@ -386,20 +396,24 @@ where
     Ok(())
 }
 
-#[test]
-fn scripts_have_their_text(rt: HostRuntime) -> Result<(), Fail> {
-    let rows: [&[(&str, &str)]; 5] = [&WITHOUT_COLLECTIONS, &HELD, &FINALIZED, &OLDER, &ROOTED];
-    for part in rows {
-        solo(&rt, part)?;
+fn run_all<R>(rt: &R, parts: &[&[Row]]) -> Result<(), Memory>
+where
+    R: Abort + AllocGlobal + Threads + Wait + Sync,
+{
+    for part in parts {
+        run(rt, *part)?;
     }
     Ok(())
 }
 
 #[test]
-fn words_have_their_status_and_text(rt: HostRuntime) -> Result<(), Fail> {
+fn scripts_have_their_text(rt: HostRuntime) -> Result<(), Memory> {
+    let rows: [&[(&str, &str)]; 5] = [&WITHOUT_COLLECTIONS, &HELD, &FINALIZED, &OLDER, &ROOTED];
+    solo_all(&rt, &rows)
+}
+
+#[test]
+fn words_have_their_status_and_text(rt: HostRuntime) -> Result<(), Memory> {
     let rows: [&[Row]; 4] = [&LIMITED, &LISTED, &JUDGED, &REFUSED];
-    for part in rows {
-        all(&rt, part)?;
-    }
-    Ok(())
+    run_all(&rt, &rows)
 }

@@ -1,11 +1,11 @@
 // Reads and writes that fail or move few bytes, the limits of a script, and long runs.
-use crate::row::{ROOM, Row, comes_to, fails, lines, status_of, streams};
+use crate::row::{Ends, Row, SOLO, comes_to, fails, lines, status_of, streams, streams_of};
 use crate::same::same;
-use hd_io::{MemorySink, MemorySource, StillSink, StillSource};
+use hd_io::{StillSink, StillSource};
+use hd_model::Memory;
 use std::alloc::{AllocError, Global};
 use std::process::Abort;
 use std::sync::Wait;
-use std::test::Fail;
 use std::thread::Threads;
 
 /// A host that uses all kinds: a service in a static, a pinned buffer, a weak cache entry, and a
@@ -24,26 +24,20 @@ const HOST_TEXT: &str =
      0 22 ok;0 23 obj 0.1;0 24 ok;0 25 kept 2 removed 3 short 1 long 1 dep 1 revived 0;\
      0 26 obj 0.2;0 27 value 4096;end handles 4 objects 2 collections 2;";
 
-// The host's bytes, and those that it writes.
-fn host(alloc: Global) -> Result<(Vec<u8>, Vec<u8>), AllocError> {
-    let input = lines(alloc, HOST)?;
-    Ok((input, lines(alloc, HOST_TEXT)?))
-}
-
 // The host's lines, its last one among them: each is a write.
 const HOST_LINES: u32 = 28;
 
 // The room for the lines of the longest script, in bytes.
 const LONG_ROOM: u32 = 2_000_000;
 
-// The first lines of a text, or all where it has no more.
+// The first lines of a text with `;` for a line end, or all where it has no more.
 fn first_lines(text: &[u8], lines: u32) -> &[u8] {
     let mut left = lines;
     for (at, byte) in text.iter().enumerate() {
         if left == 0 {
             return &text[..at];
         }
-        if *byte == b'\n' {
+        if *byte == b';' {
             left -= 1;
         }
     }
@@ -51,40 +45,41 @@ fn first_lines(text: &[u8], lines: u32) -> &[u8] {
 }
 
 // Runs the host, of which one write fails: the lines before it are written.
-fn host_fails_at<R>(rt: &R, input: &[u8], text: &[u8], number: u32) -> Result<(), Fail>
+fn host_fails_at<R>(rt: &R, number: u32) -> Result<(), Memory>
 where
     R: Abort + AllocGlobal + Threads + Wait + Sync,
 {
-    let mut ends = streams(rt.alloc(), input, &[], &[number])?;
-    let written = first_lines(text, number.saturating_sub(1));
-    comes_to(rt, &["solo"], &mut ends, 5, written)
+    let mut ends = streams_of(rt.alloc(), HOST, &[], &[number])?;
+    let written = first_lines(HOST_TEXT.as_bytes(), number.saturating_sub(1));
+    comes_to(rt, &SOLO, &mut ends, 5, written)
 }
 
 #[test]
-fn each_write_of_a_run_fails_in_turn(rt: HostRuntime) -> Result<(), Fail> {
-    let (input, text) = host(rt.alloc())?;
+fn each_write_of_a_run_fails_in_turn(rt: HostRuntime) -> Result<(), Memory> {
     for number in 1..=HOST_LINES {
-        host_fails_at(&rt, &input, &text, number)?;
+        host_fails_at(&rt, number)?;
     }
     Ok(())
 }
 
 // Has each read and each write move one byte.
-fn move_single_bytes(ends: &mut (MemorySource, MemorySink)) {
-    ends.0.set_most(1);
-    ends.1.set_most(1);
+fn move_single_bytes(ends: &mut Ends) {
+    ends.source.set_most(1);
+    ends.sink.set_most(1);
 }
 
 #[test]
-fn a_host_runs_by_single_bytes(rt: HostRuntime) -> Result<(), Fail> {
-    let (input, text) = host(rt.alloc())?;
-    let mut ends = streams(rt.alloc(), &input, &[], &[])?;
+fn a_host_runs_by_single_bytes(rt: HostRuntime) -> Result<(), Memory> {
+    let mut ends = streams_of(rt.alloc(), HOST, &[], &[])?;
     move_single_bytes(&mut ends);
-    comes_to(&rt, &["solo"], &mut ends, 0, &text)
+    comes_to(&rt, &SOLO, &mut ends, 0, HOST_TEXT.as_bytes())
 }
 
+// A row with the reads and the writes that fail.
+type Failing = (Row, &'static [u32], &'static [u32]);
+
 // Rows with the reads and the writes that fail.
-const FAILING: [(Row, &[u32], &[u32]); 7] = [
+static FAILING: [Failing; 7] = [
     ((&["solo"], HOST, 4, "fault read;"), &[1], &[]),
     (
         (
@@ -116,12 +111,21 @@ const FAILING: [(Row, &[u32], &[u32]); 7] = [
     ((&["audit"], "=;", 5, ""), &[], &[1]),
 ];
 
-#[test]
-fn reads_and_writes_fail(rt: HostRuntime) -> Result<(), Fail> {
-    for (row, unread, unwritten) in FAILING {
-        fails(&rt, row, unread, unwritten)?;
+// Does rows in which streams fail.
+fn fail_all<R>(rt: &R, rows: &[Failing]) -> Result<(), Memory>
+where
+    R: Abort + AllocGlobal + Threads + Wait + Sync,
+{
+    for row in rows {
+        let (row, unread, unwritten) = *row;
+        fails(rt, row, unread, unwritten)?;
     }
     Ok(())
+}
+
+#[test]
+fn reads_and_writes_fail(rt: HostRuntime) -> Result<(), Memory> {
+    fail_all(&rt, &FAILING)
 }
 
 // What is written has this number of bytes, and this end.
@@ -131,6 +135,27 @@ fn ends_so(rt: &impl Abort, written: Option<&[u8]>, bytes: usize, end: &[u8]) {
     assert!(rt; written.ends_with(end));
 }
 
+// Ends that never fail.
+struct StillEnds {
+    source: StillSource,
+    sink: StillSink,
+}
+
+impl Drop for StillEnds {
+    fn drop(self) {
+        let StillEnds {
+            source: _source,
+            sink: _sink,
+        } = self;
+    }
+}
+
+fn still_ends(alloc: Global, input: &[u8]) -> Result<StillEnds, Memory> {
+    let source = StillSource::open(alloc, input)?;
+    let sink = StillSink::open(alloc, LONG_ROOM)?;
+    Ok(StillEnds { source, sink })
+}
+
 // Runs a script over ends that never fail: the status, how many bytes are written, and their end.
 fn is_still<R>(
     rt: &R,
@@ -138,21 +163,32 @@ fn is_still<R>(
     input: &[u8],
     status: u8,
     came: (usize, &[u8]),
-) -> Result<(), Fail>
+) -> Result<(), Memory>
 where
     R: Abort + AllocGlobal + Threads + Wait + Sync,
 {
-    let mut source = StillSource::open(rt.alloc(), input)?;
-    let mut sink = StillSink::open(rt.alloc(), LONG_ROOM)?;
-    same(rt, status_of(rt, words, &mut source, &mut sink)?, status);
-    ends_so(rt, sink.written(), came.0, came.1);
+    let mut ends = still_ends(rt.alloc(), input)?;
+    same(
+        rt,
+        status_of(rt, words, &mut ends.source, &mut ends.sink)?,
+        status,
+    );
+    ends_so(rt, ends.sink.written(), came.0, came.1);
     Ok(())
 }
 
+// The host's bytes, and those that it writes.
+fn host(alloc: Global) -> Result<(Vec<u8>, Vec<u8>), AllocError> {
+    let input = lines(alloc, HOST.as_bytes())?;
+    Ok((input, lines(alloc, HOST_TEXT.as_bytes())?))
+}
+
 #[test]
-fn a_host_runs_over_ends_that_never_fail(rt: HostRuntime) -> Result<(), Fail> {
-    let (input, text) = host(rt.alloc())?;
-    is_still(&rt, &["solo"], &input, 0, (text.len(), &text))
+fn a_host_runs_over_ends_that_never_fail(rt: HostRuntime) -> Result<(), Memory> {
+    let Ok((input, text)) = host(rt.alloc()) else {
+        return Err(Memory);
+    };
+    is_still(&rt, &SOLO, &input, 0, (text.len(), &text))
 }
 
 // The end of a run that leaves nothing.
@@ -169,8 +205,14 @@ type Long = (
     &'static str,
 );
 
-// Lines are numbered, so 100,000 of them have 1,088,895 bytes, and 64 have 503.
-const LONG: [Long; 5] = [
+static RUN: [&str; 1] = ["run"];
+
+// Commands of two callers.
+const PAIR: &str = "caller 0\nhnew h0 strong r0\nhfree h0\ncaller 1\nhnew h0 strong r0\nhfree h0\n";
+
+// Lines are numbered, so 100,000 of them have 1,088,895 bytes, and 64 have 503; those of two callers
+// up to 2,000 each have 18,893.
+static LONG: [Long; 6] = [
     (&["solo"], "drop r0\n", 100_000, 0, 1_088_933, NOTHING),
     (
         &["solo"],
@@ -190,58 +232,45 @@ const LONG: [Long; 5] = [
         559,
         "0 65 tablefull 1\nend handles 64 objects 0 collections 0\n",
     ),
+    (&["run"], PAIR, 1_000, 0, 37_824, NOTHING),
 ];
 
 // Does a long script.
-fn is_long<R>(rt: &R, long: Long) -> Result<(), Fail>
+fn is_long<R>(rt: &R, long: Long) -> Result<(), Memory>
 where
     R: Abort + AllocGlobal + Threads + Wait + Sync,
 {
     let (words, piece, times, status, bytes, end) = long;
-    let input = piece.as_bytes().repeat(rt.alloc(), times)?;
+    let Ok(input) = piece.as_bytes().repeat(rt.alloc(), times) else {
+        return Err(Memory);
+    };
     is_still(rt, words, &input, status, (bytes, end.as_bytes()))
 }
 
-#[test]
-fn the_largest_scripts_are_run(rt: HostRuntime) -> Result<(), Fail> {
-    for long in LONG {
-        is_long(&rt, long)?;
+fn are_long<R>(rt: &R, all: &[Long]) -> Result<(), Memory>
+where
+    R: Abort + AllocGlobal + Threads + Wait + Sync,
+{
+    for long in all {
+        is_long(rt, *long)?;
     }
     Ok(())
 }
 
-// Lines of two callers, each this number of times.
-fn twice(alloc: Global, lines: &str, times: usize) -> Result<Vec<u8>, AllocError> {
-    let mut script = b"caller 0\n".to_vec(alloc)?;
-    let piece = lines.as_bytes().repeat(alloc, times)?;
-    script.extend_from_slice(&piece)?;
-    script.extend_from_slice(b"caller 1\n")?;
-    script.extend_from_slice(&piece)?;
-    Ok(script)
-}
-
-// Callers in threads do a script, where writes of these numbers fail: the status, how many bytes
-// are written, and how they end.
-fn pair_comes_to<R>(
-    rt: &R,
-    script: &[u8],
-    unwritten: &[u32],
-    status: u8,
-    came: (usize, &str),
-) -> Result<(), Fail>
-where
-    R: Abort + AllocGlobal + Threads + Wait + Sync,
-{
-    let (mut source, mut sink) = streams(rt.alloc(), script, &[], unwritten)?;
-    same(rt, status_of(rt, &["run"], &mut source, &mut sink)?, status);
-    ends_so(rt, sink.written(), came.0, came.1.as_bytes());
-    Ok(())
-}
-
-// Lines are numbered up to 2,000 for each of the two callers, in 18,893 bytes.
 #[test]
-fn two_callers_do_all_that_is_theirs(rt: HostRuntime) -> Result<(), Fail> {
-    let script = twice(rt.alloc(), "hnew h0 strong r0\nhfree h0\n", 1_000)?;
-    pair_comes_to(&rt, &script, &[], 0, (37_824, NOTHING))?;
-    pair_comes_to(&rt, &script, &[2], 5, (7, " 1 ok\n"))
+fn the_largest_scripts_are_run(rt: HostRuntime) -> Result<(), Memory> {
+    are_long(&rt, &LONG)
+}
+
+// Two callers run, and the second line is not written: the first one is that of either.
+#[test]
+fn a_write_fails_after_two_callers_ran(rt: HostRuntime) -> Result<(), Memory> {
+    let mut ends = streams(rt.alloc(), PAIR.as_bytes(), &[], &[2])?;
+    same(
+        &rt,
+        status_of(&rt, &RUN, &mut ends.source, &mut ends.sink)?,
+        5,
+    );
+    ends_so(&rt, ends.sink.written(), 7, b" 1 ok\n");
+    Ok(())
 }

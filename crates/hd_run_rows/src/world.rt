@@ -3,18 +3,14 @@ ghost use Rattle.std.specs.Prelude.{◌≡◌, ◌<◌, ◌≤◌};
 ghost use Rattle.hd_model.specs.declared.limits.TheConstants.{HEAP, BLOCKS};
 ghost use Rattle.hd_model.specs.Valid.{IsValid};
 
-use crate::same::{same, same_at};
+use crate::audits::read;
+use crate::same::same_at;
 use hd_model::{Cmd, Entry, Id, Memory, Refusal, Reply, Report};
-use hd_script::parse;
 use hd_world::World;
 use std::process::Abort;
-use std::test::Fail;
 
 // A command as a script has it, and the reply that it must get.
 type Line = (&'static str, Reply);
-
-// The bytes of a line, at most.
-const LONGEST: usize = 100;
 
 const DONE: Reply = Reply::Done;
 
@@ -39,11 +35,7 @@ fn report(kept: u32) -> Reply {
 fn command<R: Abort + AllocGlobal>(rt: &R, line: &str) -> Cmd
     ensures { IsValid result }
 {
-    let bytes = line.as_bytes();
-    assert!(rt; bytes.len() <= LONGEST, "{line}");
-    let Ok(script) = parse(rt.alloc(), bytes) else {
-        panic!(rt; "no script: {line}");
-    };
+    let script = read(rt, rt.alloc(), line.as_bytes());
     assert!(rt; script.callers() == 1 && script.len(0) == 1, "{line}");
     script.cmd(0, 0)
 }
@@ -92,17 +84,16 @@ fn world_replies<R: Abort + AllocGlobal>(
 
 // All ten words are used, and an object has at least three.
 #[test]
-fn a_full_heap_is_refused(rt: HostRuntime) -> Result<(), Fail> {
+fn a_full_heap_is_refused(rt: HostRuntime) -> Result<(), Memory> {
     let full = Refusal::HeapFull { used: 10, size: 3 };
     let lines = [("new r0 7", object(1)), ("new r1 0", Reply::Refused(full))];
-    world_replies(&rt, 10, 1, &lines)?;
-    Ok(())
+    world_replies(&rt, 10, 1, &lines)
 }
 
 // A handle whose clump is old takes a young target, which later collections then find: the commands
 // for which the steps are counted where `hd_rows` makes the calls one by one.
 #[test]
-fn a_world_finds_the_young_target_of_an_old_handle(rt: HostRuntime) -> Result<(), Fail> {
+fn a_world_finds_the_young_target_of_an_old_handle(rt: HostRuntime) -> Result<(), Memory> {
     let lines = [
         ("new r0 0", object(1)),
         ("collect 0", report(1)),
@@ -115,6 +106,5 @@ fn a_world_finds_the_young_target_of_an_old_handle(rt: HostRuntime) -> Result<()
         ("collect 0", report(0)),
         ("collect 1", report(1)),
     ];
-    world_replies(&rt, 1_000, 1, &lines)?;
-    Ok(())
+    world_replies(&rt, 1_000, 1, &lines)
 }

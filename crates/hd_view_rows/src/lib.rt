@@ -1,11 +1,9 @@
-//! Tests alone: what a debugger shows, explains and answers, of single crates.
+//! Tests alone: what a debugger shows, explains and answers, each call once; and streams that fail.
 #![tactic(auto)]
 
 #[cfg(test)]
 mod faults;
 #[cfg(test)]
-mod path;
-#[cfg(test)]
-mod show;
+mod seen;
 #[cfg(test)]
 mod talk;

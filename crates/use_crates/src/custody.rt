@@ -37,16 +37,28 @@ fn grant<R: Wait>(rt: &R, custody: &Custody<OneBlock>, seat: &mut Seat<OneBlock>
     custody.leave(seat, world.with_strong());
 }
 
-/// Counts the slots, has both callers run, and counts them again.
-pub(crate) fn run<R: Print + Threads + Wait + Sync>(rt: &R, alloc: Global) -> io::Result<()> {
-    let Ok((custody, mut first)) = open(alloc) else {
-        return Err(AllocError.into());
-    };
+// How many slots could be taken before and after both callers ran.
+struct Counts {
+    before: u32,
+    after: u32,
+}
+
+// Counts the slots, has both callers run, and counts them again.
+fn count<R: Threads + Wait + Sync>(rt: &R, alloc: Global) -> Result<Counts, Memory> {
+    let (custody, mut first) = open(alloc)?;
     let second = custody.split(&mut first, 0);
     grant(rt, &custody, &mut first);
     let before = hold(&custody, &mut first, 64);
-    println!(rt; "{before} slots of strong handles")?;
     let mut first = churn_both(rt, &custody, first, second);
     let after = hold(&custody, &mut first, 64);
+    Ok(Counts { before, after })
+}
+
+/// Prints how many slots there were before and after both callers ran.
+pub(crate) fn run<R: Print + Threads + Wait + Sync>(rt: &R, alloc: Global) -> io::Result<()> {
+    let Ok(Counts { before, after }) = count(rt, alloc) else {
+        return Err(AllocError.into());
+    };
+    println!(rt; "{before} slots of strong handles")?;
     println!(rt; "{after} after two callers took and gave back 8 at a time")
 }

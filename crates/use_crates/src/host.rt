@@ -1,9 +1,9 @@
 // A host makes an object with a weak long handle, and finds it by the handle after a collection
 // that queued it for finalization.
-ghost use Rattle.std.specs.Prelude.{◌≡◌};
+ghost use Rattle.std.specs.Prelude.{◌≡◌, IfOk};
 
 use hd_host::{Fault, Handle, Host, Limits};
-use hd_model::{Id, Make};
+use hd_model::{Id, Make, Memory};
 use std::alloc::{AllocError, Global};
 use std::io;
 
@@ -44,14 +44,21 @@ fn outlives(host: &mut Host) -> Result<bool, Fault>
     Ok(found == Some(made))
 }
 
-// The same, for a host of one context.
-fn try_host(alloc: Global) -> Result<bool, Fault> {
+// A host of one context.
+fn open(alloc: Global) -> Result<Host, Memory>
+    ensures { IfOk result (λ host. host.machine.numbers.callers ≡ 1) }
+{
     let limits = Limits {
         cells: 100_000,
         blocks: 64,
         contexts: 1,
     };
-    let Ok(mut host) = Host::open(alloc, limits) else {
+    Host::open(alloc, limits)
+}
+
+// The same, for a new host.
+fn try_host(alloc: Global) -> Result<bool, Fault> {
+    let Ok(mut host) = open(alloc) else {
         return Err(Fault::Memory);
     };
     outlives(&mut host)
