@@ -1,5 +1,5 @@
 use Rattle.std.proofs.Common.{◌≡◌, false}
 use Rattle.use_crates.proofs.turns.count.Given as goal
 
-abbrev pub invariant-loop-_round : goal.invariant-loop-_round
-invariant-loop-_round l = l.end.view.has_gate ≡ false
+abbrev pub invariant-loop-round : goal.invariant-loop-round
+invariant-loop-round l = l.end.view.has_gate ≡ false
