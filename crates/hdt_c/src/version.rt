@@ -1,6 +1,5 @@
 // Which release a program runs with.
 ghost use Rattle.std.specs.Prelude.{◌≡◌};
-ghost use Rattle.hdt_c.specs.declared.version.Version.{Version};
 
 /// `hdt_version_out`.
 #[repr(C)]
@@ -14,7 +13,7 @@ pub struct Version {
 /// `hdt_version`.
 #[unsafe(no_mangle)]
 pub extern "C" fn hdt_version(out: &mut Version)
-    ensures { out.new ≡ record Version { major = 0; minor = 5; patch = 0 } }
+    ensures { out.new ≡ record { major = 0; minor = 5; patch = 0 } }
 {
     *out = Version {
         major: 0,
