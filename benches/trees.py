@@ -8,6 +8,7 @@ import re
 import subprocess
 import sys
 import tempfile
+import time
 
 HERE = os.path.dirname(os.path.abspath(__file__))
 DEPTH, ROUNDS, CELLS = "12", "600", "100000"
@@ -15,15 +16,29 @@ RUNS = 11
 ASKED_RATIO, ASKED_COLLECTIONS, ASKED_MEMORY = 3, 20, 2
 
 
+def peak_of(process):
+    """The peak memory of a process so far, in KB; 0 once it has ended. (What wait4 says counts the memory that it began with, of
+    the process that made it.)"""
+    try:
+        with open(f"/proc/{process}/status", encoding="utf-8") as status:
+            return int((re.search(r"VmHWM:\s+(\d+)", status.read()) or ["", "0"])[1])
+    except OSError:
+        return 0
+
+
 def run(words):
-    """Seconds of processor, peak memory in KB and what was printed."""
+    """Seconds of processor, peak memory in KB (looked at each 20 ms) and what was printed."""
+    peak, ended = 0, 0
     with subprocess.Popen(words, stdout=subprocess.PIPE, text=True) as made:
-        text = made.stdout.read()
-        _, status, usage = os.wait4(made.pid, 0)
+        while not ended:
+            peak = max(peak, peak_of(made.pid))
+            time.sleep(0.02)
+            ended, status, usage = os.wait4(made.pid, os.WNOHANG)
         made.returncode = os.waitstatus_to_exitcode(status)
+        text = made.stdout.read()
     if made.returncode:
         sys.exit(f"{words}: status {made.returncode}")
-    return usage.ru_utime + usage.ru_stime, usage.ru_maxrss, text
+    return usage.ru_utime + usage.ru_stime, peak, text
 
 
 def main(libraries):
