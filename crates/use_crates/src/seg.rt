@@ -56,8 +56,25 @@ fn fill(seg: &mut Seg, ages: &mut AgeMap, handles: &[(u32, u32, u8)]) -> Result<
     Ok(())
 }
 
-// Prints, for each generation, the slots that a collection visits. Their clumps are counted in a
-// ledger too, which takes no memory and which nothing reads.
+// Prints the slots that a collection of generation `n` visits. Their clumps are counted in a ledger
+// too, which takes no memory and which nothing reads.
+fn print_slots<L: Ledger>(
+    rt: &impl Print,
+    seg: &Seg,
+    ages: &AgeMap,
+    n: u8,
+    steps: &mut Steps<L>,
+) -> io::Result<()>
+    requires { CoversTable ages.now seg.now }
+{
+    let mut walk = DueRows::start(seg, ages, Kind::Strong, n);
+    while let Some(slot) = walk.next(seg, ages, steps) {
+        print!(rt; " {}", slot.0)?;
+    }
+    println!(rt)
+}
+
+// Prints, for each generation, the clumps and the slots that a collection visits.
 fn print_due<L: Ledger>(rt: &impl Print, seg: &Seg, ages: &AgeMap, blank: Blank) -> io::Result<()>
     requires blank { (L.name ≡ blank.name) × (L.parts ≡ blank.parts) × (0 < blank.parts) }
     requires covers { CoversTable ages.now seg.now }
@@ -66,13 +83,23 @@ fn print_due<L: Ledger>(rt: &impl Print, seg: &Seg, ages: &AgeMap, blank: Blank)
     for n in 0..=OLDEST {
         let clumps = count_due(seg, ages, Kind::Strong, n);
         print!(rt; "generation {n}, due clumps {clumps}, slots")?;
-        let mut walk = DueRows::start(seg, ages, Kind::Strong, n);
-        while let Some(slot) = walk.next(seg, ages, &mut steps) {
-            print!(rt; " {}", slot.0)?;
-        }
-        println!(rt)?;
+        print_slots(rt, seg, ages, n, &mut steps)?;
     }
     Ok(())
+}
+
+// Stores the handles, and prints the slots before and after a collection of generation 0.
+fn show(rt: &impl Print, seg: &mut Seg, ages: &mut AgeMap) -> io::Result<()>
+    requires { CoversTable ages.old seg.old }
+{
+    match fill(seg, ages, &HANDLES) {
+        Ok(()) => println!(rt; "handles {}, blocks in use {}", seg.live(), seg.given())?,
+        Err(full) => println!(rt; "no block is left, {} are in use", full.given)?,
+    }
+    print_due::<Brand>(rt, seg, ages, Blank::new(1))?;
+    ages.grow_all(0);
+    println!(rt; "after a collection of generation 0")?;
+    print_due::<Brand>(rt, seg, ages, Blank::new(1))
 }
 
 /// Stores the handles, and prints the slots twice.
@@ -80,12 +107,5 @@ pub(crate) fn run(rt: &impl Print, alloc: Global) -> io::Result<()> {
     let Ok((mut seg, mut ages)) = open(alloc) else {
         return Err(AllocError.into());
     };
-    match fill(&mut seg, &mut ages, &HANDLES) {
-        Ok(()) => println!(rt; "handles {}, blocks in use {}", seg.live(), seg.given())?,
-        Err(full) => println!(rt; "no block is left, {} are in use", full.given)?,
-    }
-    print_due::<Brand>(rt, &seg, &ages, Blank::new(1))?;
-    ages.grow_all(0);
-    println!(rt; "after a collection of generation 0")?;
-    print_due::<Brand>(rt, &seg, &ages, Blank::new(1))
+    show(rt, &mut seg, &mut ages)
 }

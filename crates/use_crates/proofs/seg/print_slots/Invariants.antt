@@ -1,6 +1,6 @@
 use Rattle.std.proofs.Common.{length}
 use Rattle.hd_ages.specs.Walk.{IsOn, slots_to_come}
-use Rattle.use_crates.proofs.seg.print_due.Given as goal
+use Rattle.use_crates.proofs.seg.print_slots.Given as goal
 
 abbrev pub invariant-loop-slot : goal.invariant-loop-slot
 invariant-loop-slot g l = IsOn l.seg l.walk
