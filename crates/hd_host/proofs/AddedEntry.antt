@@ -9,7 +9,7 @@ use Rattle.hd_slots.specs.Change.{MayNote, Offers, change_in, noted}
 use Rattle.hd_slots.specs.declared.change.Change.{Change as Slots}
 use Rattle.hd_slots.specs.declared.change.Change.TheVariants.{Takes, Adds, Frees, GivesBack, Keeps}
 use Rattle.hd_store.specs.{Calls.HasCalled, Offers.IsOffer, Store.Machine}
-use Rattle.hd_host.specs.{declared.change.Change.Change, declared.fault.Fault.Fault, Calls.AddsEntry, Calls.FailsBy, View.HostView, View.IsAsItWas, Inside.fault_of, Inside.HasMoved, Inside.IsHost}
+use Rattle.hd_host.specs.{declared.change.Change.Change, declared.fault.Fault.Fault, Calls.AddsEntry, Calls.FailsBy, Changes.change_by, View.HostView, View.IsAsItWas, Inside.fault_of, Inside.HasMoved, Inside.IsHost}
 use Rattle.hd_host.proofs.CallPool.{may_be_offered}
 use Rattle.hd_host.proofs.CallHost.{done_by, host_after, known_in, may_note_by, refused_by, view_of}
 use Rattle.hd_host.proofs.{MadeHandle.refused_entry, ValueCalls.moved_plainly}
@@ -48,12 +48,13 @@ module _ {m : Machine} {p : FreeSlots} {stamps : List ℕ} {last : Change} {v : 
     host_added r is = host_after host view known did q offers r
         (subst (λ x. r ≡ noted q x (Some slot) grown) change_is is) refl
 
-    pub adds : AddsEntry v context key value (view_of k stamps (record { slot = Some slot; grown = grown }))
-    adds = record {
+    pub adds : {after : Change} → after ≡ change_by (Some slot) grown
+        → AddsEntry v context key value (view_of k stamps after)
+    adds after_is = subst (λ (z : Change). AddsEntry v context key value (view_of k stamps z)) (sym after_is) (record {
       entry = added_entry context key value slot grown;
       done = done_by host view known did q offers refl refl;
       reply = refl;
-    }
+    })
 
   module _ {k : Machine} {why : Refusal}
       (called : HasCalled m context (cmd.CAdd key value) o k (refused_entry context (cmd.CAdd key value) why)) where

@@ -9,7 +9,7 @@ use Rattle.hd_model.specs.declared.limits.TheConstants.{ROWS}
 use Rattle.hd_pool.specs.Pool.{FreeSlots}
 use Rattle.hd_slots.specs.Change.{MayNote, Offers, change_in, noted}
 use Rattle.hd_store.specs.{Offers.HasLimits, Offers.RanOut, PinnedAddresses.Moves, Store.Machine}
-use Rattle.hd_host.specs.{declared.change.Change.Change, Calls.FailsBy, Calls.HasDone, Calls.RanOutOfMemory, Replies.RepliesTo, Steps.HasStepped, Steps.pointed, View.HostView, View.IsAsItWas, View.state_in, Inside.fault_of, Inside.IsHost, Inside.HasMoved, Inside.ShowsLive, Inside.low_bits, Inside.stamps_in}
+use Rattle.hd_host.specs.{declared.change.Change.Change, Calls.FailsBy, Calls.HasDone, Changes.change_by, Replies.RepliesTo, Steps.HasStepped, Steps.pointed, View.HostView, View.IsAsItWas, View.state_in, Inside.fault_of, Inside.IsHost, Inside.HasMoved, Inside.ShowsLive, Inside.low_bits, Inside.stamps_in}
 use Rattle.hd_host.proofs.CallPool.{may_be_noted, moved, tied_on, tied_pointed, takes_least}
 use Rattle.hd_host.proofs.LiveEntries.{live_stays}
 use Rattle.hd_host.proofs.EmptyRegisters.{OthersEmpty, others_pointed, others_stay, emptied}
@@ -92,7 +92,7 @@ module _ {m : Machine} {p : FreeSlots} {stamps : List ℕ} {last : Change} {v : 
 
   -- it was done
   pub done_by : is_refused e.reply ≡ false → RepliesTo c e.reply
-      → HasDone v context slot c e (view_of k stamps (record { slot = e.slot; grown = e.grown }))
+      → HasDone v context slot c e (view_of k stamps (change_by e.slot e.grown))
   done_by done replies = record {
     stepped = stepped_by;
     done = done;
@@ -122,20 +122,3 @@ module _ {m : Machine} {p : FreeSlots} {stamps : List ℕ} {last : Change} {v : 
 pub host_without : {m k : Machine} {p : FreeSlots} {stamps : List ℕ} {c : Cmd} → RanOut m.numbers m.state c m k
     → IsHost m p stamps → IsHost k p stamps
 host_without {p = p} {stamps = stamps} out host = subst (λ (x : Machine). IsHost x p stamps) (sym out.unchanged) host
-
-pub ran_out : {m k : Machine} {stamps : List ℕ} {last : Change} {v : HostView} {c : Cmd}
-    → RanOut m.numbers m.state c m k → parts_of m stamps last ≡ v
-    → RanOutOfMemory v c × IsAsItWas v (parts_of k stamps last)
-ran_out {m = m} {k = k} {stamps = stamps} {last = last} {c = c} out view =
-    subst (λ (x : HostView). RanOutOfMemory x c × IsAsItWas x (parts_of k stamps last)) view (
-      record { memory = out.memory; fits = out.fits },
-      subst (λ (x : Machine). IsAsItWas (parts_of m stamps last) (parts_of x stamps last)) (sym out.unchanged)
-          (record {
-            numbers = refl;
-            state = refl;
-            addresses = λ x a at. at;
-            ages = refl;
-            stamps = refl;
-            last = refl;
-          }),
-    )

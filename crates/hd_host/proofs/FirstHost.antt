@@ -28,7 +28,7 @@ none_in zero count k h = refl
 none_in (suc rows) count zero h = nothing_in count h
 none_in (suc rows) count (suc k) h = none_in rows count k h
 
-full : FREE % 2 ^ 16 ≡ FREE
+full : FREE % 2 ^ 24 ≡ FREE
 full = omega arith
 
 pub host_at_first : (m : Machine) (p : FreeSlots) (stamps : List ℕ) → HasLimits m.numbers
@@ -42,8 +42,8 @@ host_at_first m p stamps limits first pool is = record {
       ∙ none_in m.numbers.callers REGISTERS context h;
   stamps = ap length is ∙ length-replicate (ROWS * (m.numbers.blocks + 1)) FREE;
   live = λ slot low.
-      ap (λ (xs : List ℕ). get_or xs slot.0 0 % 2 ^ 16) is
-      ∙ ap (λ x. x % 2 ^ 16) (none_live (ROWS * (m.numbers.blocks + 1)) slot.0
+      ap (λ (xs : List ℕ). get_or xs slot.0 0 % 2 ^ 24) is
+      ∙ ap (λ x. x % 2 ^ 24) (none_live (ROWS * (m.numbers.blocks + 1)) slot.0
       (omega (arith, low, ap length is ∙ length-replicate (ROWS * (m.numbers.blocks + 1)) FREE)))
       ∙ full
       ∙ ap (λ (o : Option (Held Id)). low_bits (is_some o) slot) (sym (map.get-empty nat_cmp slot.0))

@@ -17,8 +17,8 @@ use Rattle.hd_slots.specs.declared.change.Change.TheVariants.{Frees}
 use Rattle.hd_store.specs.{Calls.HasCalled, Calls.KeepsFirst, Store.Machine}
 use Rattle.hd_host.specs.declared.change.Change.{Change}
 use Rattle.hd_host.specs.declared.handle.Handle.{Handle}
-use Rattle.hd_host.specs.declared.stamps.TheConstants.{END, FREE}
-use Rattle.hd_host.specs.{Calls.FreesHandle, Handles.IsOf, Handles.stamp_of, Steps.pointed, View.HostView, Inside.HasMoved, Inside.IsHost, Inside.low_bits, Inside.stamps_in}
+use Rattle.hd_host.specs.declared.stamps.TheConstants.{FREE}
+use Rattle.hd_host.specs.{Calls.FreesHandle, Changes.change_by, Handles.IsOf, Handles.stamp_of, Steps.pointed, View.HostView, Inside.HasMoved, Inside.IsHost, Inside.low_bits, Inside.stamps_in}
 use Rattle.hd_host.proofs.CallHost.{changes, host_with, known_in, may_note_by, stepped_by, view_of}
 use Rattle.hd_host.proofs.LiveEntries.{gone_after, other_stays, shows_written, stamp_in}
 use Rattle.hd_host.proofs.{Registers.pointed-again, SlotOfHandle.live_within, WholeHost.whole}
@@ -53,17 +53,17 @@ module _ {m : Machine} {p : FreeSlots} {stamps : List ℕ} {last : Change} {v : 
     arith,
     live_within (whole host view) slot of.live,
     ap (λ (x : HostView). length x.stamps) view,
-    length-map stamps (λ entry. entry / 2 ^ 16),
+    length-map stamps (λ entry. entry / 2 ^ 24),
   )
 
   held : (h : Held Id) × (handle_at m.state slot ≡ Some h)
   held = some_value (handle_at m.state slot)
       (subst (λ (x : HostView). IsSome (handle_at x.machine.state slot)) (sym view) of.live)
 
-  pub low : slice_index stamps slot.0 % 2 ^ 16 ≡ slot.0
+  pub low : slice_index stamps slot.0 % 2 ^ 24 ≡ slot.0
   low = host.live slot within ∙ ap (λ (o : Option (Held Id)). low_bits (is_some o) slot) held.1
 
-  pub stamp_same : slice_index stamps slot.0 / 2 ^ 16 ≡ stamp_of v slot
+  pub stamp_same : slice_index stamps slot.0 / 2 ^ 24 ≡ stamp_of v slot
   stamp_same = sym (stamp_in stamps slot.0) ∙ ap (λ (x : HostView). stamp_of x slot) view
 
   names : handle_register_of (pointed m 0 (Some slot)).state 0 0 ≡ Some slot
@@ -82,7 +82,7 @@ module _ {m : Machine} {p : FreeSlots} {stamps : List ℕ} {last : Change} {v : 
       ∙ ap (λ i. handle_register_of (pointed m 0 (Some slot)).state 0 i) (register_is same) ∙ there)))))
 
   abbrev next : ℕ
-  next = (slice_index stamps slot.0 / 2 ^ 16 + 1) * 2 ^ 16 + FREE
+  next = (slice_index stamps slot.0 / 2 ^ 24 + 1) * 2 ^ 24 + FREE
 
   module _ {r : FreeSlots} (noted_is : r ≡ noted p Frees (Some slot) Zero) {others : List ℕ}
       (raised : others ≡ slice_set stamps slot.0 next) where
@@ -91,13 +91,13 @@ module _ {m : Machine} {p : FreeSlots} {stamps : List ℕ} {last : Change} {v : 
 
     pub host_freed : IsHost k r others
     host_freed = host_with host view known did p (refl, refl) r noted_is refl others long
-        (λ at near. ap (λ (xs : List ℕ). slice_index xs at.0 % 2 ^ 16) raised
+        (λ at near. ap (λ (xs : List ℕ). slice_index xs at.0 % 2 ^ 24) raised
         ∙ shows_written m.state k.state stamps host.live slot next
         (omega arith ∙ ap (λ (o : Option (Held Id)). low_bits (is_some o) slot) (sym gone)) others_stay at
         (omega (arith, near, long)))
 
-    pub freed : stamp_of v slot < END
-        → FreesHandle v handle (view_of k others (record { slot = Some slot; grown = Zero }))
+    pub freed : stamp_of v slot + 1 < 2 ^ 40
+        → FreesHandle v handle (view_of k others (change_by (Some slot) Zero))
     freed below = record {
       slot = slot;
       handle_is = of;
@@ -105,7 +105,7 @@ module _ {m : Machine} {p : FreeSlots} {stamps : List ℕ} {last : Change} {v : 
       entry = freed_entry slot;
       stepped = stepped_by host view known did p (refl, refl);
       reply = refl;
-      stamps = ap stamps_in raised ∙ map-set (λ entry. entry / 2 ^ 16) stamps slot.0 next
+      stamps = ap stamps_in raised ∙ map-set (λ entry. entry / 2 ^ 24) stamps slot.0 next
           ∙ ap (slice_set (stamps_in stamps) slot.0) (omega (arith, stamp_same))
           ∙ ap (λ (xs : List ℕ). slice_set xs slot.0 (stamp_of v slot + 1)) (ap (λ (x : HostView). x.stamps) view);
       last = refl;

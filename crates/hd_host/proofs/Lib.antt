@@ -15,5 +15,6 @@ mod Trimmed
 mod MadeHandle
 mod AddedEntry
 mod SameHost
+mod OutOfMemory
 mod FreedHandle
 mod NextHandle

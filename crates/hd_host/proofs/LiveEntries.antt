@@ -50,7 +50,7 @@ gone_after s t caller slot held names live after =
 
 -- ---- stamps by entries
 
-pub stamp_in : (entries : List ℕ) (i : ℕ) → get_or (stamps_in entries) i 0 ≡ get_or entries i 0 / 2 ^ 16
+pub stamp_in : (entries : List ℕ) (i : ℕ) → get_or (stamps_in entries) i 0 ≡ get_or entries i 0 / 2 ^ 24
 stamp_in [] i = refl
 stamp_in (entry ∷ entries) zero = refl
 stamp_in (entry ∷ entries) (suc i) = stamp_in entries i
@@ -66,14 +66,14 @@ none_live (suc count) (suc i) low = none_live count i (omega (arith, low))
 
 -- one entry is written
 module _ (s t : State) (entries : List ℕ) (shows : ShowsLive s entries) (slot : Slot) (entry : ℕ)
-    (here : entry % 2 ^ 16 ≡ low_bits (is_some (handle_at t slot)) slot)
+    (here : entry % 2 ^ 24 ≡ low_bits (is_some (handle_at t slot)) slot)
     (others : (at : Slot) → (at.0 ≡ slot.0 → ⊥) → is_some (handle_at t at) ≡ is_some (handle_at s at)) where
   pub shows_written : (at : Slot) → at.0 < length entries
-      → slice_index (slice_set entries slot.0 entry) at.0 % 2 ^ 16 ≡ low_bits (is_some (handle_at t at)) at
+      → slice_index (slice_set entries slot.0 entry) at.0 % 2 ^ 24 ≡ low_bits (is_some (handle_at t at)) at
   shows_written at low = ⊎_elim
-      (λ same. ap (λ x. x % 2 ^ 16) (ap (λ j. slice_index (slice_set entries slot.0 entry) j) same
+      (λ same. ap (λ x. x % 2 ^ 24) (ap (λ j. slice_index (slice_set entries slot.0 entry) j) same
       ∙ get_or-set_same entries slot.0 entry 0 (omega (arith, low, same)))
       ∙ here
       ∙ ap (λ (x : Slot). low_bits (is_some (handle_at t x)) x) (sym (same_slot at slot same)))
-      (λ apart. ap (λ x. x % 2 ^ 16) (get_or-set_other entries slot.0 at.0 entry 0 apart) ∙ shows at low
+      (λ apart. ap (λ x. x % 2 ^ 24) (get_or-set_other entries slot.0 at.0 entry 0 apart) ∙ shows at low
       ∙ ap (λ b. low_bits b at) (sym (others at apart))) (cases_eq at.0 slot.0)

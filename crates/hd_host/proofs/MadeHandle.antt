@@ -16,11 +16,11 @@ use Rattle.hd_pool.specs.Pool.{FreeSlots}
 use Rattle.hd_slots.specs.Change.{MayNote, Offers, noted}
 use Rattle.hd_slots.specs.declared.change.Change.TheVariants.{Takes}
 use Rattle.hd_store.specs.{Calls.HasCalled, Calls.KeepsFirst, Offers.IsOffer, Store.Machine}
-use Rattle.hd_host.specs.{declared.change.Change.Change, declared.fault.Fault.Fault, declared.handle.Handle.Handle as Given, Calls.FailsBy, Calls.HasDone, Calls.MakesHandle, Handles.handle_of, Steps.HasStepped, Steps.pointed, View.HostView, View.IsAsItWas, Inside.fault_of, Inside.HasMoved, Inside.IsHost, Inside.low_bits, Inside.stamps_in}
+use Rattle.hd_host.specs.{declared.change.Change.Change, declared.fault.Fault.Fault, declared.handle.Handle.Handle as Given, Calls.FailsBy, Calls.HasDone, Calls.MakesHandle, Changes.change_by, Handles.handle_of, Steps.HasStepped, Steps.pointed, View.HostView, View.IsAsItWas, Inside.fault_of, Inside.HasMoved, Inside.IsHost, Inside.low_bits, Inside.stamps_in}
 use Rattle.hd_host.proofs.CallPool.{may_be_offered, tied_on, tied_pointed}
 use Rattle.hd_host.proofs.LiveEntries.{other_stays, shows_written}
 use Rattle.hd_host.proofs.WholeHost.{live_low}
-use Rattle.hd_host.proofs.CallHost.{changes, done_by, host_with, known_in, may_note_by, refused_by, stepped_by, view_of}
+use Rattle.hd_host.proofs.CallHost.{changes, done_by, host_with, known_in, may_note_by, parts_of, refused_by, stepped_by, view_of}
 use Rattle.hd_host.proofs.Registers.{called_numbers, not_pointed, pointed-again}
 
 abbrev pub made_entry : ℕ → Make → ℕ → Slot → Grown → Entry
@@ -119,15 +119,15 @@ module _ {m : Machine} {p : FreeSlots} {stamps : List ℕ} {last : Change} {v : 
     pub within : slot.0 < length stamps
     within = omega (arith, low, host.stamps)
 
-    pub small : slot.0 < 2 ^ 16
+    pub small : slot.0 < 2 ^ 24
     small = omega (arith, low, host.limits.blocks)
 
-    pub free : slice_index stamps slot.0 % 2 ^ 16 ≡ FREE
+    pub free : slice_index stamps slot.0 % 2 ^ 24 ≡ FREE
     free = host.live slot within ∙ ap (λ (o : Option (Held Id)). low_bits (is_some o) slot)
         (ap (handle_at m.state) (sym same) ∙ made_it.vacant)
 
     abbrev next : ℕ
-    next = slice_index stamps slot.0 / 2 ^ 16 * 2 ^ 16 + slot.0
+    next = slice_index stamps slot.0 / 2 ^ 24 * 2 ^ 24 + slot.0
 
     others_stay : (at : Slot) → (at.0 ≡ slot.0 → ⊥) → is_some (handle_at k.state at) ≡ is_some (handle_at m.state at)
     others_stay at apart = other_stays (changes host view known did q offers at)
@@ -140,23 +140,25 @@ module _ {m : Machine} {p : FreeSlots} {stamps : List ℕ} {last : Change} {v : 
       pub host_made : (r : FreeSlots) → r ≡ noted q (Takes of) (Some slot) grown → IsHost k r entries
       host_made r is = host_with host view known did q offers r
           (is ∙ ap (λ x. noted q (Takes x) (Some slot) grown) of_is) refl entries long
-          (λ at near. ap (λ (xs : List ℕ). slice_index xs at.0 % 2 ^ 16) written
+          (λ at near. ap (λ (xs : List ℕ). slice_index xs at.0 % 2 ^ 24) written
           ∙ shows_written m.state k.state stamps host.live slot next
           (omega (arith, small) ∙ ap (λ b. low_bits b slot) (sym live_made)) others_stay at (omega (arith, near, long)))
 
       -- the stamps are as they were
       same_stamps : stamps_in stamps ≡ stamps_in entries
       same_stamps = sym (ap stamps_in written
-          ∙ map-set_same (λ entry. entry / 2 ^ 16) stamps slot.0 next 0 (omega (arith, small)))
+          ∙ map-set_same (λ entry. entry / 2 ^ 24) stamps slot.0 next 0 (omega (arith, small)))
 
-      pub makes : {handle : Given}
-          → handle ≡ handle_of (view_of k entries (record { slot = Some slot; grown = grown })) slot
-          → MakesHandle v context make t (view_of k entries (record { slot = Some slot; grown = grown })) handle
-      makes is = record {
+      pub makes : {handle : Given} {after : Change} → after ≡ change_by (Some slot) grown
+          → handle ≡ handle_of (view_of k entries after) slot
+          → MakesHandle v context make t (view_of k entries after) handle
+      makes {after = after} after_is is = record {
         entry = made_entry context make t slot grown;
-        done = subst (λ (xs : List ℕ). HasDone v context None (cmd.HNew 0 make t) (made_entry context make t slot grown)
-            (record { machine = k; stamps = xs; last = record { slot = Some slot; grown = grown } })) same_stamps
-            (done_by host view known did q offers refl refl);
+        done = subst (λ (z : Change). HasDone v context None (cmd.HNew 0 make t)
+            (made_entry context make t slot grown) (view_of k entries z)) (sym after_is)
+            (subst (λ (xs : List ℕ). HasDone v context None (cmd.HNew 0 make t)
+            (made_entry context make t slot grown) (parts_of k xs (change_by (Some slot) grown))) same_stamps
+            (done_by host view known did q offers refl refl));
         slot = slot;
         slot_is = refl;
         handle_is = record { live = live_made; is = is };

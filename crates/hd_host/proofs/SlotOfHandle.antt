@@ -15,16 +15,16 @@ module _ {v : HostView} (whole : IsWhole v) where
   pub live_within : (slot : Slot) → IsSome (handle_at v.machine.state slot) → slot.0 < length v.stamps
   live_within slot live = omega (arith, whole.live slot live, whole.stamps)
 
-  pub live_small : (slot : Slot) → IsSome (handle_at v.machine.state slot) → slot.0 < 2 ^ 16
+  pub live_small : (slot : Slot) → IsSome (handle_at v.machine.state slot) → slot.0 < 2 ^ 24
   live_small slot live = omega (arith, whole.live slot live, whole.limits.blocks)
 
   module _ {handle : Handle} where
     -- the slot and the stamp of the number are those of the live slot
-    pub slot_is : {slot : Slot} → IsOf v handle slot → handle.0 % 2 ^ 16 ≡ slot.0
+    pub slot_is : {slot : Slot} → IsOf v handle slot → handle.0 % 2 ^ 24 ≡ slot.0
     slot_is {slot = slot} of =
         omega (arith, live_small slot of.live, ap (λ (h : Handle). h.0) of.is)
 
-    pub stamp_is : {slot : Slot} → IsOf v handle slot → handle.0 / 2 ^ 16 ≡ stamp_of v slot
+    pub stamp_is : {slot : Slot} → IsOf v handle slot → handle.0 / 2 ^ 24 ≡ stamp_of v slot
     stamp_is {slot = slot} of =
         omega (arith, live_small slot of.live, ap (λ (h : Handle). h.0) of.is)
 
@@ -42,7 +42,7 @@ module _ {m : Machine} {p : FreeSlots} {entries : List ℕ} {last : Change} {v :
   live_in : (slot : Slot) → is_some (handle_at m.state slot) ≡ is_some (handle_at v.machine.state slot)
   live_in slot = ap (λ (x : HostView). is_some (handle_at x.machine.state slot)) view
 
-  stamp_same : (slot : Slot) → slice_index entries slot.0 / 2 ^ 16 ≡ stamp_of v slot
+  stamp_same : (slot : Slot) → slice_index entries slot.0 / 2 ^ 24 ≡ stamp_of v slot
   stamp_same slot = sym (stamp_in entries slot.0) ∙ ap (λ (x : HostView). stamp_of x slot) view
 
   pub within : (slot : Slot) → IsSome (handle_at v.machine.state slot) → slot.0 < length entries
@@ -50,12 +50,12 @@ module _ {m : Machine} {p : FreeSlots} {entries : List ℕ} {last : Change} {v :
     arith,
     live_within all slot live,
     ap (λ (x : HostView). length x.stamps) view,
-    length-map entries (λ entry. entry / 2 ^ 16),
+    length-map entries (λ entry. entry / 2 ^ 24),
   )
 
   -- the entry of a live slot is its handle
   pub entry_is : (slot : Slot) → IsSome (handle_at v.machine.state slot)
-      → slice_index entries slot.0 ≡ stamp_of v slot * 2 ^ 16 + slot.0
+      → slice_index entries slot.0 ≡ stamp_of v slot * 2 ^ 24 + slot.0
   entry_is slot live = omega (
     arith,
     stamp_same slot,
@@ -63,16 +63,16 @@ module _ {m : Machine} {p : FreeSlots} {entries : List ℕ} {last : Change} {v :
   )
 
   -- so a number that is the entry of its slot is the handle of a live one
-  module _ (handle : Handle) {at : Slot} (at_is : at ≡ record { 0 = handle.0 % 2 ^ 16 }) where
-    at_low : at.0 ≡ handle.0 % 2 ^ 16
+  module _ (handle : Handle) {at : Slot} (at_is : at ≡ record { 0 = handle.0 % 2 ^ 24 }) where
+    at_low : at.0 ≡ handle.0 % 2 ^ 24
     at_low = ap (λ (s : Slot). s.0) at_is
 
-    pub live_by : slice_get entries (handle.0 % 2 ^ 16) ≡ Some handle.0 → IsOf v handle at
-    live_by found = by (slice_get_cases entries (handle.0 % 2 ^ 16)).1
+    pub live_by : slice_get entries (handle.0 % 2 ^ 24) ≡ Some handle.0 → IsOf v handle at
+    live_by found = by (slice_get_cases entries (handle.0 % 2 ^ 24)).1
       where
         entry : slice_index entries at.0 ≡ handle.0
         entry = ap (slice_index entries) at_low
-            ∙ get_or_from_slice_get entries (handle.0 % 2 ^ 16) handle.0 0 found
+            ∙ get_or_from_slice_get entries (handle.0 % 2 ^ 24) handle.0 0 found
 
         is : is_some (handle_at m.state at) ≡ true → IsOf v handle at
         is live = record {
@@ -80,7 +80,7 @@ module _ {m : Machine} {p : FreeSlots} {entries : List ℕ} {last : Change} {v :
           is = λ i. record { 0 = same i };
         }
           where
-            same : handle.0 ≡ stamp_of v at * 2 ^ 16 + at.0
+            same : handle.0 ≡ stamp_of v at * 2 ^ 24 + at.0
             same = sym entry ∙ entry_is at (sym (live_in at) ∙ live)
 
         lives : at.0 < length entries → (b : Bool) → is_some (handle_at m.state at) ≡ b
@@ -96,18 +96,18 @@ module _ {m : Machine} {p : FreeSlots} {entries : List ℕ} {last : Change} {v :
           host.limits.blocks,
         ))
 
-        by : ((x : ℕ) × (handle.0 % 2 ^ 16 < length entries) × (slice_get entries (handle.0 % 2 ^ 16) ≡ Some x)
-            × (get_or entries (handle.0 % 2 ^ 16) x ≡ x))
-            ⊎ ((length entries ≤ handle.0 % 2 ^ 16) × (slice_get entries (handle.0 % 2 ^ 16) ≡ None))
+        by : ((x : ℕ) × (handle.0 % 2 ^ 24 < length entries) × (slice_get entries (handle.0 % 2 ^ 24) ≡ Some x)
+            × (get_or entries (handle.0 % 2 ^ 24) x ≡ x))
+            ⊎ ((length entries ≤ handle.0 % 2 ^ 24) × (slice_get entries (handle.0 % 2 ^ 24) ≡ None))
             → IsOf v handle at
         by (inl low) = is (lives (omega (arith, low.1, at_low)) (is_some (handle_at m.state at)) refl)
         by (inr past) = absurd (none-some handle.0 (sym past.1 ∙ found))
 
   -- and any other is stale
-  pub stale_by : {handle : Handle} → IfSome (slice_get entries (handle.0 % 2 ^ 16)) (λ entry. entry ≢ handle.0)
+  pub stale_by : {handle : Handle} → IfSome (slice_get entries (handle.0 % 2 ^ 24)) (λ entry. entry ≢ handle.0)
       → IsStale v handle
   stale_by {handle = handle} other slot of =
-      let here : handle.0 % 2 ^ 16 ≡ slot.0 = slot_is all of in
+      let here : handle.0 % 2 ^ 24 ≡ slot.0 = slot_is all of in
       by (slice_get_cases entries slot.0).1 (subst (λ i. IfSome (slice_get entries i) (λ entry. entry ≢ handle.0)) here
       other)
     where

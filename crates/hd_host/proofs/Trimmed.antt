@@ -12,7 +12,7 @@ use Rattle.hd_pool.specs.Pool.{FreeSlots}
 use Rattle.hd_slots.specs.Change.{MayNote, Offers, noted}
 use Rattle.hd_slots.specs.declared.change.Change.TheVariants.{GivesBack}
 use Rattle.hd_store.specs.{Calls.HasCalled, Offers.IsOffer, Replies.done_trimming, Replies.given_back, Store.Machine}
-use Rattle.hd_host.specs.{declared.change.Change.Change, Calls.Trims, Steps.HasStepped, Steps.pointed, View.HostView, View.state_in, Inside.HasMoved, Inside.HasNoSlot, Inside.IsHost}
+use Rattle.hd_host.specs.{declared.change.Change.Change, Calls.Trims, Changes.change_by, Steps.HasStepped, Steps.pointed, View.HostView, View.state_in, Inside.HasMoved, Inside.HasNoSlot, Inside.IsHost}
 use Rattle.hd_host.proofs.CallPool.{may_be_offered}
 use Rattle.hd_host.proofs.CallHost.{done_by, host_after, known_in, may_note_by, stepped_by, view_of}
 use Rattle.hd_host.proofs.{Registers.not_pointed, ValueCalls.moved_plainly, WholeHost.IsWhole, WholeHost.whole}
@@ -71,10 +71,11 @@ module _ {m : Machine} {p : FreeSlots} {stamps : List ℕ} {last : Change} {v : 
     pub host_trimmed : (r : FreeSlots) → r ≡ noted q (GivesBack kind) None grown → IsHost k r stamps
     host_trimmed r is = host_after host view known did q offers r is refl
 
-    pub trims : {given : ℕ} → given ≡ given_back grown
-        → Trims v kind given (view_of k stamps (record { slot = None; grown = grown }))
-    trims given_is = subst (λ n. Trims v kind n (view_of k stamps (record { slot = None; grown = grown })))
-        (sym given_is) (
+    pub trims : {given : ℕ} {after : Change} → after ≡ change_by None grown → given ≡ given_back grown
+        → Trims v kind given (view_of k stamps after)
+    trims {given = given} after_is given_is =
+        subst (λ (z : Change). Trims v kind given (view_of k stamps z)) (sym after_is)
+        (subst (λ n. Trims v kind n (view_of k stamps (change_by None grown))) (sym given_is) (
         let by = trims_by v.machine k (entry_by 0 (cmd.Trim kind) (done_trimming grown)) kind (given_back grown)
         (all.empty 0 0) (stepped_by host view known did q offers) refl in
         record {
@@ -85,4 +86,4 @@ module _ {m : Machine} {p : FreeSlots} {stamps : List ℕ} {last : Change} {v : 
           };
           at_most_one = by.0;
           none = by.1;
-        })
+        }))

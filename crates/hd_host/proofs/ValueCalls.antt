@@ -11,7 +11,7 @@ use Rattle.hd_pool.specs.Pool.{FreeSlots}
 use Rattle.hd_slots.specs.Change.{Offers, change_in, noted}
 use Rattle.hd_slots.specs.declared.change.Change.TheVariants.{Keeps}
 use Rattle.hd_store.specs.{Calls.HasCalled, Calls.HasReturned, Calls.HasReturnedOf, Calls.KeepsFirst, Calls.pointed, Store.Machine}
-use Rattle.hd_host.specs.{declared.change.Change.Change, declared.fault.Fault.Fault, declared.handle.Handle.Handle, Calls.FailsBy, Calls.FailsOf, Calls.HasReplied, Calls.RepliesOf, Calls.Tries, Calls.TriesOf, Handles.IsOf, Replies.RepliesTo, View.HostView, View.IsAsItWas, Inside.fault_of, Inside.HasMoved, Inside.IsHost, Inside.Settled, Inside.no_change}
+use Rattle.hd_host.specs.{declared.change.Change.Change, declared.fault.Fault.Fault, declared.handle.Handle.Handle, Calls.FailsBy, Calls.FailsOf, Calls.HasReplied, Calls.RepliesOf, Calls.Tries, Calls.TriesOf, Changes.change_by, Changes.no_change, Handles.IsOf, Replies.RepliesTo, View.HostView, View.IsAsItWas, Inside.fault_of, Inside.HasMoved, Inside.IsHost, Inside.Settled}
 use Rattle.hd_host.proofs.CallHost.{done_by, host_after, parts_of, refused_by, stepped_by, view_of}
 use Rattle.hd_host.proofs.{HandleRefused.refused_of, Registers.not_pointed, Registers.pointed-again, WholeHost.whole}
 
@@ -60,7 +60,7 @@ module _ {m : Machine} {p : FreeSlots} {stamps : List ℕ} {last : Change} {v : 
       host_after host view known did p unoffered p (ap (λ x. noted p x e.slot e.grown) (sym keeps)) none
 
   pub replied_by : is_refused e.reply ≡ false → RepliesTo c e.reply
-      → HasReplied v context slot c e.reply (view_of k stamps (record { slot = e.slot; grown = e.grown }))
+      → HasReplied v context slot c e.reply (view_of k stamps (change_by e.slot e.grown))
   replied_by done replies =
       record { entry = e; done = done_by host view known did p unoffered done replies; reply = refl }
 

@@ -40,5 +40,5 @@ whole {m = m} {stamps = stamps} host view = subst IsWhole view (record {
       (omega (arith, known, host.tied.well_formed.shape.handle_registers))
       (omega (arith, host.tied.well_formed.shape.each_handle_registers context known));
   live = live_low host.tied;
-  stamps = length-map stamps (λ entry. entry / 2 ^ 16) ∙ host.stamps;
+  stamps = length-map stamps (λ entry. entry / 2 ^ 24) ∙ host.stamps;
 })

@@ -12,8 +12,7 @@ use Rattle.hd_store.specs.{Offers.FitsHeap, Store.Machine}
 use Rattle.hd_host.specs.declared.fault.Fault.{Fault}
 use Rattle.hd_host.specs.declared.fault.Fault.TheVariants as fault
 use Rattle.hd_host.specs.declared.handle.Handle.{Handle}
-use Rattle.hd_host.specs.declared.stamps.TheConstants.{END}
-use Rattle.hd_host.specs.Handles.{IsOf, IsStale, stamp_of}
+use Rattle.hd_host.specs.{Changes.change_by, Handles.IsOf, Handles.IsStale, Handles.stamp_of}
 use Rattle.hd_host.specs.Replies.{RepliesTo}
 use Rattle.hd_host.specs.Steps.{HasStepped}
 use Rattle.hd_host.specs.View.{HostView, IsAsItWas, state_in}
@@ -26,7 +25,7 @@ pub record HasDone (old : HostView) (context : ℕ) (slot : Option Slot) (comman
   pub done : is_refused e.reply ≡ false
   pub replies : RepliesTo command e.reply
   pub stamps : new.stamps ≡ old.stamps
-  pub last : new.last ≡ record { slot = e.slot; grown = e.grown }
+  pub last : new.last ≡ change_by e.slot e.grown
 
 -- with a reply
 pub record HasReplied (old : HostView) (context : ℕ) (slot : Option Slot) (command : Cmd) (answer : Reply)
@@ -60,12 +59,16 @@ pub data IsAtEnd (v : HostView) (context : ℕ) (slot : Option Slot) : Cmd → T
       → IsAtEnd v context slot (cmd.New d fields fin)
   no_count : (h : ℕ) (at : Slot) (held : Held Id) → slot ≡ Some at → handle_at v.machine.state at ≡ Some held
       → count_of held.extra + 1 ≡ 2 ^ 32 → IsAtEnd v context slot (cmd.HUp h)
-  no_stamp : (h : ℕ) (at : Slot) → slot ≡ Some at → stamp_of v at ≡ END → IsAtEnd v context slot (cmd.HFree h)
+  no_stamp : (h : ℕ) (at : Slot) → slot ≡ Some at → stamp_of v at + 1 ≡ 2 ^ 40
+      → IsAtEnd v context slot (cmd.HFree h)
 
--- memory ran out, for a command that may take some, and for none that has another fault
-pub record RanOutOfMemory (v : HostView) (command : Cmd) : Type 0 where
+-- memory ran out: the command may take some, and has no other fault. The heap has room for what it makes, the
+-- machine does not refuse it, and nothing that it needs is at its end.
+pub record RanOutOfMemory (v : HostView) (context : ℕ) (slot : Option Slot) (command : Cmd) : Type 0 where
   pub memory : takes_memory command ≡ true
   pub fits : FitsHeap v.machine.numbers v.machine.state command
+  pub allowed : (why : Refusal) → IsRefused v context slot command why → ⊥
+  pub below_end : IsAtEnd v context slot command → ⊥
 
 -- why a command fails, by its fault: the machine refuses it, so where too few blocks are without a use no
 -- slot of the kind is free (`least`), or something is at its end, or memory ran out
@@ -82,7 +85,7 @@ FailsBy v context slot command (fault.HeapFull used size) =
 FailsBy v context slot command (fault.TableFull given) =
     IsRefused v context slot command (refusal.TableFull given)
 FailsBy v context slot command fault.Exhausted = IsAtEnd v context slot command
-FailsBy v context slot command fault.Memory = RanOutOfMemory v command
+FailsBy v context slot command fault.Memory = RanOutOfMemory v context slot command
 
 -- a command by a handle was done with the slot of the handle
 pub record RepliesOf (old : HostView) (context : ℕ) (handle : Handle) (command : Cmd) (answer : Reply)
@@ -142,12 +145,12 @@ AddsEntry old context key value new = HasReplied old context None (cmd.CAdd key 
 pub record FreesHandle (old : HostView) (handle : Handle) (new : HostView) : Type 0 where
   pub slot : Slot
   pub handle_is : IsOf old handle slot
-  pub below_end : stamp_of old slot < END
+  pub below_end : stamp_of old slot + 1 < 2 ^ 40
   pub entry : Entry
   pub stepped : HasStepped old.machine 0 (Some slot) (cmd.HFree 0) new.machine entry
   pub reply : entry.reply ≡ reply.Done
   pub stamps : new.stamps ≡ slice_set old.stamps slot.0 (stamp_of old slot + 1)
-  pub last : new.last ≡ record { slot = entry.slot; grown = entry.grown }
+  pub last : new.last ≡ change_by entry.slot entry.grown
 
 -- `trim` gave back a block, 1, or none, 0, exactly where no block of the kind has all its slots free
 pub record Trims (old : HostView) (kind : Kind) (given : ℕ) (new : HostView) : Type 0 where

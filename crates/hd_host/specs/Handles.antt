@@ -1,4 +1,4 @@
--- Handles by value: a slot in the low 16 bits, and above them the stamp that the slot had when the handle was
+-- Handles by value: a slot in the low 24 bits, and above them the stamp that the slot had when the handle was
 -- made. The stamp of a slot is how often a handle in it was freed. This project's own, as GCHandle's by value
 -- (FromIntPtr) has no stamp.
 use Rattle.std.specs.Prelude.{◌≡◌, ℕ, ◌+◌, ◌*◌, ◌≤◌, ◌^◌, slice_index, Some, IsSome}
@@ -11,7 +11,7 @@ use Rattle.hd_host.specs.View.{HostView}
 
 -- the handle in a slot with a stamp
 abbrev pub stamped : Slot → ℕ → Handle
-stamped slot stamp = record { 0 = stamp * 2 ^ 16 + slot.0 }
+stamped slot stamp = record { 0 = stamp * 2 ^ 24 + slot.0 }
 
 -- the stamp of a slot
 abbrev pub stamp_of : HostView → Slot → ℕ

@@ -1,12 +1,12 @@
 -- What private clauses alone cite.
-use Rattle.std.specs.Prelude.{◌≡◌, ℕ, Bool, true, false, Option, None, Result, Ok, Err, ◌+◌, ◌*◌, ◌/◌, ◌%◌, ◌<◌, ◌^◌, List, is_some, length, map, slice_index}
+use Rattle.std.specs.Prelude.{◌≡◌, ℕ, Bool, true, false, Option, None, Some, Result, Ok, Err, ◌+◌, ◌*◌, ◌/◌, ◌%◌, ◌<◌, ◌^◌, List, is_some, length, map, slice_index}
 use Rattle.hd_model.specs.{declared.data.Entry.Entry, declared.data.Slot.Slot, declared.command.Cmd.Cmd, State.State, State.handle_at, State.handle_register_of, declared.limits.TheConstants.ROWS, declared.data.Refusal.Refusal}
-use Rattle.hd_model.specs.declared.data.Grown.TheVariants.{Zero}
 use Rattle.hd_store.specs.Calls.{pointed, HasCalled}
 use Rattle.hd_store.specs.{Store.Machine, Offers.HasLimits}
 use Rattle.hd_pool.specs.Pool.{FreeSlots}
 use Rattle.hd_slots.specs.Tied.{IsTied}
-use Rattle.hd_host.specs.{declared.change.Change.Change, View.state_in, declared.fault.Fault.Fault}
+use Rattle.hd_host.specs.{declared.change.Change.Change, declared.change.Last.Last, declared.fault.Fault.Fault, Changes.no_change, View.state_in}
+use Rattle.hd_host.specs.declared.change.Last.TheVariants as kept
 use Rattle.hd_host.specs.declared.stamps.TheConstants.{FREE}
 use Rattle.hd_model.specs.declared.data.Refusal.TheVariants as refusal
 use Rattle.hd_host.specs.declared.fault.Fault.TheVariants as fault
@@ -23,9 +23,11 @@ fault_of refusal.EmptyRegister = fault.Stale
 fault_of refusal.CountZero = fault.CountZero
 fault_of refusal.Present = fault.Present
 
--- what a call does to slots and blocks that neither gives nor frees a slot
-abbrev pub no_change : Change
-no_change = record { slot = None; grown = Zero }
+-- a change as a host keeps it, in full
+abbrev pub in_full : Last → Change
+in_full kept.Nothing = no_change
+in_full (kept.Slot slot) = record no_change { slot = Some slot }
+in_full (kept.Blocks change) = change
 
 -- what a call returns that neither gives nor frees a slot: its value, and then it is the last one that was
 -- done; or the fault of the refusal
@@ -47,9 +49,9 @@ pub record HasMoved (old : Machine) (context : ℕ) (slot : Option Slot) (comman
 
 -- ---- what is always true of the parts of a host
 
--- the stamps of slots, by their entries, each of which is a stamp above 16 bits
+-- the stamps of slots, by their entries, each of which is a stamp above 24 bits
 abbrev pub stamps_in : List ℕ → List ℕ
-stamps_in = map (λ entry. entry / 2 ^ 16)
+stamps_in = map (λ entry. entry / 2 ^ 24)
 
 -- these are the number of the slot where it is live, and else one that no slot has
 abbrev pub low_bits : Bool → Slot → ℕ
@@ -59,7 +61,7 @@ low_bits false slot = FREE
 -- which slots are live, by their entries
 abbrev pub ShowsLive : State → List ℕ → Type 0
 ShowsLive s entries = (slot : Slot) → slot.0 < length entries
-    → slice_index entries slot.0 % 2 ^ 16 ≡ low_bits (is_some (handle_at s slot)) slot
+    → slice_index entries slot.0 % 2 ^ 24 ≡ low_bits (is_some (handle_at s slot)) slot
 
 -- the numbers are within the limits, the store is well formed, the pool has the slots that are free in its
 -- state, no handle register has a slot, and there is an entry for each slot, which shows whether it is live

@@ -7,7 +7,7 @@ ghost use Rattle.hd_host.specs.Calls.{HasReplied, Trims, Tries};
 ghost use Rattle.hd_commands.specs.Done.{queued_reply};
 ghost use Rattle.hd_store.specs.Replies.{given_back, root_reply};
 
-use crate::change::{Change, settle};
+use crate::change::{Last, settle};
 use crate::fault::Fault;
 use crate::host::Host;
 use hd_model::limits::{OLDEST, REGISTERS};
@@ -26,7 +26,7 @@ impl Host {
         let _contexts = self.contexts();
         match self.store.collect(0, n) {
             Ok(report) => {
-                self.last = Change::none();
+                self.last = Last::Nothing;
                 Ok(report)
             }
             Err(Memory) => Err(Fault::Memory),
@@ -43,7 +43,7 @@ impl Host {
         ensures contexts { self.new.machine.numbers.callers ≡ self.old.machine.numbers.callers }
     {
         let taken = self.store.take_queued(context, dst);
-        self.last = Change::none();
+        self.last = Last::Nothing;
         taken
     }
 
@@ -61,17 +61,21 @@ impl Host {
         let offered = offer(&mut self.pool, change);
         let grown = self.store.trim(0, kind, offered);
         note_slot(&mut self.pool, change, None, grown);
-        self.last = Change { slot: None, grown };
+        self.last = Last::by(None, grown);
         given_back(grown)
     }
 
-    /// Where a shortest chain to the object begins, or nothing where no chain leads to it.
+    /// Where a shortest chain to the object begins, or nothing where no chain leads to it. That the
+    /// local is null is reported before memory is taken.
     pub fn root_of(&mut self, context: u32, object: u8) -> Result<Option<Root>, Fault>
         requires context { context < self.old.machine.numbers.callers }
         requires local { object < REGISTERS }
         ensures does { Tries self.old context (cmd.GcRoot object) root_reply self.new result }
         ensures contexts { self.new.machine.numbers.callers ≡ self.old.machine.numbers.callers }
     {
+        let Some(_goal) = self.local_id(context, object) else {
+            return Err(Fault::Null);
+        };
         match self.store.root_of(context, object) {
             Ok(came) => settle(&mut self.last, came),
             Err(Memory) => Err(Fault::Memory),

@@ -6,9 +6,9 @@ ghost use Rattle.hd_model.specs.{declared.data.Id.Id, Command.load_reply, Valid.
 ghost use Rattle.hd_model.specs.State.{Handle as Held, count_of, handle_at};
 ghost use Rattle.hd_host.specs.Calls.{FailsOf, FailsBy, MakesHandle, FreesHandle, TriesOf};
 ghost use Rattle.hd_model.specs.Handles.{extra_of};
-ghost use Rattle.hd_host.specs.{Handles.handle_of, Inside.Settled, View.IsAsItWas};
+ghost use Rattle.hd_host.specs.{Handles.handle_of, Inside.Settled, Inside.in_full, View.IsAsItWas};
 
-use crate::change::{Change, settle};
+use crate::change::{Last, settle};
 use crate::fault::Fault;
 use crate::handle::Handle;
 use crate::host::Host;
@@ -37,10 +37,7 @@ impl Host {
             Ok((slot, grown)) => {
                 note_slot(&mut self.pool, change, Some(slot), grown);
                 self.stamps.make(slot);
-                self.last = Change {
-                    slot: Some(slot),
-                    grown,
-                };
+                self.last = Last::by(Some(slot), grown);
                 Ok(self.handle_in(slot))
             }
             Err(refusal) => Err(Fault::of(refusal)),
@@ -48,7 +45,7 @@ impl Host {
     }
 
     /// Frees a handle (GCHandle.Free). It is stale from now on. The handle of a slot that was freed
-    /// 2^48 - 1 times before stays, and may be set to null.
+    /// 2^40 - 1 times before stays, and may be set to null.
     #[inline(always)]
     pub fn handle_free(&mut self, handle: Handle) -> Result<(), Fault>
         ensures does { MatchResult result (λ _. FreesHandle self.old handle self.new)
@@ -66,10 +63,7 @@ impl Host {
         self.store.free_handle(0, slot);
         note_slot(&mut self.pool, Slots::Frees, Some(slot), Grown::Zero);
         self.stamps.free(slot);
-        self.last = Change {
-            slot: Some(slot),
-            grown: Grown::Zero,
-        };
+        self.last = Last::Slot(slot);
         Ok(())
     }
 
@@ -87,7 +81,7 @@ impl Host {
         let Some(target) = self.store.load_target(context, dst, slot) else {
             return Err(Fault::Stale);
         };
-        self.last = Change::none();
+        self.last = Last::Nothing;
         Ok(target)
     }
 
@@ -231,8 +225,8 @@ impl Host {
 
 // What a call returns that returns a count.
 #[inline(always)]
-fn settle_count(last: &mut Change, came: Result<u32, Refusal>) -> Result<u64, Fault>
-    ensures { Settled last.old came last.new result }
+fn settle_count(last: &mut Last, came: Result<u32, Refusal>) -> Result<u64, Fault>
+    ensures { Settled (in_full last.old) came (in_full last.new) result }
 {
     match settle(last, came) {
         Ok(count) => Ok(u64::from(count)),
@@ -250,8 +244,9 @@ fn count_of(extra: ExtraInfo<Id>) -> u32
     }
 }
 
-// Whether a count is at its end.
-fn is_last(count: u32) -> bool
+/// Whether a count, or a serial, is at its end.
+#[inline(always)]
+pub(crate) fn is_last(count: u32) -> bool
     ensures last { result ≡ true → count + 1 ≡ 2 ^ 32 }
     ensures below { result ≡ false → count + 1 < 2 ^ 32 }
 {

@@ -1,9 +1,8 @@
-ghost use Rattle.std.specs.Prelude.{◌≡◌, ◌≤◌, ◌*◌, ◌+◌, replicate, None, IfOk, MatchOption};
-ghost use Rattle.hd_model.specs.declared.data.Grown.TheVariants.{Zero};
+ghost use Rattle.std.specs.Prelude.{◌≡◌, ◌≤◌, ◌*◌, ◌+◌, replicate, IfOk, MatchOption};
 ghost use Rattle.hd_model.specs.State.{Numbers, start_of};
-ghost use Rattle.hd_host.specs.Handles.{IsOf, IsStale};
+ghost use Rattle.hd_host.specs.{Changes.no_change, Handles.IsOf, Handles.IsStale};
 
-use crate::change::Change;
+use crate::change::{Change, Last};
 use crate::handle::Handle;
 use crate::stamps::Stamps;
 use hd_model::limits::{BLOCKS, CALLERS, CLUMPS, HEAP, OLDEST, ROWS};
@@ -38,11 +37,11 @@ pub struct Host {
     pub(crate) store: Store,
     pub(crate) pool: Pool,
     pub(crate) stamps: Stamps,
-    pub(crate) last: Change,
+    pub(crate) last: Last,
 }
 
 impl Model for Host {
-    ghost use Rattle.hd_host.specs.{View.HostView, View.host_view_code, Inside.IsHost, Inside.stamps_in};
+    ghost use Rattle.hd_host.specs.{View.HostView, View.host_view_code, Inside.IsHost, Inside.in_full, Inside.stamps_in};
 
     ghost Value = { HostView };
 
@@ -51,7 +50,7 @@ impl Model for Host {
     ghost view = { λ h. record {
       machine = h.store;
       stamps = stamps_in h.stamps;
-      last = h.last;
+      last = in_full h.last;
     } };
 
     ghost invariant = { λ h. IsHost h.store h.pool h.stamps };
@@ -71,12 +70,12 @@ impl Host {
         ensures state { IfOk result (λ h. h.machine.state ≡ start_of h.machine.numbers) }
         ensures ages { IfOk result (λ h. h.machine.ages ≡ replicate (CLUMPS * limits.blocks) OLDEST) }
         ensures stamps { IfOk result (λ h. h.stamps ≡ replicate (ROWS * (limits.blocks + 1)) 0) }
-        ensures last { IfOk result (λ h. h.last ≡ record { slot = None; grown = Zero }) }
+        ensures last { IfOk result (λ h. h.last ≡ no_change) }
     {
         let store = Store::open(alloc, limits.cells, limits.blocks, limits.contexts)?;
         let pool = Pool::open(alloc, limits.blocks)?;
         let stamps = Stamps::open(alloc, limits.blocks)?;
-        let last = Change::none();
+        let last = Last::Nothing;
         Ok(Host {
             store,
             pool,
@@ -98,7 +97,7 @@ impl Host {
     pub fn last(&self) -> Change
         ensures { result ≡ self.now.last }
     {
-        self.last
+        self.last.in_full()
     }
 
     // The slot of a live handle.

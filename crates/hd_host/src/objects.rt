@@ -1,12 +1,13 @@
 // The calls on objects, locals and statics.
-ghost use Rattle.std.specs.Prelude.{◌≡◌, ℕ, ◌+◌, ◌<◌, ◌≤◌, ◌^◌, Bool, None};
+ghost use Rattle.std.specs.Prelude.{◌≡◌, ℕ, ◌+◌, ◌<◌, ◌≤◌, ◌^◌, Bool, true, false, None};
 ghost use Rattle.hd_model.specs.declared.command.Cmd.TheVariants as cmd;
 ghost use Rattle.hd_model.specs.declared.data.Reply.TheVariants as reply;
 ghost use Rattle.hd_model.specs.{Command.load_reply, State.last_serial};
 ghost use Rattle.hd_host.specs.{Calls.HasReplied, Calls.FailsBy, Calls.Tries};
 
-use crate::change::{Change, settle};
+use crate::change::{Last, settle};
 use crate::fault::Fault;
+use crate::handles::is_last;
 use crate::host::Host;
 use hd_model::limits::{FIELDS, HEADER, REGISTERS};
 use hd_model::{Id, Memory};
@@ -23,13 +24,24 @@ impl Host {
             result }
         ensures contexts { self.new.machine.numbers.callers ≡ self.old.machine.numbers.callers }
     {
-        if self.store.contents().last_serial(context) == u32::MAX {
+        if self.has_made_all(context) {
             return Err(self.no_serial_left(context, fields));
         }
         match self.store.new_object(context, dst, fields, fin) {
             Ok(came) => settle(&mut self.last, came),
             Err(Memory) => Err(Fault::Memory),
         }
+    }
+
+    // Whether a context has made 2^32 - 1 objects.
+    #[inline(always)]
+    fn has_made_all(&self, context: u32) -> bool
+        requires { context < self.now.machine.numbers.callers }
+        ensures all { result ≡ true → last_serial self.now.machine.state context + 1 ≡ 2 ^ 32 }
+        ensures more { result ≡ false →
+            last_serial self.now.machine.state context + 1 < 2 ^ 32 }
+    {
+        is_last(self.store.contents().last_serial(context))
     }
 
     // Why a context that has made 2^32 - 1 objects makes no other: the heap is full, or else that.
@@ -151,7 +163,7 @@ impl Host {
         ensures contexts { self.new.machine.numbers.callers ≡ self.old.machine.numbers.callers }
     {
         self.store.copy_register(context, dst, src);
-        self.last = Change::none();
+        self.last = Last::Nothing;
     }
 
     /// Local `dst` becomes null.
@@ -163,7 +175,7 @@ impl Host {
         ensures contexts { self.new.machine.numbers.callers ≡ self.old.machine.numbers.callers }
     {
         self.store.clear_register(context, dst);
-        self.last = Change::none();
+        self.last = Last::Nothing;
     }
 
     /// Static `k` gets what local `src` references. All contexts have the 16 statics.
@@ -175,7 +187,7 @@ impl Host {
         ensures contexts { self.new.machine.numbers.callers ≡ self.old.machine.numbers.callers }
     {
         self.store.put_static(context, k, src);
-        self.last = Change::none();
+        self.last = Last::Nothing;
     }
 
     /// Local `dst` gets what static `k` references, which is returned.
@@ -188,7 +200,7 @@ impl Host {
         ensures contexts { self.new.machine.numbers.callers ≡ self.old.machine.numbers.callers }
     {
         let target = self.store.get_static(context, dst, k);
-        self.last = Change::none();
+        self.last = Last::Nothing;
         target
     }
 }

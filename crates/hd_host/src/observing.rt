@@ -98,7 +98,7 @@ impl Host {
     /// The live handle with the least slot from a number on.
     pub fn next_handle(&self, from: u32) -> Option<Listed>
         ensures next { MatchOption result (HasNoneFrom self.now from) (IsNextFrom self.now from) }
-        ensures few { IfSome result (λ l. l.slot.0 < 2 ^ 16) }
+        ensures few { IfSome result (λ l. l.slot.0 < 2 ^ 24) }
     {
         let end = (self.store.contents().blocks() + 1) * ROWS;
         for number in from..end {

@@ -9,10 +9,10 @@ use std::alloc::Global;
 use std::marker::Model;
 
 /// The last stamp. A handle that has it is not freed, since no stamp comes after it.
-pub(crate) const END: u64 = (1 << 48) - 1;
+pub(crate) const END: u64 = (1 << 40) - 1;
 
 /// What stands in the low bits of the entry of a slot that is not live: no slot has this number.
-pub(crate) const FREE: u64 = (1 << 16) - 1;
+pub(crate) const FREE: u64 = (1 << 24) - 1;
 
 /// An entry for each slot of a table: its handle while it is live, and else the stamp that its next
 /// handle gets, above a number that no slot has. So one comparison tells a live handle from any
@@ -55,9 +55,9 @@ impl Stamps {
     /// Whether a handle, which may be any number, is the entry of its slot.
     #[inline(always)]
     pub(crate) fn is_live(&self, handle: Handle) -> bool
-        ensures own { result ≡ true → slice_get self.now (handle.0 % 2 ^ 16) ≡ Some handle.0 }
+        ensures own { result ≡ true → slice_get self.now (handle.0 % 2 ^ 24) ≡ Some handle.0 }
         ensures other { result ≡ false →
-            IfSome (slice_get self.now (handle.0 % 2 ^ 16)) (λ entry. entry ≢ handle.0) }
+            IfSome (slice_get self.now (handle.0 % 2 ^ 24)) (λ entry. entry ≢ handle.0) }
     {
         match self.entries.get(handle.slot().0 as usize) {
             Some(entry) => *entry == handle.0,
@@ -78,10 +78,10 @@ impl Stamps {
     #[inline(always)]
     pub(crate) fn make(&mut self, slot: Slot)
         requires slot { slot.0 < length self.old }
-        requires small { slot.0 < 2 ^ 16 }
-        requires free { slice_index self.old slot.0 % 2 ^ 16 ≡ FREE }
+        requires small { slot.0 < 2 ^ 24 }
+        requires free { slice_index self.old slot.0 % 2 ^ 24 ≡ FREE }
         ensures { self.new ≡
-            slice_set self.old slot.0 (slice_index self.old slot.0 / 2 ^ 16 * 2 ^ 16 + slot.0) }
+            slice_set self.old slot.0 (slice_index self.old slot.0 / 2 ^ 24 * 2 ^ 24 + slot.0) }
     {
         let entry = self.entries[slot.0 as usize];
         self.entries[slot.0 as usize] = entry - FREE + u64::from(slot.0);
@@ -91,10 +91,10 @@ impl Stamps {
     #[inline(always)]
     pub(crate) fn free(&mut self, slot: Slot)
         requires slot { slot.0 < length self.old }
-        requires live { slice_index self.old slot.0 % 2 ^ 16 ≡ slot.0 }
-        requires end { slice_index self.old slot.0 / 2 ^ 16 < END }
+        requires live { slice_index self.old slot.0 % 2 ^ 24 ≡ slot.0 }
+        requires end { slice_index self.old slot.0 / 2 ^ 24 < END }
         ensures { self.new ≡ slice_set self.old slot.0
-            ((slice_index self.old slot.0 / 2 ^ 16 + 1) * 2 ^ 16 + FREE) }
+            ((slice_index self.old slot.0 / 2 ^ 24 + 1) * 2 ^ 24 + FREE) }
     {
         let entry = self.entries[slot.0 as usize];
         self.entries[slot.0 as usize] = entry - u64::from(slot.0) + (FREE + 1) + FREE;

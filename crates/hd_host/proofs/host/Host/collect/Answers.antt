@@ -1,5 +1,5 @@
 use Rattle.hd_model.specs.declared.data.Reply.TheVariants as reply
-use Rattle.hd_host.proofs.CallHost.{host_without, ran_out}
+use Rattle.hd_host.proofs.{CallHost.host_without, OutOfMemory.collect_ran_out, OutOfMemory.out_as_it_was}
 use Rattle.hd_host.proofs.ValueCalls.{called_numbers, callers_by, host_on, refl, replied_on, some_context}
 use Rattle.hd_host.proofs.host.Host.collect.Goals as goal
 
@@ -9,8 +9,7 @@ invariant_of-self c =
 
 pub returns-in-Ok-clause-does : goal.returns-in-Ok-clause-does
 returns-in-Ok-clause-does c =
-    replied_on c.self.invariant c.self.view_is (some_context c.self.invariant c.self.view_is) refl refl (reply.Report c.in-Ok.report) c.in-Ok.ensures refl refl
-    c.none-self-inside.ensures
+    replied_on c.self.invariant c.self.view_is (some_context c.self.invariant c.self.view_is) refl refl (reply.Report c.in-Ok.report) c.in-Ok.ensures refl refl refl
 
 pub returns-in-Ok-clause-contexts : goal.returns-in-Ok-clause-contexts
 returns-in-Ok-clause-contexts c =
@@ -22,4 +21,4 @@ invariant_of-self-in-Err c =
 
 pub returns-in-Err-clause-does : goal.returns-in-Err-clause-does
 returns-in-Err-clause-does c =
-    ran_out c.in-Err.ensures c.self.view_is
+    (collect_ran_out c.in-Err.ensures c.self.view_is, out_as_it_was c.in-Err.ensures c.self.view_is)

@@ -22,7 +22,7 @@ returns-clause-does c =
       ap (λ (x : Machine). handle_register_of x.state c.args.context 0)
           c.in-Some-load_target.ensures.loads,
     )
-    (not_refused c.in-Some-load_target.target) (loads c.in-Some-load_target.target) c.none-self-inside.ensures
+    (not_refused c.in-Some-load_target.target) (loads c.in-Some-load_target.target) refl
 
 pub returns-clause-contexts : goal.returns-clause-contexts
 returns-clause-contexts c =

@@ -1,10 +1,10 @@
 use Rattle.hd_model.specs.declared.data.Reply.TheVariants as reply
-use Rattle.hd_host.proofs.{CallHost.host_without, CallHost.ran_out, SameHost.unchanged}
+use Rattle.hd_host.proofs.{CallHost.host_without, OutOfMemory.new_ran_out, OutOfMemory.out_as_it_was, SameHost.unchanged}
 use Rattle.hd_host.proofs.ValueCalls.{called_numbers, callers_by, host_on, refl, tried}
 use Rattle.hd_host.proofs.host.Host.object_new.Goals as goal
 
-pub returns-then-last_serial-clause-does : goal.returns-then-last_serial-clause-does
-returns-then-last_serial-clause-does c =
+pub returns-then-has_made_all-clause-does : goal.returns-then-has_made_all-clause-does
+returns-then-has_made_all-clause-does c =
     (c.no_serial_left.ensures c.args.dst c.args.fin, unchanged c.args.self.now)
 
 pub invariant_of-self : goal.invariant_of-self
@@ -25,5 +25,7 @@ invariant_of-self-in-Err c =
     host_without c.in-Err.ensures c.self.invariant
 
 pub returns-in-Err-clause-does : goal.returns-in-Err-clause-does
-returns-in-Err-clause-does c =
-    ran_out c.in-Err.ensures c.self.view_is
+returns-in-Err-clause-does c = (
+  new_ran_out c.in-Err.ensures c.self.view_is (c.has_made_all.ensures.more c.if-has_made_all.false),
+  out_as_it_was c.in-Err.ensures c.self.view_is,
+)

@@ -1,0 +1,183 @@
+-- A command that ran out of memory has no other fault, and `gcroot` of a null local is refused.
+use Rattle.std.proofs.Common.{Bool, List, None, Option, Some, ap, arith, false, nat_lt, refl, subst, sym, ℕ, ⊎_elim, ◌+◌, ◌<◌, ◌^◌, ◌∙◌, ◌≡◌, ◌≤◌}
+use Rattle.std.proofs.lemmas.{Bool.le-ltb, Bool.true≢false, Option.none-some}
+use Rattle.std.specs.{FinMap.empty, Option.option_map_or}
+use Rattle.hd_model.proofs.{AgedRuns.nothing_at, Outcomes.test_cases}
+use Rattle.hd_model.specs.{declared.command.Cmd.Cmd, declared.data.Entry.Entry, declared.data.Id.Id, declared.data.Refusal.Refusal, declared.data.Reply.Reply, declared.data.Slot.Slot, Aging.is_refused, PinnedAddresses.with_pinned, Step.IsOutcome, Step.StepOf}
+use Rattle.hd_model.specs.Command.{Outcome, new_object, refuses, reply_root, reply_with}
+use Rattle.hd_model.specs.declared.command.Cmd.TheVariants as cmd
+use Rattle.hd_model.specs.declared.data.Grown.TheVariants.{Zero}
+use Rattle.hd_model.specs.declared.data.Refusal.TheVariants as refusal
+use Rattle.hd_model.specs.declared.data.Reply.TheVariants as reply
+use Rattle.hd_model.specs.declared.limits.TheConstants.{REGISTERS}
+use Rattle.hd_model.specs.State.{Numbers, State, last_serial, register_of, total_size}
+use Rattle.hd_store.specs.{Offers.FitsHeap, Offers.RanOut, PinnedAddresses.Moves, Store.Machine}
+use Rattle.hd_host.specs.{declared.change.Change.Change, Calls.IsAtEnd, Calls.IsRefused, Calls.RanOutOfMemory, Calls.no_count, Calls.no_serial, Calls.no_stamp, Steps.pointed, View.HostView, View.IsAsItWas}
+use Rattle.hd_host.proofs.{CallHost.parts_of, SameHost.unchanged}
+
+-- ---- what is at its end
+
+-- that of a command, of which only three have anything
+abbrev Ends : HostView → ℕ → Cmd → Type 0
+Ends v context (cmd.New d fields fin) = last_serial v.machine.state context + 1 ≡ 2 ^ 32
+Ends v context (cmd.HUp h) = Unit {0}
+Ends v context (cmd.HFree h) = Unit {0}
+Ends v context _ = ⊥
+
+ends : {v : HostView} {context : ℕ} {slot : Option Slot} {c : Cmd} → IsAtEnd v context slot c → Ends v context c
+ends (no_serial d fields fin at room) = at
+ends (no_count h at held names live end) = tt
+ends (no_stamp h at names end) = tt
+
+-- ---- what the machine refuses
+
+module _ {v : HostView} {context : ℕ} {slot : Option Slot} {c : Cmd} {why : Refusal}
+    (refused : IsRefused v context slot c why) where
+  abbrev asked : State
+  asked = with_pinned (pointed v.machine context slot).state empty
+
+  goes : Moves (pointed v.machine context slot) refused.entry refused.stepped.after empty
+  goes = refused.stepped.effect empty (λ x at found. absurd (nothing_at x at found))
+
+  did : StepOf v.machine.numbers asked refused.entry (with_pinned refused.stepped.after.state goes.pinned) c
+  did = subst (λ (x : Cmd). StepOf v.machine.numbers asked refused.entry
+      (with_pinned refused.stepped.after.state goes.pinned) x) refused.stepped.command_is.1 goes.step.does
+
+  not_done : (r : Reply) → refused.entry.reply ≡ r → is_refused r ≡ false → ⊥
+  not_done r comes done = true≢false (ap is_refused (sym refused.reply ∙ comes) ∙ done)
+
+never_collect : {v : HostView} {context n : ℕ} {slot : Option Slot} (why : Refusal)
+    → IsRefused v context slot (cmd.Collect n) why → ⊥
+never_collect why refused = not_done refused (reply.Report (did refused).report) (did refused).reply refl
+
+made : (n : Numbers) (s : State) (caller d fields : ℕ) (fin : Bool) → total_size s + (fields + 3) ≤ n.heap
+    → is_refused (new_object n s caller d fields fin).reply ≡ false
+made n s caller d fields fin room =
+    test_cases (λ (o : Outcome). is_refused o.reply ≡ false) (nat_lt n.heap (total_size s + (fields + 3))) _ _
+    (λ over. absurd (true≢false (sym over ∙ le-ltb n.heap (total_size s + (fields + 3)) room))) (λ _. refl)
+
+never_new : {v : HostView} {context d fields : ℕ} {fin : Bool} {slot : Option Slot}
+    → FitsHeap v.machine.numbers v.machine.state (cmd.New d fields fin) → (why : Refusal)
+    → IsRefused v context slot (cmd.New d fields fin) why → ⊥
+never_new {v = v} {d = d} {fields = fields} {fin = fin} fits why refused =
+    not_done refused
+    (new_object v.machine.numbers (asked refused) refused.entry.caller d fields fin).reply (did refused).1.reply
+    (made v.machine.numbers (asked refused) refused.entry.caller d fields fin (fits fields refl))
+
+-- what `gcroot` comes to, by what its local references
+abbrev answered : State → Reply → Option Id → Outcome
+answered s found o = option_map_or (λ _. reply_with found s) o (refuses refusal.Null s)
+
+never_root : {v : HostView} {context object : ℕ} {slot : Option Slot} {goal : Id}
+    → register_of v.machine.state context object ≡ Some goal → (why : Refusal)
+    → IsRefused v context slot (cmd.GcRoot object) why → ⊥
+never_root {v = v} {object = object} {goal = goal} names why refused =
+    let named : register_of v.machine.state refused.entry.caller object ≡ Some goal =
+    ap (λ k. register_of v.machine.state k object) refused.stepped.command_is.0 ∙ names in
+    let found : Reply = (did refused).found in
+    not_done refused found
+    ((did refused).outcome.reply ∙ ap (λ o. (answered (asked refused) found o).reply) named)
+    (⊎_elim (λ x. ap is_refused x.reply_is) (λ x. ap is_refused x.1) ((did refused).is_root goal named))
+
+-- ---- `gcroot` of a null local
+
+module _ (v : HostView) (context object : ℕ) (known : context < v.machine.numbers.callers)
+    (low : object < REGISTERS) (null : register_of v.machine.state context object ≡ None) where
+  abbrev at : Machine
+  at = pointed v.machine context None
+
+  abbrev entry : Entry
+  entry = record {
+    caller = context;
+    cmd = cmd.GcRoot object;
+    slot = None;
+    grown = Zero;
+    reply = reply.Refused refusal.Null;
+  }
+
+  -- whatever was returned before
+  refuses_null : (s : State) → register_of s context object ≡ None
+      → IsOutcome entry (reply_root s context object reply.Unrooted) s
+  refuses_null s none =
+      subst (λ o. IsOutcome entry (answered s reply.Unrooted o) s) (sym none)
+      (record { reply = refl; slot = refl; grown = refl; after = refl })
+
+  pub null_root : IsRefused v context None (cmd.GcRoot object) refusal.Null
+  null_root = record {
+    entry = entry;
+    after = pointed at context None;
+    stepped = record {
+      after = at;
+      command_is = (refl, refl);
+      effect = λ before are. record {
+        pinned = before;
+        step = record {
+          caller = known;
+          valid = low;
+          does = record {
+            found = reply.Unrooted;
+            is_root = λ goal named. absurd (none-some goal (sym null ∙ named));
+            outcome = refuses_null (with_pinned at.state before) null;
+          };
+        };
+        addresses = are;
+        ages = refl;
+        numbers = refl;
+        heap = record {
+          cards = λ n report same. absurd (cc same);
+          compact = λ report same. absurd (cc same);
+        };
+      };
+      least = tt;
+      addresses = record {
+        returned = λ h address x same. absurd (cc same);
+        pinned = λ x address held is. is;
+        others = λ plain x address is. is;
+      };
+      new_is = refl;
+    };
+    reply = refl;
+  }
+
+-- ---- out of memory
+
+module _ {m k : Machine} {stamps : List ℕ} {last : Change} {v : HostView} {c : Cmd}
+    (out : RanOut m.numbers m.state c m k) (view : parts_of m stamps last ≡ v) where
+  pub out_as_it_was : IsAsItWas v (parts_of k stamps last)
+  out_as_it_was =
+      subst (λ (x : HostView). IsAsItWas x (parts_of k stamps last)) view
+      (subst (λ (x : Machine). IsAsItWas (parts_of m stamps last) (parts_of x stamps last)) (sym out.unchanged)
+      (unchanged (parts_of m stamps last)))
+
+  fits : FitsHeap v.machine.numbers v.machine.state c
+  fits = subst (λ (x : HostView). FitsHeap x.machine.numbers x.machine.state c) view out.fits
+
+pub collect_ran_out : {m k : Machine} {stamps : List ℕ} {last : Change} {v : HostView} {context n : ℕ}
+    → RanOut m.numbers m.state (cmd.Collect n) m k → parts_of m stamps last ≡ v
+    → RanOutOfMemory v context None (cmd.Collect n)
+collect_ran_out out view = record {
+  memory = out.memory;
+  fits = fits out view;
+  allowed = never_collect;
+  below_end = λ at. ends at;
+}
+
+pub new_ran_out : {m k : Machine} {stamps : List ℕ} {last : Change} {v : HostView} {context d fields : ℕ} {fin : Bool}
+    → RanOut m.numbers m.state (cmd.New d fields fin) m k → parts_of m stamps last ≡ v
+    → last_serial v.machine.state context + 1 < 2 ^ 32 → RanOutOfMemory v context None (cmd.New d fields fin)
+new_ran_out out view below = record {
+  memory = out.memory;
+  fits = fits out view;
+  allowed = never_new (fits out view);
+  below_end = λ at. omega (arith, ends at, below);
+}
+
+pub root_ran_out : {m k : Machine} {stamps : List ℕ} {last : Change} {v : HostView} {context object : ℕ} {goal : Id}
+    → RanOut m.numbers m.state (cmd.GcRoot object) m k → parts_of m stamps last ≡ v
+    → register_of v.machine.state context object ≡ Some goal → RanOutOfMemory v context None (cmd.GcRoot object)
+root_ran_out out view names = record {
+  memory = out.memory;
+  fits = fits out view;
+  allowed = never_root names;
+  below_end = λ at. ends at;
+}
