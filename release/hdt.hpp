@@ -27,7 +27,8 @@ namespace hdt {
 enum class Status : std::uint32_t {
     ok = HDT_OK, closed = HDT_CLOSED, is_open = HDT_IS_OPEN, argument = HDT_ARGUMENT, no_memory = HDT_NO_MEMORY,
     exhausted = HDT_EXHAUSTED, stale = HDT_STALE, wrong_kind = HDT_WRONG_KIND, count_zero = HDT_COUNT_ZERO, null = HDT_NULL,
-    no_field = HDT_NO_FIELD, present = HDT_PRESENT, heap_full = HDT_HEAP_FULL, table_full = HDT_TABLE_FULL, none = HDT_NONE
+    no_field = HDT_NO_FIELD, present = HDT_PRESENT, heap_full = HDT_HEAP_FULL, table_full = HDT_TABLE_FULL, none = HDT_NONE,
+    busy = HDT_BUSY, room = HDT_ROOM
 };
 
 enum class Kind : std::uint32_t {
@@ -60,6 +61,8 @@ inline const char *name(Status status) noexcept {
     case Status::heap_full: return "the heap is full";
     case Status::table_full: return "the table is full";
     case Status::none: return "none";
+    case Status::busy: return "another call is under way";
+    case Status::room: return "the array is too short";
     }
     return "unknown status";
 }

@@ -9,7 +9,7 @@ static hdt_host host = HDT_CLOSED_HOST;
 static const char *text_of(hdt_status status) {
     static const char *const texts[] = { "ok",        "closed",    "open",     "argument", "memory",   "exhausted", "notlive",
                                          "wrongkind", "countzero", "nullref",  "badfield", "present",  "heapfull",  "tablefull",
-                                         "none" };
+                                         "none",      "busy",      "room" };
     return status < sizeof texts / sizeof texts[0] ? texts[status] : "?";
 }
 
@@ -35,7 +35,7 @@ static void stats(void) {
 }
 
 static void last(void) {
-    hdt_change out = { 0, 0, 0, 0 };
+    hdt_change out = { 0, 0, 0, 0, 0 };
     if (hdt_last(&host, &out) != HDT_OK) said("last", HDT_CLOSED);
     else printf("  last: slot %u block %u data %u given back %u\n", (unsigned)out.slot, (unsigned)out.block,
                 (unsigned)out.data_block, (unsigned)out.given_back);
@@ -189,7 +189,7 @@ static void handles(uint32_t from) {
     }
     printf("  handles: %u, next %u\n", (unsigned)count, (unsigned)next);
     for (size_t i = 0; i < count; i++) {
-        printf("    slot %u kind %u target %u.%u extra %u\n", (unsigned)(found[i].handle & 0xffff), (unsigned)found[i].kind,
+        printf("    slot %u kind %u target %u.%u extra %u\n", (unsigned)(found[i].handle & 0xffffff), (unsigned)found[i].kind,
                (unsigned)(found[i].target >> 32), (unsigned)(found[i].target & 0xffffffffu), (unsigned)found[i].extra);
     }
 }
@@ -270,7 +270,7 @@ static void numbers(void) {
     handle_new(HDT_STRONG, 0, 0);
     handle_get(1, 0);
     handle_get(1, 65);
-    handle_get(1, 65535);
+    handle_get(1, (1u << 24) - 1);
     handle_get(1, UINT64_MAX);
 }
 

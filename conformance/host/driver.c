@@ -97,7 +97,7 @@ static hdt_handle in_slot(uint32_t slot) {
     hdt_handle_info info;
     size_t count;
     uint32_t next;
-    if (hdt_handles(&host, slot, &info, 1, &count, &next) == HDT_OK && count == 1 && (uint32_t)(info.handle & 0xffff) == slot)
+    if (hdt_handles(&host, slot, &info, 1, &count, &next) == HDT_OK && count == 1 && (uint32_t)(info.handle & 0xffffff) == slot)
         return info.handle;
     return known[slot] ? known[slot] : slot;
 }
@@ -263,7 +263,7 @@ static void do_command(unsigned c, const struct command *command) {
         hdt_handle handle = 0;
         status = hdt_handle_new(&host, c, k, place(e), extra, &handle);
         if (status == HDT_OK) {
-            uint32_t slot = (uint32_t)(handle & 0xffff);
+            uint32_t slot = (uint32_t)(handle & 0xffffff);
             registers[c][place(a)] = slot;
             known[slot] = handle;
         }
@@ -316,7 +316,7 @@ static uint32_t any(uint32_t below) {
 static hdt_handle stale(void) {
     for (int i = 0; i < 8; i++) {
         uint32_t slot = any(SLOTS);
-        hdt_handle number_alone = ((hdt_handle)any(1u << 30) << 32) | ((hdt_handle)any(1u << 16) << 16) | slot;
+        hdt_handle number_alone = ((hdt_handle)any(1u << 20) << 44) | ((hdt_handle)any(1u << 20) << 24) | slot;
         hdt_handle handle = any(2) ? known[64 + any(64)] : number_alone;
         uint32_t kind_is;
         if (hdt_handle_kind(&host, handle, &kind_is) == HDT_STALE) return handle;

@@ -39,7 +39,7 @@
 extern "C" {
 #endif
 
-#define HDT_ABI 1 /* hdt_abi() returns it */
+#define HDT_ABI 2 /* hdt_abi() returns it */
 #define HDT_VERSION "0.5.0" /* of the release that a program is compiled with; hdt_version says that of the one it runs with */
 
 /* A world of objects and handles. All bytes 0: closed. */
@@ -47,7 +47,7 @@ typedef struct { void *hdt_private; } hdt_host;
 #define HDT_CLOSED_HOST { 0 }
 
 /* A handle, opaque; 0 is none. It has the number of its slot and a stamp, so that the use of a freed one is refused (HDT_STALE)
- * also where its slot is in use again. It stays valid over collections, until hdt_handle_free. After 2^48 - 1 handles in a slot
+ * also where its slot is in use again. It stays valid over collections, until hdt_handle_free. After 2^40 - 1 handles in a slot
  * the next one there is not freed (HDT_EXHAUSTED). A host knows a handle by these two numbers alone: one of another host, or of
  * this one before it was closed and opened again, may be taken for one of its own. */
 typedef uint64_t hdt_handle;
@@ -67,7 +67,7 @@ enum {
     HDT_CLOSED = 1,      /* the host is closed */
     HDT_IS_OPEN = 2,     /* hdt_open: it is open already */
     HDT_ARGUMENT = 3,    /* a context, local, kind, generation or limit out of range */
-    HDT_NO_MEMORY = 4,   /* of hdt_open, _object_new, _collect, _root_of: in tests only where malloc or realloc returned null */
+    HDT_NO_MEMORY = 4,   /* of hdt_open, _object_new, _collect, _root_of, with nothing else wrong; in tests where malloc fails */
     HDT_EXHAUSTED = 5,   /* the context has made 2^32 - 1 objects; or the count, or the stamp of the slot, is at its end */
     /* the refusals of the machine, in the order in which they are found */
     HDT_STALE = 6,       /* no such handle: never made, or freed */
@@ -79,14 +79,17 @@ enum {
     HDT_HEAP_FULL = 12,  /* collect; hdt_stats has the sizes */
     HDT_TABLE_FULL = 13, /* hdt_trim, or free handles */
     /* answers that are no failures */
-    HDT_NONE = 14        /* hdt_final_next: the queue is empty; hdt_table_find, _remove: no entry; hdt_root_of: unrooted */
+    HDT_NONE = 14,       /* hdt_final_next: the queue is empty; hdt_table_find, _remove: no entry; hdt_root_of: unrooted */
+    /* of no call with a host that is not shared */
+    HDT_BUSY = 15,       /* another's call with the shared host is under way, and nothing was done */
+    HDT_ROOM = 16        /* the array is too short for what is there; no call returns it yet */
 };
 
 /* The name of a status, as above; of a number that is none, "HDT_?". */
 static inline const char *hdt_status_name(hdt_status status) {
     static const char *const names[] = { "HDT_OK", "HDT_CLOSED", "HDT_IS_OPEN", "HDT_ARGUMENT", "HDT_NO_MEMORY", "HDT_EXHAUSTED",
         "HDT_STALE", "HDT_WRONG_KIND", "HDT_COUNT_ZERO", "HDT_NULL", "HDT_NO_FIELD", "HDT_PRESENT", "HDT_HEAP_FULL",
-        "HDT_TABLE_FULL", "HDT_NONE" };
+        "HDT_TABLE_FULL", "HDT_NONE", "HDT_BUSY", "HDT_ROOM" };
     return status < sizeof names / sizeof *names ? names[status] : "HDT_?";
 }
 
@@ -108,7 +111,7 @@ typedef struct { uint32_t kept, removed, cleared_short, cleared_long, cleared_de
 typedef struct { uint32_t objects, cells, handles, blocks, queued; } hdt_stats_out;
 typedef struct { hdt_handle handle; hdt_id target; hdt_kind kind; uint32_t extra; } hdt_handle_info; /* strength or count */
 typedef struct { hdt_id from; uint32_t arrows; } hdt_root;
-typedef struct { uint32_t slot, block, data_block, given_back; } hdt_change; /* each 0 for none */
+typedef struct { uint32_t slot, block, data_block, given_back; uint64_t turn; } hdt_change; /* each 0 for none */
 typedef struct { uint32_t major, minor, patch; } hdt_version_out;
 
 /* ---- the host */
@@ -117,8 +120,9 @@ void hdt_version(hdt_version_out *out);
 hdt_status hdt_open(hdt_host *host, const hdt_limits *limits); /* takes that of the table; objects and collections take more */
 void hdt_close(hdt_host *host);                                /* frees all of it; a closed host stays closed */
 hdt_status hdt_stats(hdt_host *host, hdt_stats_out *out);
-/* Of the last call that was done and no observer: the slot that it gave or freed (the low 16 bits of its handle), the block by
- * which the table grew and the one for its extra data, and the block that was given back. For those who judge a host. */
+/* Of the last call that was done and no observer: the slot that it gave or freed (the low 24 bits of its handle), the block by
+ * which the table grew or the one that was given back, and the block for the extra data of either; `turn` is 0 unless the host
+ * is shared. For those who judge a host. */
 hdt_status hdt_last(hdt_host *host, hdt_change *out);
 
 /* ---- objects; fields are numbered from 0, at most 61; a new object has null fields, value 0 and generation 0 */

@@ -21,6 +21,8 @@ numbers_are_these = record {
     heap_full = refl;
     table_full = refl;
     none = refl;
+    busy = refl;
+    room = refl;
     apart = refl;
   };
   faults = record {

@@ -1,9 +1,8 @@
 -- What C passes, as a host takes it, and what a host returns, as C gets it.
 use Rattle.std.specs.Prelude.{ℕ, ◌<◌, nat_lt, if◌then◌else◌, Option, Some, None}
-use Rattle.hd_model.specs.declared.data.{Grown.Grown, Id.Id, Make.Make, Slot.Slot, Strength.Strength}
+use Rattle.hd_model.specs.declared.data.{Id.Id, Make.Make, Slot.Slot, Strength.Strength}
 use Rattle.hd_model.specs.declared.data.Make.TheVariants as make
 use Rattle.hd_model.specs.declared.data.Strength.TheVariants as strength
-use Rattle.hd_model.specs.declared.data.Grown.TheVariants.{Zero, One, Two, Back}
 use Rattle.hd_model.specs.declared.handle.Extra.{Extra}
 use Rattle.hd_model.specs.declared.handle.Extra.TheVariants as extra
 use Rattle.hd_host.specs.declared.change.Change.{Change as Changed}
@@ -47,12 +46,22 @@ abbrev pub slot_number : Option Slot → ℕ
 slot_number None = 0
 slot_number (Some slot) = slot.0
 
--- a change, each part 0 for none
-abbrev pub change_by : ℕ → Grown → Change
-change_by slot Zero = record { slot = slot; block = 0; data_block = 0; given_back = 0 }
-change_by slot (One block) = record { slot = slot; block = block; data_block = 0; given_back = 0 }
-change_by slot (Two block other) = record { slot = slot; block = block; data_block = other; given_back = 0 }
-change_by slot (Back block) = record { slot = slot; block = 0; data_block = 0; given_back = block }
+-- the number of a block, 0 for none
+abbrev pub block_number : Option ℕ → ℕ
+block_number None = 0
+block_number (Some block) = block
 
-abbrev pub change_out : Changed → Change
-change_out c = change_by (slot_number c.slot) c.grown
+-- that of the block for extra data which was taken, or else was given back
+abbrev pub data_number : Option ℕ → Option ℕ → ℕ
+data_number None given_back = block_number given_back
+data_number (Some block) given_back = block
+
+-- a change, each part 0 for none, with the number of a turn
+abbrev pub change_out : ℕ → Changed → Change
+change_out turn c = record {
+  slot = slot_number c.slot;
+  block = block_number c.block;
+  data_block = data_number c.data_block c.data_given_back;
+  given_back = block_number c.given_back;
+  turn = turn;
+}

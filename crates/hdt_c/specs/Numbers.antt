@@ -9,7 +9,7 @@ use Rattle.hdt_c.specs.Arguments.{strength_number}
 use Rattle.hdt_c.specs.Status.{status_of}
 use Rattle.hdt_c.specs.declared.on_host.TheConstants.{ABI}
 use Rattle.hdt_c.specs.declared.on_objects.TheConstants.{FINALIZABLE}
-use Rattle.hdt_c.specs.declared.status.TheConstants.{OK, CLOSED, IS_OPEN, ARGUMENT, NO_MEMORY, EXHAUSTED, STALE, WRONG_KIND, COUNT_ZERO, NULL, NO_FIELD, PRESENT, HEAP_FULL, TABLE_FULL, NONE}
+use Rattle.hdt_c.specs.declared.status.TheConstants.{OK, CLOSED, IS_OPEN, ARGUMENT, NO_MEMORY, EXHAUSTED, STALE, WRONG_KIND, COUNT_ZERO, NULL, NO_FIELD, PRESENT, HEAP_FULL, TABLE_FULL, NONE, BUSY, ROOM}
 
 -- whether no number comes twice
 abbrev pub no_two_alike : List ℕ → Bool
@@ -33,9 +33,11 @@ pub record StatusesAreThese : Type 0 where
   pub heap_full : HEAP_FULL ≡ 12
   pub table_full : TABLE_FULL ≡ 13
   pub none : NONE ≡ 14
+  pub busy : BUSY ≡ 15
+  pub room : ROOM ≡ 16
   pub apart : no_two_alike
       (OK ∷ CLOSED ∷ IS_OPEN ∷ ARGUMENT ∷ NO_MEMORY ∷ EXHAUSTED ∷ STALE ∷ WRONG_KIND ∷ COUNT_ZERO ∷ NULL
-      ∷ NO_FIELD ∷ PRESENT ∷ HEAP_FULL ∷ TABLE_FULL ∷ NONE ∷ [])
+      ∷ NO_FIELD ∷ PRESENT ∷ HEAP_FULL ∷ TABLE_FULL ∷ NONE ∷ BUSY ∷ ROOM ∷ [])
       ≡ true
 
 -- the status of each fault
@@ -74,7 +76,7 @@ pub record FlagsAreThese : Type 0 where
   pub finalizable : FINALIZABLE ≡ 1
 
 pub record NumbersAreThese : Type 0 where
-  pub version : ABI ≡ 1
+  pub version : ABI ≡ 2
   pub statuses : StatusesAreThese
   pub faults : FaultsHaveThese
   pub kinds : KindsAreThese

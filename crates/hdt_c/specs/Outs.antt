@@ -2,11 +2,10 @@
 use Rattle.std.specs.Prelude.{[], ◌∷◌, ◌≡◌, ℕ, ◌+◌, ◌*◌, ◌≤◌, ◌⊎◌, List, ◌++◌, drop, length, map, replicate, Option, Some, None, IsSome}
 use Rattle.std.specs.FinMap.{len}
 use Rattle.hd_model.specs.{Kinds.kind_number, declared.data.Id.Id, declared.data.Report.Report as Collected, declared.data.Slot.Slot}
-use Rattle.hd_model.specs.declared.data.Grown.TheVariants.{Zero}
 use Rattle.hd_model.specs.declared.limits.TheConstants.{CLUMPS, OLDEST, ROWS}
 use Rattle.hd_model.specs.State.{Numbers, given_of, handle_at, start_of, total_size}
 use Rattle.hd_store.specs.Offers.{HasLimits}
-use Rattle.hd_host.specs.{Handles.IsNextFrom, View.HostView}
+use Rattle.hd_host.specs.{Changes.no_change, Handles.IsNextFrom, View.HostView}
 use Rattle.hd_store.specs.declared.collection_calls.Root.{Root as HostRoot}
 use Rattle.hd_host.specs.declared.observing.Listed.{Listed}
 use Rattle.hd_store.specs.declared.entry_calls.Lookup.{Lookup}
@@ -26,7 +25,7 @@ pub record IsOpened (limits : Limits) (v : HostView) : Type 0 where
   pub state : v.machine.state ≡ start_of v.machine.numbers
   pub ages : v.machine.ages ≡ replicate (CLUMPS * limits.blocks) OLDEST
   pub stamps : v.stamps ≡ replicate (ROWS * (limits.blocks + 1)) 0
-  pub last : v.last ≡ record { slot = None; grown = Zero }
+  pub last : v.last ≡ no_change
 
 -- none is opened: a limit is out of range, or memory ran out
 abbrev pub Refuses : Limits → ℕ → Type 0

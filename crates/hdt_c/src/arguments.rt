@@ -4,12 +4,12 @@ ghost use Rattle.hd_model.specs.declared.data.Make.{Make};
 ghost use Rattle.hd_model.specs.Kinds.{kind_number};
 ghost use Rattle.hd_model.specs.Valid.{IsValidMake};
 ghost use Rattle.hdt_c.specs.Exports.{HasLocal, HasLocals};
-ghost use Rattle.hdt_c.specs.Arguments.{IsMake, change_out, extra_number, field_number, number_of, strength_number};
+ghost use Rattle.hdt_c.specs.Arguments.{IsMake, block_number, change_out, extra_number, field_number, number_of, strength_number};
 
 use crate::parts::Change;
 use hd_host::{ExtraInfo, Host};
 use hd_model::limits::{FIELDS, OLDEST, REGISTERS};
-use hd_model::{Grown, Id, Kind, Make, Strength};
+use hd_model::{Id, Kind, Make, Strength};
 
 /// The number of a local, of a static, or of a register of a secondary.
 fn local(number: u32) -> Option<u8>
@@ -174,23 +174,31 @@ pub(crate) fn number_of_extra(extra: ExtraInfo<Id>) -> u32
     }
 }
 
-/// A change as C gets it, 0 for nothing.
-pub(crate) fn change(change: hd_host::Change) -> Change
-    ensures { result ≡ change_out change }
+/// A change as C gets it, 0 for nothing, with the number of a turn.
+pub(crate) fn change(change: hd_host::Change, turn: u64) -> Change
+    ensures { result ≡ change_out turn change }
 {
-    let (block, data_block, given_back) = match change.grown {
-        Grown::Zero => (0, 0, 0),
-        Grown::One(block) => (block, 0, 0),
-        Grown::Two(block, data_block) => (block, data_block, 0),
-        Grown::Back(block) => (0, 0, block),
-    };
     Change {
         slot: match change.slot {
             Some(slot) => slot.0,
             None => 0,
         },
-        block,
-        data_block,
-        given_back,
+        block: block_number(change.block),
+        data_block: match change.data_block {
+            Some(block) => block,
+            None => block_number(change.data_given_back),
+        },
+        given_back: block_number(change.given_back),
+        turn,
+    }
+}
+
+// The number of a block, 0 for none.
+fn block_number(block: Option<u32>) -> u32
+    ensures { result ≡ block_number block }
+{
+    match block {
+        Some(block) => block,
+        None => 0,
     }
 }

@@ -18,12 +18,12 @@ use hd_model::limits::{BLOCKS, CALLERS, HEAP};
 use std::alloc::Global;
 
 // The version of the interface.
-const ABI: u32 = 1;
+const ABI: u32 = 2;
 
 /// `hdt_abi`.
 #[unsafe(no_mangle)]
 pub extern "C" fn hdt_abi() -> u32
-    ensures { result ≡ 1 }
+    ensures { result ≡ 2 }
 {
     ABI
 }
@@ -111,14 +111,14 @@ pub extern "C" fn hdt_stats(alloc: Global, host: &mut Held, out: &mut Stats) -> 
     on_open!(alloc, host, stats(out))
 }
 
-// What the last call that was done did to slots and blocks.
+// What the last call that was done did to slots and blocks. A host of its own has no turns.
 fn last(host: &mut Host, out: &mut Change) -> u32
     ensures { Runs AlwaysRight
         NeverFails
-        (λ v w s. (w ≡ v) × (s ≡ OK) × (out.new ≡ change_out v.last))
+        (λ v w s. (w ≡ v) × (s ≡ OK) × (out.new ≡ change_out 0 v.last))
         (out.new ≡ out.old) host.old host.new result }
 {
-    *out = change(host.last());
+    *out = change(host.last(), 0);
     OK
 }
 
@@ -127,7 +127,7 @@ fn last(host: &mut Host, out: &mut Change) -> u32
 pub extern "C" fn hdt_last(alloc: Global, host: &mut Held, out: &mut Change) -> u32
     ensures { Comes AlwaysRight
         NeverFails
-        (λ v w s. (w ≡ v) × (s ≡ OK) × (out.new ≡ change_out v.last))
+        (λ v w s. (w ≡ v) × (s ≡ OK) × (out.new ≡ change_out 0 v.last))
         (out.new ≡ out.old) host.old.value host.new.value result }
 {
     on_open!(alloc, host, last(out))

@@ -58,4 +58,5 @@ pub struct Change {
     pub block: u32,
     pub data_block: u32,
     pub given_back: u32,
+    pub turn: u64,
 }

@@ -34,6 +34,10 @@ pub(crate) const TABLE_FULL: u32 = 13;
 
 pub(crate) const NONE: u32 = 14;
 
+pub(crate) const BUSY: u32 = 15;
+
+pub(crate) const ROOM: u32 = 16;
+
 /// The status of a fault.
 pub(crate) fn status_of(fault: Fault) -> u32
     ensures { result ≡ status_of fault }

@@ -5,4 +5,4 @@ use Rattle.hdt_c.proofs.on_host.last.Goals as goal
 
 pub returns : goal.returns
 returns c =
-    does c.args.host.now _ _ tt (refl, refl, c.change.ensures ∙ ap change_out c.last.ensures)
+    does c.args.host.now _ _ tt (refl, refl, c.change.ensures ∙ ap (change_out 0) c.last.ensures)
