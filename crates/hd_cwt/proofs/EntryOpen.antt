@@ -1,9 +1,11 @@
 -- Entries of which no slot is held.
-use Rattle.hd_cwt.proofs.Basics.{BLOCKS, Id, IsEntries, List, None, Option, ROWS, [], ap, arith, bit_at, bit_at-zero, bucket_in, cond, entry_at, get_or, get_or-replicate_None, idle_in, length, length-replicate, node_at, none-some, not_in_none, pairs_none, refl, replicate, replicate_cases, sym, ℕ, ◌%◌, ◌*◌, ◌+◌, ◌/◌, ◌<◌, ◌∙◌, ◌≡◌, ◌≢◌, ◌≤◌}
+use Rattle.hd_cwt.proofs.Basics.{BLOCKS, Id, IsEntries, List, None, NumberSet, Option, ROWS, [], ap, arith, bucket_in, contains, contains-empty, entry_at, get_or, get_or-replicate_None, idle_in, length, length-replicate, nat_cmp, node_at, none-some, not_in_none, pairs_none, replicate, sym, ℕ, ◌*◌, ◌+◌, ◌<◌, ◌∙◌, ◌≡◌, ◌≢◌, ◌≤◌}
+use Rattle.std.specs.FinSet as set
 
 module _ {blocks : ℕ} (limit : blocks ≤ BLOCKS) (held : List (Option (Option Id)))
-    (next previous masks : List ℕ)
-    (is_held : held ≡ replicate (ROWS * (blocks + 1)) None) (is_masks : masks ≡ replicate (blocks + 1) 0)
+    (next previous : List ℕ) {idle : NumberSet}
+    (is_held : held ≡ replicate (ROWS * (blocks + 1)) None)
+    (is_idle : idle ≡ record { room = ROWS * (blocks + 1); members = set.empty })
     (next_long : length next ≡ ROWS * (blocks + 1) + 4096)
     (back_long : length previous ≡ ROWS * (blocks + 1) + 4096)
     (ahead : (x : ℕ) → x < ROWS * (blocks + 1) + 4096 → node_at next x ≡ x)
@@ -14,22 +16,16 @@ module _ {blocks : ℕ} (limit : blocks ≤ BLOCKS) (held : List (Option (Option
   held_long : length held ≡ ROWS * (blocks + 1)
   held_long = ap length is_held ∙ length-replicate (ROWS * (blocks + 1)) None
 
-  masks_long : length masks ≡ blocks + 1
-  masks_long = ap length is_masks ∙ length-replicate (blocks + 1) 0
-
-  zero : (k : ℕ) → get_or masks k 0 ≡ 0
-  zero k = ap (λ ms. get_or ms k 0) is_masks ∙ replicate_cases (λ v. v ≡ 0) (blocks + 1) k 0 0 refl refl
-
   next_low : (x : ℕ) → x < length next → node_at next x ≡ x
   next_low x lx = ahead x (omega (arith, lx, next_long))
 
   back_low : (x : ℕ) → x < length next → node_at previous x ≡ x
   back_low x lx = back x (omega (arith, lx, next_long))
 
-  pub opened : IsEntries blocks held next previous masks (blocks + 1)
+  pub opened : IsEntries blocks held next previous idle
   opened = record {
     limit = limit;
-    size = masks_long;
+    size = held_long;
     linked = record {
       rings = record {
         size = back_long ∙ sym next_long;
@@ -50,11 +46,9 @@ module _ {blocks : ℕ} (limit : blocks ≤ BLOCKS) (held : List (Option (Option
       };
       alone = λ s low _. next_low s (omega (arith, low, next_long, held_long));
     };
-    marked = record {
-      size = omega (arith, held_long, masks_long);
-      bits = λ s low. ap (λ m. bit_at m (s % ROWS)) (zero (s / ROWS)) ∙ bit_at-zero (s % ROWS)
-          ∙ sym (ap (λ v. cond (idle_in v) 1 0) (none s));
-      before = λ s low. ap idle_in (none s);
-      some = λ low _. omega (arith, low, masks_long);
+    idle_slots = record {
+      room = omega (arith, held_long, ap (λ (n : NumberSet). n.room) is_idle);
+      each = λ s. ap (λ (n : NumberSet). contains n.members s) is_idle ∙ contains-empty nat_cmp s
+          ∙ sym (ap idle_in (none s));
     };
   }

@@ -2,7 +2,7 @@ pub mod Basics
 pub mod RingExchange
 pub mod BucketWalks
 pub mod BucketChange
-pub mod IdleMasks
+pub mod IdleSlots
 pub mod KeySearch
 pub mod EntryCalls
 pub mod EntryOpen

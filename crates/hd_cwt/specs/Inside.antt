@@ -1,9 +1,10 @@
 -- What private clauses alone cite.
-use Rattle.std.specs.Prelude.{◌≡◌, ℕ, ◌<◌, List, [], ◌∷◌, length, slice_index_or, slice_set, ◌≢◌, ◌+◌, ◌-◌, ◌*◌, ◌/◌, ◌%◌, ◌≤◌, true, false, Bool, cond, is_none, Option, Some, None, Contains, AllPairs}
+use Rattle.std.specs.Prelude.{◌≡◌, ℕ, ◌<◌, List, [], ◌∷◌, length, slice_index_or, slice_set, ◌≢◌, ◌+◌, ◌-◌, ◌*◌, ◌≤◌, true, false, Bool, is_none, Option, Some, None, Contains, AllPairs}
 use Rattle.std.specs.FinMap.{get, insert, len}
-use Rattle.std.specs.Int.{bit_at}
+use Rattle.std.specs.FinSet.{contains}
 use Rattle.hd_model.specs.{declared.data.Id.Id, declared.limits.TheConstants.BLOCKS, declared.limits.TheConstants.ROWS, Table.Table, Table.live_at}
 use Rattle.hd_cwt.specs.declared.entries.TheConstants.{BUCKETS}
+use Rattle.hd_tiers.specs.Sets.{NumberSet}
 use Rattle.hd_cwt.specs.WeakTable.{WeakTable, bucket_of, room_of, slots_of, IsWeakTable}
 
 -- ---- rings of nodes, as lists of the next and of the previous node of each
@@ -71,21 +72,18 @@ pub record IsLinked (held : List (Option (Option Id))) (next previous : List ℕ
   pub buckets : (b : ℕ) → b < BUCKETS → HasBucket held next (length held + b) b
   pub alone : (s : ℕ) → s < length held → bucket_in (entry_at held s) ≡ None → node_at next s ≡ s
 
--- the masks have the bits of idle slots, and those before the first with a bit are 0
-pub record IsMarked (held : List (Option (Option Id))) (masks : List ℕ) (first : ℕ) : Type 0 where
-  pub size : length held ≡ ROWS * length masks
-  pub bits : (s : ℕ) → s < length held
-      → bit_at (slice_index_or masks (s / ROWS) 0) (s % ROWS) ≡ cond (idle_in (entry_at held s)) 1 0
-  pub before : (s : ℕ) → s < ROWS * first → idle_in (entry_at held s) ≡ false
-  pub some : first < length masks → slice_index_or masks first 0 ≢ 0
+-- a set has exactly the idle slots, and room for each slot
+pub record HasIdle (held : List (Option (Option Id))) (idle : NumberSet) : Type 0 where
+  pub room : length held ≤ idle.room
+  pub each : (s : ℕ) → contains idle.members s ≡ idle_in (entry_at held s)
 
 -- what is always true of the entries
-pub record IsEntries (blocks : ℕ) (held : List (Option (Option Id))) (next previous masks : List ℕ)
-    (first : ℕ) : Type 0 where
+pub record IsEntries (blocks : ℕ) (held : List (Option (Option Id))) (next previous : List ℕ)
+    (idle : NumberSet) : Type 0 where
   pub limit : blocks ≤ BLOCKS
-  pub size : length masks ≡ blocks + 1
+  pub size : length held ≡ ROWS * (blocks + 1)
   pub linked : IsLinked held next previous
-  pub marked : IsMarked held masks first
+  pub idle_slots : HasIdle held idle
 
 -- whether a slot is held and has a key
 abbrev pub keyed_in : Option (Option Id) → Bool

@@ -1,6 +1,6 @@
 // The entries of the table: the key of each held slot, and how a key is found.
-ghost use Rattle.std.specs.Prelude.{◌≡◌, ◌≢◌, ℕ, ◌+◌, ◌*◌, ◌/◌, ◌%◌, ◌<◌, ◌≤◌, length};
-ghost use Rattle.std.specs.Prelude.{slice_index_or, Some, None, IfOk, IfSome, IfNone, IsSome};
+ghost use Rattle.std.specs.Prelude.{◌≡◌, ℕ, ◌+◌, ◌<◌, ◌≤◌, length};
+ghost use Rattle.std.specs.Prelude.{Some, None, IfOk, IfSome, IfNone, IsSome};
 ghost use Rattle.std.specs.FinMap as map;
 ghost use Rattle.std.specs.FinMap.{get};
 ghost use Rattle.hd_model.specs.Indexed.{by_index};
@@ -8,9 +8,9 @@ ghost use Rattle.hd_cwt.specs.WeakTable.{IsIdle, HasKey, LooksAt, bucket_of, ent
 ghost use Rattle.hd_cwt.specs.Inside.{HasBucket, entry_at, keyed_in};
 
 use crate::rings::Rings;
-use hd_mask::{bit, lowest};
 use hd_model::limits::{BLOCKS, ROWS};
 use hd_model::{Id, Memory, Steps, filled};
+use hd_tiers::{Masks, Numbers, Tier};
 use std::alloc::Global;
 use std::marker::Model;
 use std::sync::ledger::Ledger;
@@ -25,9 +25,8 @@ pub(crate) struct Entries {
     held: Vec<Option<Option<Id>>>,
     // Each slot is a node, and after them each bucket.
     rings: Rings,
-    // For each block a mask of its idle slots, and the first mask that is not 0.
-    idle: Vec<u64>,
-    first: u32,
+    // The idle slots. Of three tiers the top one has one word for the slots of 256 blocks.
+    idle: Tier<Tier<Masks>>,
 }
 
 impl Model for Entries {
@@ -41,7 +40,7 @@ impl Model for Entries {
     ghost view = { λ e. record { blocks = e.blocks; held = by_index e.held.items } };
 
     ghost invariant = { λ e. IsEntries e.blocks e.held.items e.rings.next.items
-        e.rings.previous.items e.idle.items e.first };
+        e.rings.previous.items e.idle };
 }
 
 impl Entries {
@@ -53,13 +52,12 @@ impl Entries {
         let slots = ROWS * (blocks + 1);
         let held = filled(alloc, None, slots)?;
         let rings = Rings::open(alloc, slots + BUCKETS)?;
-        let idle = filled(alloc, 0, blocks + 1)?;
+        let idle = Tier::<Tier<Masks>>::open(alloc, blocks + 1)?;
         Ok(Entries {
             blocks,
             held,
             rings,
             idle,
-            first: blocks + 1,
         })
     }
 
@@ -83,11 +81,7 @@ impl Entries {
         ensures least { IfSome result (λ slot. (other : ℕ) → IsIdle self.now other → slot ≤ other) }
         ensures none { IfNone result ((slot : ℕ) → IsIdle self.now slot → ⊥) }
     {
-        if self.first > self.blocks {
-            return None;
-        }
-        let row = lowest(self.idle[self.first as usize])?;
-        Some(self.first * ROWS + row)
+        self.idle.least()
     }
 
     /// The slot with a key. Each entry that is looked at is a step.
@@ -110,10 +104,7 @@ impl Entries {
         let end = self.bucket(key);
         self.held[slot as usize] = Some(Some(key));
         self.rings.exchange(end, slot);
-        let block = (slot / ROWS) as usize;
-        let mask = self.idle[block];
-        self.idle[block] = mask & !bit(slot % ROWS);
-        self.first = first_marked(&self.idle, self.first);
+        self.idle.remove(slot);
     }
 
     /// Takes the key of a held slot, if it has one.
@@ -124,10 +115,7 @@ impl Entries {
         let before = self.rings.previous[slot as usize];
         self.held[slot as usize] = Some(None);
         self.rings.exchange(before, slot);
-        let block = slot / ROWS;
-        let mask = self.idle[block as usize];
-        self.idle[block as usize] = mask | bit(slot % ROWS);
-        self.first = self.first.min(block);
+        self.idle.insert(slot);
     }
 
     // The node of the bucket of a key.
@@ -169,18 +157,4 @@ fn search<L: Ledger>(
         at = next[at as usize];
     }
     None
-}
-
-// The first mask that is not 0, from `from` on, or the number of masks.
-fn first_marked(masks: &[u64], from: u32) -> u32
-    requires { length masks.now ≤ BLOCKS + 1 }
-    ensures before { (b : ℕ) → from ≤ b → b < result → slice_index_or masks.now b 0 ≡ 0 }
-    ensures some { result < length masks.now → slice_index_or masks.now result 0 ≢ 0 }
-{
-    for b in from..masks.len() as u32 {
-        if masks[b as usize] != 0 {
-            return b;
-        }
-    }
-    masks.len() as u32
 }

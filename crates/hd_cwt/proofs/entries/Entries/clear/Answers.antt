@@ -1,5 +1,6 @@
-use Rattle.hd_cwt.proofs.Basics.{None, arith, length, ◌<◌}
-use Rattle.hd_cwt.proofs.EntryCalls.{held_low, node_low, back_low, before_low, mask_low, clear_entries, viewed}
+use Rattle.hd_cwt.proofs.Basics.{None, ap, arith, length, ◌<◌, ◌∙◌}
+use Rattle.hd_cwt.proofs.EntryCalls.{held_low, node_low, back_low, before_low, room_low, clear_entries, viewed}
+use Rattle.std.specs.FinSet.{insert}
 use Rattle.hd_cwt.proofs.entries.Entries.clear.Goals as goal
 
 pub index-before-requires : goal.index-before-requires
@@ -25,27 +26,20 @@ exchange-requires-clause-b c =
     node_low c.self.invariant c.self.view_is c.args.slot
     (held_low c.self.invariant c.self.view_is c.args.slot c.requires)
 
-pub index-mask-requires : goal.index-mask-requires
-index-mask-requires c =
-    let known =
-    mask_low c.self.invariant c.self.view_is c.args.slot
+pub insert-requires : goal.insert-requires
+insert-requires c =
+    let low = room_low c.self.invariant c.self.view_is c.args.slot
     (held_low c.self.invariant c.self.view_is c.args.slot c.requires) in
-    omega (arith, c.self.inside.idle.ok.0, known)
-
-pub index_mut-requires-2 : goal.index_mut-requires-2
-index_mut-requires-2 c =
-    let known =
-    mask_low c.self.invariant c.self.view_is c.args.slot
-    (held_low c.self.invariant c.self.view_is c.args.slot c.requires) in
-    omega (arith, c.self.inside.idle.ok.0, known)
+    omega (arith, low)
 
 pub invariant_of-self : goal.invariant_of-self
 invariant_of-self c =
-    clear_entries c.self.invariant c.self.view_is c.args.slot c.index-mask.result.now c.bit.result
-    c.index-mask.ensures c.bit.ensures.value (held_low c.self.invariant c.self.view_is c.args.slot c.requires)
+    clear_entries c.self.invariant c.self.view_is c.args.slot
+    (held_low c.self.invariant c.self.view_is c.args.slot c.requires)
     c.exchange.new.self.next.items c.exchange.new.self.previous.items c.index-before.result.now
-    c.index-before.ensures c.exchange.ensures.next c.exchange.ensures.previous c.min-self-inside.result
-    c.min-self-inside.ensures
+    c.index-before.ensures c.exchange.ensures.next c.exchange.ensures.previous
+    (c.insert.ensures
+    ∙ ap (λ s. record c.self.inside.idle { members = insert c.self.inside.idle.members s }) (omega arith))
 
 pub returns : goal.returns
 returns c =

@@ -6,8 +6,8 @@ pub invariant_of-result : goal.invariant_of-result
 invariant_of-result c =
     opened c.requires c.in_ok-held.held.items c.in_ok-rings.rings.next.items
     c.in_ok-rings.rings.previous.items
-    c.in_ok-idle.idle.items c.in_ok-held.ensures c.in_ok-idle.ensures c.in_ok-rings.ensures.next
-    c.in_ok-rings.ensures.previous c.in_ok-rings.ensures.alone c.in_ok-rings.ensures.back
+    c.in_ok-held.ensures c.in_ok-idle.ensures c.in_ok-rings.ensures.next c.in_ok-rings.ensures.previous
+    c.in_ok-rings.ensures.alone c.in_ok-rings.ensures.back
 
 pub returns : goal.returns
 returns c = λ i. record {
@@ -15,6 +15,6 @@ returns c = λ i. record {
   held = by_index-empty c.in_ok-held.held.items
       (none c.requires c.in_ok-held.held.items c.in_ok-rings.rings.next.items
       c.in_ok-rings.rings.previous.items
-      c.in_ok-idle.idle.items c.in_ok-held.ensures c.in_ok-idle.ensures c.in_ok-rings.ensures.next
-      c.in_ok-rings.ensures.previous c.in_ok-rings.ensures.alone c.in_ok-rings.ensures.back) i;
+      c.in_ok-held.ensures c.in_ok-idle.ensures c.in_ok-rings.ensures.next c.in_ok-rings.ensures.previous
+      c.in_ok-rings.ensures.alone c.in_ok-rings.ensures.back) i;
 }
