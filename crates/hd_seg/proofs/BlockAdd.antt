@@ -1,7 +1,9 @@
 -- A block comes into use: for handles, at the end of a chain, or for the extras of another block's rows.
-use Rattle.hd_seg.proofs.Basics.{BLOCKS, Block, BlockUse, Contains, Contains-append_left, Contains-push, IsBlocks, IsLeastWithout, IsLinked, IsListed, IsSome, KINDS, Kind, List, None, Option, Some, Uses, [], ap, arith, block_at, cases_eq, cases_lt, empty, empty_table, extra_data, extras_at, few_kinds, get_or, get_or-set_other, get_or-set_same, get_or_append_left, get_or_push, handles_of, inl, inr, insert, is_some, kind_number, len, len-empty, length, length-replicate, length-set, length_push, mapped, nat_cmp, refl, replicate, set, subst, suc, sum_by, sum_by-set, sym, use_at, use_of, uses_in, with_block, with_data, zero, ℕ, ◌++◌, ◌+◌, ◌<◌, ◌∙◌, ◌∷◌, ◌≡◌, ◌≢◌, ◌≤◌}
+use Rattle.hd_seg.proofs.Basics.{BLOCKS, Block, BlockUse, Contains, Contains-append_left, Contains-push, IsBlocks, IsLeastWithout, IsLinked, IsListed, IsSome, KINDS, Kind, List, ListsUnused, None, NumberSet, Option, Some, Uses, [], ap, arith, block_at, cases_eq, cases_lt, empty, empty_table, extra_data, extras_at, few_kinds, get_or, get_or-set_other, get_or-set_same, get_or_append_left, get_or_push, handles_of, inl, inr, insert, is_some, kind_number, len, len-empty, length, length-replicate, length-set, length_push, mapped, nat_cmp, refl, replicate, set, subst, suc, sum_by, sum_by-set, sym, use_at, use_of, uses_in, with_block, with_data, zero, ℕ, ◌++◌, ◌+◌, ◌<◌, ◌∙◌, ◌∷◌, ◌≡◌, ◌≢◌, ◌≤◌}
 use Rattle.hd_seg.proofs.FunctionMaps.{mapped-insert, mapped-same, mapped-empty, len-insert_new}
 use Rattle.hd_seg.proofs.ChainLinks.{none_is_some, some_of, use_is, one_kind, listed_like, found_in, linked_by, linked_with}
+use Rattle.hd_seg.proofs.UnusedBlocks.{into_use}
+use Rattle.std.specs.FinSet.{remove}
 use Rattle.hd_seg.specs.declared.row.BlockKind.TheVariants as block
 
 pub extras_apart : (o : Option BlockUse) (k : Kind) → o ≡ Some extra_data → o ≡ Some (handles_of k) → ⊥
@@ -116,6 +118,10 @@ module _ {number given : ℕ} {table : List Block} {chains : List (List ℕ)}
         (some_of _ _ use_here)) in
         ap (λ (x : Block). x.extras) away ∙ inv.plain q (sym (ap (λ (x : Block). use_of x.kind) away) ∙ none);
   }
+
+  pub unused-add : {free after : NumberSet} → ListsUnused number table free
+      → after ≡ record free { members = remove free.members b } → ListsUnused number with_rows after
+  unused-add lists is = into_use lists b use_there (some_of _ _ use_here) is
 
   pub view-add : {u : Uses} → uses_in number table chains ≡ u → uses_in number with_rows cs
       ≡ record u { table = with_block u.table k b }
@@ -252,6 +258,10 @@ module _ {number given : ℕ} {table : List Block} {chains : List (List ℕ)}
           extras_other q not_a ∙ inv.plain q nothing;
     }
 
+    pub unused-with_data : {free after : NumberSet} → ListsUnused number table free
+        → after ≡ record free { members = remove free.members d } → ListsUnused number with_both after
+    unused-with_data lists is = into_use lists d use_other (some_of _ _ use_d) is
+
     pub view-with_data : {u : Uses} → uses_in number table chains ≡ u → uses_in number with_both chains
         ≡ record { table = with_data u.table d; extras = insert u.extras a d }
     view-with_data is =
@@ -279,7 +289,7 @@ module _ (number : ℕ) where
   abbrev unused_blocks : List Block
   unused_blocks = replicate (number + 1) (record { kind = block.Unused; index = 0; extras = None })
 
-  no_use : (q : ℕ) → use_at unused_blocks q ≡ None
+  pub no_use : (q : ℕ) → use_at unused_blocks q ≡ None
   no_use q = ap (λ (x : Block). use_of x.kind) (none_at (number + 1) q)
 
   no_extras : (q : ℕ) → extras_at unused_blocks q ≡ None

@@ -1,9 +1,11 @@
 -- A block is taken from its kind: its chain closes up, and the blocks after it get new chain indices.
-use Rattle.hd_seg.proofs.Basics.{BLOCKS, Block, Bool, Contains, IsBlocks, IsListed, Kind, List, None, Some, Uses, [], ap, arith, block_at, cases_eq, cases_lt, cases_order, chain_of, cond, drop, empty, eq-eqb, extras_at, false, few_kinds, filter, get, get_or, get_or-drop, get_or-set_other, get_or_default, get_or_from_slice_get, handles_of, inl, inr, is_some, kind_number, len, len-remove, length, length-drop, length-set, mapped, nat_cmp_total, ne_eqb, not, numbered, refl, remove, set, slice_get, slice_get_within, subst, suc, sum_by-set, sym, take, take_at, true, use_at, use_of, uses_in, without_block, zero, ℕ, ◌++◌, ◌+◌, ◌-◌, ◌<◌, ◌==◌, ◌∙◌, ◌∷◌, ◌≡◌, ◌≢◌, ◌≤◌}
+use Rattle.hd_seg.proofs.Basics.{BLOCKS, Block, Bool, Contains, IsBlocks, IsListed, Kind, List, ListsUnused, None, NumberSet, Some, Uses, [], ap, arith, block_at, cases_eq, cases_lt, cases_order, chain_of, cond, drop, empty, eq-eqb, extras_at, false, few_kinds, filter, get, get_or, get_or-drop, get_or-set_other, get_or_default, get_or_from_slice_get, handles_of, inl, inr, is_some, kind_number, len, len-remove, length, length-drop, length-set, mapped, nat_cmp_total, ne_eqb, not, numbered, refl, remove, set, slice_get, slice_get_within, subst, suc, sum_by-set, sym, take, take_at, true, use_at, use_of, uses_in, without_block, zero, ℕ, ◌++◌, ◌+◌, ◌-◌, ◌<◌, ◌==◌, ◌∙◌, ◌∷◌, ◌≡◌, ◌≢◌, ◌≤◌}
 use Rattle.std.proofs.lemmas.List.Edits.{length-remove, get_or-remove_below, get_or-remove_above}
 use Rattle.hd_seg.proofs.FunctionMaps.{mapped-remove, mapped-same, len-mapped_le}
 use Rattle.hd_seg.proofs.ChainLinks.{none_is_some, some_of, use_is, extras_is, one_kind, listed_like, found_in, linked_with, apart, chain_short}
 use Rattle.hd_seg.proofs.BlockAdd.{block_same, block_other}
+use Rattle.hd_seg.proofs.UnusedBlocks.{out_of_use}
+use Rattle.std.specs.FinSet.{insert}
 use Rattle.std.specs.List as list
 use Rattle.hd_seg.specs.declared.row.BlockKind.TheVariants as block
 
@@ -308,6 +310,13 @@ module _ {number given : ℕ} {table : List Block} {chains : List (List ℕ)}
                   | inr away ↦ inv.plain q (sym (use_other q away) ∙ none)
                 ];
           }))
+
+      pub unused-gone : {free after : NumberSet} → ListsUnused number table free
+          → after ≡ record free { members = insert free.members b }
+          → ListsUnused number (take n (new ++ drop (length new) ys)) after
+      unused-gone {free} {after} lists is =
+          subst (λ xs. ListsUnused number xs after) after_is
+          (out_of_use lists b use_other its.low its.high use_here is)
 
       pub view-gone : uses_in number (take n (new ++ drop (length new) ys)) cs
           ≡ record u { table = without_block u.table k b }

@@ -1,6 +1,7 @@
 pub mod Basics
 pub mod FunctionMaps
 pub mod ChainLinks
+pub mod UnusedBlocks
 pub mod BlockAdd
 pub mod BlockRemove
 pub mod RowVectors

@@ -1,11 +1,14 @@
 -- What private clauses alone cite.
-use Rattle.std.specs.Prelude.{◌≡◌, ℕ, ◌+◌, ◌<◌, ◌≤◌, List, [], ◌∷◌, length, sum_by, slice_index, slice_index_or, slice_set, Some, None, ◌*◌, ◌/◌, true, false, Option, is_some}
+use Rattle.std.specs.Prelude.{◌≡◌, ℕ, ◌+◌, ◌<◌, ◌≤◌, List, [], ◌∷◌, length, sum_by, slice_index, slice_index_or, slice_set, Some, None, ◌*◌, ◌/◌, true, false, Option, is_none, is_some}
 use Rattle.std.specs.FinMap.{len, get}
+use Rattle.std.specs.FinSet.{FinSet, contains}
+use Rattle.std.specs.Ordering.{nat_cmp}
 use Rattle.hd_model.specs.{declared.data.Kind.Kind, Kinds.kind_number, Kinds.is_paired, declared.data.Addr.Addr}
 use Rattle.hd_model.specs.declared.limits.TheConstants.{BLOCKS, KINDS, ROWS}
 use Rattle.hd_model.specs.State.{handles_of, Handle, extra_data}
 use Rattle.hd_model.specs.Table.{IsTable, fits, has_handles}
 use Rattle.hd_model.specs.declared.handle.Extra.{Extra}
+use Rattle.hd_tiers.specs.Sets.{NumberSet}
 use Rattle.hd_seg.specs.{declared.block.Block.Block, Mapped.mapped}
 use Rattle.hd_seg.specs.Blocks.{block_at, use_at, extras_at, Uses}
 use Rattle.hd_seg.specs.Rows.{Vectors, live_bit, row_in}
@@ -19,6 +22,24 @@ pub record HasUnused (table : List Block) (from : ℕ) : Type 0 where
   pub low : from ≤ number
   pub high : number < length table
   pub unused : use_at table number ≡ None
+
+-- a set has the numbers from 1 to `last`, and room for `most`
+pub record HasNumbers (most last : ℕ) (s : NumberSet) : Type 0 where
+  pub room : most < s.room
+  pub has : (b : ℕ) → 1 ≤ b → b ≤ last → contains s.members b ≡ true
+  pub within : (b : ℕ) → contains s.members b ≡ true → (1 ≤ b) × (b ≤ last)
+
+-- a set has a member from a number on
+pub record HasFrom (s : FinSet nat_cmp) (from : ℕ) : Type 0 where
+  pub number : ℕ
+  pub low : from ≤ number
+  pub member : contains s number ≡ true
+
+-- a set has exactly the unused blocks, and room for each block
+pub record ListsUnused (number : ℕ) (table : List Block) (s : NumberSet) : Type 0 where
+  pub room : number < s.room
+  pub within : (b : ℕ) → contains s.members b ≡ true → (1 ≤ b) × (b ≤ number)
+  pub each : (b : ℕ) → 1 ≤ b → b ≤ number → contains s.members b ≡ is_none (use_at table b)
 
 -- block b has handles of a kind, and a chain index
 pub record IsListed (number : ℕ) (table : List Block) (k : Kind) (b at : ℕ) : Type 0 where

@@ -1,19 +1,21 @@
 // Which blocks are in use, and in which order those of a kind follow one another.
 
 ghost use Rattle.std.specs.Prelude.{◌≡◌, ℕ, ◌+◌, ◌<◌, ◌≤◌, ◌++◌, ◌∷◌, List, [], Some, None, All, true, IsSome};
-ghost use Rattle.std.specs.Prelude.{drop, length, map, replicate, slice_get, slice_index, slice_index_or, vec_capacity};
-ghost use Rattle.std.specs.Prelude.{is_some, option_map, IfOk, IfSome, IsTrue};
+ghost use Rattle.std.specs.Prelude.{drop, length, map, replicate, slice_get, slice_index, vec_capacity};
+ghost use Rattle.std.specs.Prelude.{IfOk};
 ghost use Rattle.std.specs.FinMap.{get, insert, len, empty};
-ghost use Rattle.hd_model.specs.Table.{empty_table, chain_of, has_handles, IsLeastWithout, is_single, kind_at};
+ghost use Rattle.hd_model.specs.Table.{empty_table, chain_of, has_handles, IsLeastWithout, kind_at};
 ghost use Rattle.hd_model.specs.Table.{with_block, with_data, without_block};
 ghost use Rattle.hd_model.specs.Table.{IsTable};
 ghost use Rattle.hd_seg.specs.Row.{block_kind_of};
-ghost use Rattle.hd_seg.specs.{Blocks.use_of, Blocks.use_at, Inside.HasUnused, Inside.numbered};
+ghost use Rattle.hd_seg.specs.Inside.{numbered};
 
 use crate::block::{Block, UNUSED};
 use crate::row::BlockKind;
+use crate::unused::{numbers_to, take_from};
 use hd_model::limits::{BLOCKS, KINDS};
 use hd_model::{Kind, Memory, filled};
+use hd_tiers::{Masks, Numbers, Tier};
 use std::alloc::{AllocError, Global};
 use std::marker::Model;
 
@@ -24,11 +26,14 @@ pub(crate) struct Blocks {
     given: u32,
     table: Vec<Block>,
     chains: Vec<Vec<u32>>,
+    // The numbers of the blocks that are not in use.
+    unused: Tier<Masks>,
 }
 
 impl Model for Blocks {
     ghost use Rattle.std.specs.Prelude.{◌≤◌, All, map, vec_capacity};
     ghost use Rattle.hd_seg.specs.{Blocks.Uses, Blocks.uses_code, Blocks.uses_in, Inside.IsBlocks};
+    ghost use Rattle.hd_seg.specs.{Inside.ListsUnused};
 
     ghost Value = { Uses };
 
@@ -37,34 +42,8 @@ impl Model for Blocks {
     ghost view = { λ b. uses_in b.number b.table.items (map (λ v. v.items) b.chains.items) };
 
     ghost invariant = { λ b. IsBlocks b.number b.given b.table.items
-        (map (λ v. v.items) b.chains.items) × All (λ v. b.number ≤ vec_capacity v) b.chains.items };
-}
-
-impl Block {
-    // Whether the block is used for something.
-    fn has_use(&self) -> bool
-        ensures { result ≡ is_some (use_of self.now.kind) }
-    {
-        match self.kind {
-            BlockKind::Unused => false,
-            BlockKind::Rows(_) | BlockKind::Extras => true,
-        }
-    }
-}
-
-// The lowest unused block from `from` on.
-fn least_unused(table: &[Block], from: usize) -> usize
-    requires { HasUnused table.now from }
-    ensures low { from ≤ result }
-    ensures high { result < length table.now }
-    ensures unused { use_at table.now result ≡ None }
-    ensures least { (b : ℕ) → from ≤ b → b < result → IsSome (use_at table.now b) }
-{
-    let mut at = from;
-    while table[at].has_use() {
-        at += 1;
-    }
-    at
+        (map (λ v. v.items) b.chains.items) × All (λ v. b.number ≤ vec_capacity v) b.chains.items
+        × ListsUnused b.number b.table.items b.unused };
 }
 
 // An empty chain for each kind, with room for all blocks.
@@ -100,6 +79,7 @@ impl Blocks {
         ensures table { IfOk result (λ uses. IsTable uses.table) }
     {
         let table = filled(alloc, UNUSED, number + 1)?;
+        let unused = numbers_to(alloc, number)?;
         let Ok(chains) = empty_chains(alloc, number as usize) else {
             return Err(Memory);
         };
@@ -108,6 +88,7 @@ impl Blocks {
             given: 0,
             table,
             chains,
+            unused,
         })
     }
 
@@ -153,17 +134,17 @@ impl Blocks {
             self.new ≡ record self.old { table = table } }
         ensures table { IsTable self.new.table }
     {
-        let block = least_unused(&self.table, 1);
+        let block = take_from(&mut self.unused, 1);
         let chain = &mut self.chains[kind.number() as usize];
         let index = chain.len() as u32;
-        chain.push_reserved(block as u32);
-        self.table[block] = Block {
+        chain.push_reserved(block);
+        self.table[block as usize] = Block {
             kind: BlockKind::Rows(kind),
             index,
             extras: None,
         };
         self.given += 1;
-        block as u32
+        block
     }
 
     /// Makes the lowest unused block after `block` the data block for the extras of its rows.
@@ -179,13 +160,13 @@ impl Blocks {
         } }
         ensures table { IsTable self.new.table }
     {
-        let data = least_unused(&self.table, block as usize + 1);
+        let data = take_from(&mut self.unused, block + 1);
         let of = &mut self.table[block as usize];
-        of.extras = Some(data as u32);
-        let extras = &mut self.table[data];
+        of.extras = Some(data);
+        let extras = &mut self.table[data as usize];
         extras.kind = BlockKind::Extras;
         self.given += 1;
-        data as u32
+        data
     }
 
     /// Takes a block of handles from its kind.
@@ -202,6 +183,7 @@ impl Blocks {
         chain.remove(index);
         renumber(&mut self.table, chain, index);
         self.given -= 1;
+        self.unused.insert(block);
     }
 
     // The kind of a block of handles, and its index in the chain of that kind.

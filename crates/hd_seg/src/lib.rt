@@ -10,6 +10,7 @@ mod blocks;
 mod change;
 mod row;
 mod seg;
+mod unused;
 mod writes;
 
 pub use change::rewrite_row;

@@ -1,83 +1,74 @@
-use Rattle.hd_seg.proofs.Basics.{Block, HasUnused, IsSome, List, None, Some, Uses, ap, arith, block_at, cases_lt, get, get_or_read, inl, inr, is_some, length, length-set, set, subst, sym, use_at, ℕ, ◌+◌, ◌<◌, ◌∙◌, ◌≡◌, ◌≤◌}
-use Rattle.hd_seg.proofs.ChainLinks.{is_table, few_of, one_left, none_is_some, use_is}
-use Rattle.hd_seg.proofs.BlockAdd.{blocks-with_data, view-with_data, least_is}
-use Rattle.hd_seg.proofs.blocks.Blocks.add_data.Goals.{After-deref, After-self-3-1}
+use Rattle.hd_seg.proofs.Basics.{Block, List, Some, Uses, ap, arith, block_at, get_or_read, length, length-set, set, ◌+◌, ◌<◌, ◌≡◌}
+use Rattle.hd_seg.proofs.ChainLinks.{is_table, few_of, one_left}
+use Rattle.hd_seg.proofs.BlockAdd.{blocks-with_data, unused-with_data, view-with_data, least_is}
+use Rattle.hd_seg.proofs.UnusedBlocks.{all_used, fits, has_from, inside, is_unused, unused_after, used}
+use Rattle.hd_seg.proofs.blocks.Blocks.add_data.Goals.{After-self-3-1}
 use Rattle.hd_seg.proofs.blocks.Blocks.add_data.Goals as goal
 
--- each block up to this one is in use
-used : (c : After-deref) → (b : ℕ) → 1 ≤ b → b ≤ c.args.block → IsSome (use_at c.self.inside.table.items b)
-used c b low high =
-    let last : b ≤ c.self.inside.number =
-    omega (arith, c.requires.high, ap (λ (u : Uses). u.table.blocks) c.self.view_is) in
-    ap is_some (sym (use_is c.self.invariant.0 b low last)
-    ∙ ap (λ (u : Uses). get u.table.uses b) c.self.view_is) ∙ c.requires.used b low high
+pub overflow_add-block : goal.overflow_add-block
+overflow_add-block c =
+    omega (arith, c.requires.high, ap (λ (u : Uses). u.table.blocks) c.self.view_is, c.self.invariant.0.limit)
 
-past : (c : After-deref) (found : HasUnused c.self.inside.table.items 1) → c.args.block + 1 ≤ found.number
-past c found =
-    elim (cases_lt c.args.block found.number) [
-      | inl above ↦ omega arith
-      | inr below ↦ absurd (none_is_some _ found.unused (used c found.number found.low below))
-    ]
+pub take_from-data-requires-clause-some : goal.take_from-data-requires-clause-some
+take_from-data-requires-clause-some c =
+    has_from c.self.invariant.0 c.self.invariant.2 (omega arith)
+    (unused_after c.self.invariant.0 c.self.view_is c.requires.high c.requires.used
+    (one_left c.self.invariant.0 (few_of _ c.self.view_is c.requires.room)))
 
-pub least_unused-data-requires : goal.least_unused-data-requires
-least_unused-data-requires c =
-    let found : HasUnused c.self.inside.table.items 1 =
-    one_left c.self.invariant.0
-    (few_of _ c.self.view_is
-    c.requires.room) in
-    subst (λ (xs : List Block). HasUnused xs (c.args.block + 1)) (sym c.deref.ensures.value)
-    (record { number = found.number; low = past c found; high = found.high; unused = found.unused })
+pub take_from-data-requires-clause-within : goal.take_from-data-requires-clause-within
+take_from-data-requires-clause-within c = fits c.self.invariant.0 c.self.invariant.2
 
 -- the block that was found
-inside : (c : After-self-3-1) → c.least_unused-data.result < length c.self.inside.table.items
-inside c = omega (arith, c.least_unused-data.ensures.high, c.deref.ensures.len, c.self.inside.table.ok.0)
-
-unused : (c : After-self-3-1) → use_at c.self.inside.table.items c.least_unused-data.result ≡ None
-unused c = ap (λ xs. use_at xs c.least_unused-data.result) (sym c.deref.ensures.value)
-    ∙ c.least_unused-data.ensures.unused
+within : (c : After-self-3-1) → c.take_from-data.result < length c.self.inside.table.items
+within c = inside c.self.invariant.0 c.self.invariant.2 c.take_from-data.ensures.least
 
 of_is : (c : After-self-3-1) → c.index_mut-of.result.now ≡ block_at c.self.inside.table.items c.args.block
 of_is c = get_or_read c.self.inside.table.items c.args.block c.index_mut-of.result.now
-    (omega (arith, inside c, c.least_unused-data.ensures.low)) c.index_mut-of.ensures.value _
+    (omega (arith, within c, c.take_from-data.ensures.least.low)) c.index_mut-of.ensures.value _
 
 -- the block of handles with its data block
 abbrev with_data_block : After-self-3-1 → Block
-with_data_block c = record c.index_mut-of.result.now { extras = Some c.least_unused-data.result }
+with_data_block c = record c.index_mut-of.result.now { extras = Some c.take_from-data.result }
 
 at_is : (c : After-self-3-1) → c.index_mut-extras.result.now
-    ≡ block_at (set c.self.inside.table.items c.args.block (with_data_block c)) c.least_unused-data.result
+    ≡ block_at (set c.self.inside.table.items c.args.block (with_data_block c)) c.take_from-data.result
 at_is c =
     let first : List Block = set c.self.inside.table.items c.args.block (with_data_block c) in
-    let lt : c.least_unused-data.result < length first =
+    let lt : c.take_from-data.result < length first =
     (let known = length-set c.self.inside.table.items c.args.block (with_data_block c) in
-    omega (arith, inside c, known)) in
-    get_or_read first c.least_unused-data.result c.index_mut-extras.result.now lt
+    omega (arith, within c, known)) in
+    get_or_read first c.take_from-data.result c.index_mut-extras.result.now lt
     c.index_mut-extras.ensures.value _
 
-below : (c : After-self-3-1) → c.args.block < c.least_unused-data.result
-below c = omega (arith, c.least_unused-data.ensures.low)
+below : (c : After-self-3-1) → c.args.block < c.take_from-data.result
+below c = omega (arith, c.take_from-data.ensures.least.low)
 
 pub invariant_of-self : goal.invariant_of-self
-invariant_of-self c = (
-  blocks-with_data c.self.invariant.0
-      c.args.block c.least_unused-data.result c.requires.low (below c) (inside c) (unused c)
-      (used (goal.at.invariant_of-self c).After-deref c.args.block c.requires.low (omega arith))
-      (of_is c) (at_is c),
-  c.self.invariant.1,
-)
+invariant_of-self c =
+    let inv = c.self.invariant.0 in
+    let unused = is_unused inv c.self.invariant.2 c.take_from-data.ensures.least in
+    let taken = used inv c.self.view_is c.requires.high c.requires.used c.args.block c.requires.low
+    (omega arith) in (
+      blocks-with_data inv c.args.block c.take_from-data.result c.requires.low (below c) (within c) unused taken
+          (of_is c) (at_is c),
+      c.self.invariant.1,
+      unused-with_data inv c.args.block c.take_from-data.result c.requires.low (below c) (within c) unused taken
+          (of_is c) (at_is c) c.self.invariant.2 c.take_from-data.ensures.taken,
+    )
 
 pub returns-clause-least : goal.returns-clause-least
 returns-clause-least c =
-    least_is c.self.invariant.0 c.self.view_is (c.args.block + 1) c.least_unused-data.result (omega arith)
-    c.least_unused-data.ensures.low (inside c) (unused c)
-    (λ q low above. subst (λ (xs : List Block). IsSome (use_at xs q)) c.deref.ensures.value
-    (c.least_unused-data.ensures.least q low above))
+    let inv = c.self.invariant.0 in
+    let found = c.take_from-data.ensures.least in
+    least_is inv c.self.view_is (c.args.block + 1) c.take_from-data.result (omega arith) found.low (within c)
+    (is_unused inv c.self.invariant.2 found) (all_used inv c.self.invariant.2 found (omega arith))
 
 pub returns-clause-after : goal.returns-clause-after
 returns-clause-after c =
-    view-with_data c.self.invariant.0
-    c.args.block c.least_unused-data.result c.requires.low (below c) (inside c) (unused c)
-    (used (goal.at.invariant_of-self c).After-deref c.args.block c.requires.low (omega arith))
+    let inv = c.self.invariant.0 in
+    view-with_data inv c.args.block c.take_from-data.result c.requires.low (below c) (within c)
+    (is_unused inv c.self.invariant.2 c.take_from-data.ensures.least)
+    (used inv c.self.view_is c.requires.high c.requires.used c.args.block c.requires.low (omega arith))
     (of_is c) (at_is c) c.self.view_is
 
 pub returns-clause-table : goal.returns-clause-table

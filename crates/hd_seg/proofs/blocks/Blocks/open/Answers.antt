@@ -1,5 +1,6 @@
-use Rattle.hd_seg.proofs.Basics.{Global, IsBlocks, None, Vec, ap, map, replicate, subst, sym, uses_in, ℕ, ◌+◌, ◌∙◌}
-use Rattle.hd_seg.proofs.{ChainLinks.is_table, BlockAdd.blocks-none, BlockAdd.view-none}
+use Rattle.hd_seg.proofs.Basics.{Global, IsBlocks, None, Vec, ap, map, replicate, subst, sym, use_at, uses_in, ℕ, ◌+◌, ◌∙◌}
+use Rattle.hd_seg.proofs.{ChainLinks.is_table, BlockAdd.blocks-none, BlockAdd.no_use, BlockAdd.view-none}
+use Rattle.hd_seg.proofs.UnusedBlocks.{unused_none}
 use Rattle.hd_seg.specs.declared.row.BlockKind.TheVariants as block
 use Rattle.hd_seg.proofs.blocks.Blocks.open.Goals as goal
 
@@ -12,6 +13,8 @@ invariant_of-result c = (
       (replicate (c.args.number + 1) (record { kind = block.Unused; index = 0; extras = None })) cs)
       (sym c.in-Ok.ensures.chains) (blocks-none c.args.number c.requires)),
   c.in-Ok.ensures.rooms,
+  unused_none c.args.number c.in_ok-table.table.items c.in_ok-unused.unused
+      (λ b. ap (λ xs. use_at xs b) c.in_ok-table.ensures ∙ no_use c.args.number b) c.in_ok-unused.ensures,
 )
 
 pub returns-clause-none : goal.returns-clause-none

@@ -1,7 +1,8 @@
 use Rattle.hd_seg.proofs.Basics.{None, ap, arith, get_or, length, length-set, sym, without_block, ◌∙◌, ◌≡◌}
 use Rattle.hd_seg.proofs.ChainLinks.{is_table, chain_read, chain_written, rooms_written}
-use Rattle.hd_seg.proofs.BlockRemove.{short, blocks-gone, view-gone, short_fits, short_few}
+use Rattle.hd_seg.proofs.BlockRemove.{its, short, blocks-gone, unused-gone, view-gone, short_fits, short_few}
 use Rattle.hd_seg.proofs.blocks.Blocks.remove.Goals.{After-deref}
+use Rattle.std.specs.FinSet.{insert}
 use Rattle.std.specs.List as list
 use Rattle.hd_seg.specs.declared.row.BlockKind.TheVariants as block
 use Rattle.hd_seg.proofs.blocks.Blocks.remove.Goals as goal
@@ -34,6 +35,12 @@ renumber-requires-clause-few c =
     c.chain_position-kind.result.1 c.chain_position-kind.ensures.index c.requires.plain in
     omega (arith, ap length (short_is c), known)
 
+pub insert-requires : goal.insert-requires
+insert-requires c =
+    let listed = its c.self.invariant.0 c.self.view_is c.chain_position-kind.result.0 c.args.block
+    c.chain_position-kind.result.1 c.chain_position-kind.ensures.index c.requires.plain in
+    omega (arith, listed.high, c.self.invariant.2.room)
+
 pub invariant_of-self : goal.invariant_of-self
 invariant_of-self c = (
   blocks-gone c.self.invariant.0 c.self.view_is c.chain_position-kind.result.0 c.args.block
@@ -44,6 +51,15 @@ invariant_of-self c = (
       c.index_mut-chain.ensures.value c.remove.new.self c.deref.result.now (sym c.deref.ensures.value)),
   rooms_written _ c.self.invariant.0 c.chain_position-kind.result.0 c.number.ensures.value
       c.index_mut-chain.ensures.value c.remove.new.self c.remove.ensures.capacity c.self.invariant.1,
+  unused-gone c.self.invariant.0 c.self.view_is c.chain_position-kind.result.0 c.args.block
+      c.chain_position-kind.result.1
+      c.chain_position-kind.ensures.index c.requires.plain (short_is (goal.at.invariant_of-self
+      c).After-deref) _ c.deref_mut.ensures.value c.renumber.ensures c.self.inside.table.ok.0
+      (chain_written _ c.self.invariant.0 c.chain_position-kind.result.0 c.number.ensures.value
+      c.index_mut-chain.ensures.value c.remove.new.self c.deref.result.now (sym c.deref.ensures.value))
+      c.self.invariant.2
+      (c.insert.ensures
+      ∙ ap (λ n. record c.self.inside.unused { members = insert c.self.inside.unused.members n }) (omega arith)),
 )
 
 pub returns-clause-after : goal.returns-clause-after
