@@ -125,7 +125,7 @@ unfolding all_below
 two_at_least = refl
 
 -- from generation 1 on each age is raised that can be
-raised_up : (n g : ℕ) → g ≤ n → raised n g ≡ min (g + 1) 2
+pub raised_up : (n g : ℕ) → g ≤ n → raised n g ≡ min (g + 1) 2
 raised_up n g le = ap (λ t. cond t g (min (g + 1) 2)) (lt-leb (suc n) g (omega arith))
 
 raised_some : (n a : ℕ) → 1 ≤ n → a ≤ 2 → raised 1 a ≡ raised n a

@@ -6,13 +6,14 @@ pub use Rattle.std.proofs.lemmas.List.{drop-drop, get_or-drop, get_or-take, get_
 pub use Rattle.std.proofs.lemmas.List.Elements.{All-append, All-drop, All-map, All-replicate, All-set, All-take, All-weaker, Contains-append_cases, Contains-append_left, Contains-append_right, filter_agree}
 pub use Rattle.std.proofs.lemmas.Nat.Bits.{bit_at-lt, bit_at-zero, bit_at_above, bit_at_ones}
 pub use Rattle.std.specs.FinMap.{contains_key, get, len}
+pub use Rattle.std.specs.FinSet.{contains, contains-empty}
 pub use Rattle.std.specs.Int.{bit_at}
 pub use Rattle.std.specs.List.{range_with_len}
 pub use Rattle.std.specs.Option.{ForSome}
-pub use Rattle.std.specs.Prelude.{AllPairs, Contains, IfSome, IsSome, MatchOption, nat_le, option_map, slice_index}
+pub use Rattle.std.specs.Prelude.{AllPairs, Contains, IfNone, IfSome, IsSome, MatchOption, nat_le, option_map, slice_index}
 pub use Rattle.hd_ages.specs.Clumps.{IsSlotOf, ages_at, clump_at, grown_at, with_ages}
 pub use Rattle.hd_ages.specs.{Inside.Advances, Inside.IsOver, Walk.Ends, Walk.Gives, Walk.IsOn, Walk.blocks_to_come, Walk.clumps_to_come, Walk.due_slots, Walk.slots_in, Walk.slots_of, Walk.slots_to_come}
-pub use Rattle.hd_ages.specs.{Inside.IsWord, Inside.ages_in, Inside.is_word, Word.age_in, Word.ages_of}
+pub use Rattle.hd_ages.specs.{Inside.AreAbove, Inside.HasYoung, Inside.IsWord, Inside.ages_in, Inside.is_word, Word.age_in, Word.ages_of}
 pub use Rattle.hd_ages.specs.declared.due_rows.DueRows.{DueRows}
 pub use Rattle.hd_mask.specs.Mask.{set_bits}
 pub use Rattle.hd_model.proofs.Basics.{length-append, length-map}
@@ -28,3 +29,4 @@ pub use Rattle.hd_model.specs.declared.data.Kind.{Kind}
 pub use Rattle.hd_model.specs.declared.data.Slot.{Slot}
 pub use Rattle.hd_seg.specs.Rewriting.{Rewrites}
 pub use Rattle.hd_model.specs.declared.limits.TheConstants.{BLOCKS, CLUMP, CLUMPS, ROWS}
+pub use Rattle.hd_tiers.specs.Sets.{HasNoneFrom, IsLeastFrom, NumberSet}

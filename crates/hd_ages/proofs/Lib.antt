@@ -5,6 +5,7 @@ pub mod AgeListLength
 pub mod MappedPrefixes
 pub mod ClumpBits
 pub mod YoungestAge
+pub mod YoungBlocks
 pub mod WalkSteps
 pub mod WalkSlots
 pub mod WalkFrame

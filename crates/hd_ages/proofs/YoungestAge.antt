@@ -13,15 +13,6 @@ grown_from y n ages low from =
     All-map (λ a. min (y + 1) 2 ≤ a) (raised n) ages
     (All-weaker (λ a. y ≤ a) (λ a. min (y + 1) 2 ≤ raised n a) (λ a. raised_from y n a low) ages from)
 
-raised_above : (y n g : ℕ) → y ≤ 2 → y ≤ g → y ≤ raised n g
-raised_above y n g small from = grind (arith, nat_tests)
-
-pub grown_above : (y n : ℕ) (ages : List ℕ) → y ≤ 2 → All (λ a. y ≤ a) ages
-    → All (λ a. y ≤ a) (grown n ages)
-grown_above y n ages small from =
-    All-map (λ a. y ≤ a) (raised n) ages
-    (All-weaker (λ a. y ≤ a) (λ a. y ≤ raised n a) (λ a. raised_above y n a small) ages from)
-
 -- another word for a block
 pub set_from : (y z least w : ℕ) (ws : List ℕ) (i : ℕ) → i < length ws → least ≤ y → least ≤ z
     → All (λ a. y ≤ a) (ages_of ws) → All (λ a. z ≤ a) (ages_in w)

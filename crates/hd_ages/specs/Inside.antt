@@ -1,7 +1,9 @@
 -- What private clauses alone cite.
-use Rattle.std.specs.Prelude.{◌≡◌, ℕ, ◌+◌, ◌<◌, List, [], length, ◌^◌, ◌&&◌, Bool, true, nat_lt, nat_le, ◌∷◌}
+use Rattle.std.specs.Prelude.{◌≡◌, ℕ, ◌+◌, ◌-◌, ◌<◌, ◌≤◌, List, [], length, ◌^◌, ◌&&◌, All, Bool, true, false, nat_lt, nat_le, slice_index, slice_index_or, ◌∷◌}
+use Rattle.std.specs.FinSet.{contains}
 use Rattle.std.specs.Int.{bit_at}
 use Rattle.hd_model.specs.Table.{Table}
+use Rattle.hd_tiers.specs.Sets.{NumberSet}
 use Rattle.hd_ages.specs.{declared.due_rows.DueRows.DueRows, Word.age_in}
 use Rattle.hd_ages.specs.Walk.{blocks_to_come, clumps_to_come, slots_to_come}
 
@@ -34,3 +36,16 @@ is_word word =
 
 pub record IsWord (word : ℕ) : Type 0 where
   pub holds : is_word word ≡ true
+
+-- ---- the blocks with young clumps
+
+-- a set has each block with a clump of age k or less, and room for each block
+pub record HasYoung (k : ℕ) (words : List ℕ) (s : NumberSet) : Type 0 where
+  pub room : length words < s.room
+  pub within : (b : ℕ) → contains s.members b ≡ true → (1 ≤ b) × (b ≤ length words)
+  pub above : (b : ℕ) → 1 ≤ b → b ≤ length words → contains s.members b ≡ false
+      → All (λ age. k < age) (ages_in (slice_index_or words (b - 1) 0))
+
+-- the ages from one index on and below another are above n
+abbrev pub AreAbove : ℕ → List ℕ → ℕ → ℕ → Type 0
+AreAbove n ages from to = (i : ℕ) → from ≤ i → i < to → n < slice_index ages i

@@ -1,15 +1,18 @@
 ghost use Rattle.std.specs.Prelude.{◌≡◌, ℕ, ◌+◌, ◌-◌, ◌*◌, ◌<◌, ◌≤◌, ◌^◌, List, cond, nat_le, length, map, filter};
-ghost use Rattle.std.specs.Prelude.{false, replicate, slice_index, All, IfOk};
+ghost use Rattle.std.specs.Prelude.{true, false, replicate, slice_index, All, IfOk, IfSome, IfNone};
+ghost use Rattle.std.specs.FinSet.{insert, remove};
 ghost use Rattle.std.specs.Int.{bit_at};
 ghost use Rattle.hd_mask.specs.Mask.{set_bits};
 ghost use Rattle.hd_model.specs.Ages.{clumps_of, grown, lowered};
 ghost use Rattle.hd_ages.specs.Clumps.{IsSlotOf, ages_at, clump_at, grown_at, with_ages};
-ghost use Rattle.hd_ages.specs.Inside.{IsWord, ages_in};
+ghost use Rattle.hd_ages.specs.Inside.{AreAbove, IsWord, ages_in};
 
 use crate::word;
 use crate::word::ALL_OLDEST;
+use hd_mask::BITS;
 use hd_model::limits::{BLOCKS, CLUMPS, OLDEST};
 use hd_model::{Memory, filled};
+use hd_tiers::{Masks, Numbers, Tier};
 use std::alloc::Global;
 use std::marker::Model;
 
@@ -19,19 +22,23 @@ pub struct AgeMap {
     words: Vec<u8>,
     // No clump is of a lower age. This may be below all of them.
     youngest: u8,
+    // The blocks with a clump of age 0, and those with one of age 0 or 1.
+    zero: Tier<Masks>,
+    young: Tier<Masks>,
 }
 
 impl Model for AgeMap {
     ghost use Rattle.std.specs.Prelude.{ℕ, List, All, length, ◌≤◌};
     ghost use Rattle.hd_model.specs.declared.limits.TheConstants.{BLOCKS, OLDEST};
-    ghost use Rattle.hd_ages.specs.{Inside.IsWord, Word.ages_of};
+    ghost use Rattle.hd_ages.specs.{Inside.HasYoung, Inside.IsWord, Word.ages_of};
 
     ghost Value = { List ℕ };
 
     ghost view = { λ a. ages_of a.words.items };
 
     ghost invariant = { λ a. (length a.words.items ≤ BLOCKS) × All IsWord a.words.items
-        × (a.youngest ≤ OLDEST) × All (λ age. a.youngest ≤ age) (ages_of a.words.items) };
+        × (a.youngest ≤ OLDEST) × All (λ age. a.youngest ≤ age) (ages_of a.words.items)
+        × HasYoung 0 a.words.items a.zero × HasYoung 1 a.words.items a.young };
 }
 
 impl AgeMap {
@@ -41,9 +48,13 @@ impl AgeMap {
         ensures { IfOk result (λ ages. ages ≡ replicate (CLUMPS * blocks) OLDEST) }
     {
         let words = filled(alloc, ALL_OLDEST, blocks)?;
+        let zero = Tier::<Masks>::open(alloc, blocks / BITS + 1)?;
+        let young = Tier::<Masks>::open(alloc, blocks / BITS + 1)?;
         Ok(AgeMap {
             words,
             youngest: OLDEST,
+            zero,
+            young,
         })
     }
 
@@ -104,13 +115,12 @@ impl AgeMap {
         requires high { CLUMPS * block ≤ length self.old }
         ensures { self.new ≡ grown_at n block self.old }
     {
-        // No age falls, so the least one needs no look.
         let word = word::grow(self.word(block), n);
-        self.words[block as usize - 1] = word;
+        self.set_word(block, word);
     }
 
-    /// Raises by one each age of the table that is at most `n`, at most to 2. Where none may be, it
-    /// goes over no block.
+    /// Raises by one each age of the table that is at most `n`, at most to 2. It goes over the
+    /// blocks with such an age alone.
     pub fn grow_all(&mut self, n: u8)
         ensures { self.new ≡ grown n self.old }
     {
@@ -129,12 +139,35 @@ impl AgeMap {
         self.youngest <= n
     }
 
-    // Raises the ages of all blocks.
+    // Raises the ages of all blocks. Where a block has no clump of age 0 or 1, or none up to `n`,
+    // they stay.
     fn grow_blocks(&mut self, n: u8)
         ensures { self.new ≡ grown n self.old }
     {
-        for block in 0..self.blocks() {
-            self.grow(block + 1, n);
+        let young = n.min(1);
+        let mut after = 0;
+        while let Some(block) = self.next_young(young, after) {
+            self.grow(block, n);
+            after = block;
+        }
+    }
+
+    // The least block after `after` with a clump of age `n` or less.
+    fn next_young(&self, n: u8, after: u32) -> Option<u32>
+        requires young { n ≤ 1 }
+        requires few { after ≤ BLOCKS }
+        ensures low { IfSome result (λ block. after + 1 ≤ block) }
+        ensures high { IfSome result (λ block. CLUMPS * block ≤ length self.now) }
+        ensures few { IfSome result (λ block. block ≤ BLOCKS) }
+        ensures above { IfSome result (λ block.
+            AreAbove n self.now (CLUMPS * after) (CLUMPS * block - CLUMPS)) }
+        ensures none { IfNone result (AreAbove n self.now (CLUMPS * after) (length self.now)) }
+        ensures ages { All (λ age. age ≤ OLDEST) self.now }
+    {
+        if n == 0 {
+            self.zero.least_from(after + 1)
+        } else {
+            self.young.least_from(after + 1)
         }
     }
 
@@ -164,7 +197,25 @@ impl AgeMap {
         requires word { IsWord word }
         ensures { self.new ≡ with_ages block (ages_in word) self.old }
     {
+        let least = word::youngest(word);
         self.words[block as usize - 1] = word;
-        self.youngest = self.youngest.min(word::youngest(word));
+        self.youngest = self.youngest.min(least);
+        note(&mut self.zero, block, least, 0);
+        note(&mut self.young, block, least, 1);
+    }
+}
+
+// Notes the least age of a block in the set of those with an age of `most` or less.
+fn note(set: &mut Tier<Masks>, block: u32, least: u8, most: u8)
+    requires { block < set.old.room }
+    ensures young { least ≤ most →
+        set.new ≡ record set.old { members = insert set.old.members block } }
+    ensures old { most < least →
+        set.new ≡ record set.old { members = remove set.old.members block } }
+{
+    if least <= most {
+        set.insert(block);
+    } else {
+        set.remove(block);
     }
 }
