@@ -17,7 +17,7 @@ pub use Rattle.hd_heap.specs.Inside.{MayForward, region_forwarded, stored_forwar
 pub use Rattle.hd_heap.specs.Inside.{IsKept, IsFreeRegion}
 pub use Rattle.hd_heap.specs.Indexes.{flagged, from_one, indexes_of}
 pub use Rattle.hd_heap.specs.Sound.{IsSound, StartsIn}
-pub use Rattle.hd_heap.specs.Inside.{AreOthersFull, HasFlags, HasPart, HasRoom, IsFirstAt, IsFirstSince, IsFreed, IsLeastBetween, IsLeastFrom, IsObjectOf, IsRoom, IsTaken, area_put, area_written, is_below, is_wanted, region_with_part, registers, wants, with_contents, with_part}
+pub use Rattle.hd_heap.specs.Inside.{AreOthersFull, HasFlags, HasLeft, HasPart, HasRoom, IsFirstAt, IsFirstSince, IsFreed, IsLeastBetween, IsLeastFrom, IsObjectOf, IsRoom, IsTaken, area_put, area_written, is_below, is_wanted, region_with_part, registers, wants, with_contents, with_part}
 pub use Rattle.hd_heap.specs.declared.area.Area.{Area}
 pub use Rattle.hd_heap.specs.declared.area.Part.{Part}
 pub use Rattle.hd_heap.specs.declared.area.Wanted.{Wanted}

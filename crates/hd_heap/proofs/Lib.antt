@@ -13,6 +13,7 @@ pub mod RegionWalk
 pub mod RegionReserve
 pub mod HeapValues
 pub mod HeapNotes
+pub mod HeapLeft
 pub mod FieldForward
 pub mod HeapReferences
 pub mod RunCopies

@@ -160,6 +160,13 @@ AreOthersFull h current =
     (r : ℕ) → current ≢ 0 → is_in_use h r ≡ true → region_generation h r ≡ 0 → r ≢ current
     → LEFT ≤ (region_at h r).fill
 
+-- so many cells are left in a region of generation 0, and within the limit where so many are used; nothing is
+-- said of 0
+abbrev pub HasLeft : Heap → (current used left : ℕ) → Type 0
+HasLeft h current used left = left ≢ 0 → (is_in_use h current ≡ true) × (region_generation h current ≡ 0)
+    × ((region_at h current).fill + left ≤ REGION)
+    × (used + left ≤ h.limit)
+
 -- what is noted of set cards and of registered objects: nothing is said where a flag is true
 pub record HasFlags (h : Heap) (carding registering : Bool) : Type 0 where
   pub cards : carding ≡ false → (card : ℕ) → is_set h card ≡ false

@@ -1,9 +1,8 @@
 // A heap, seen by its callers as maps from addresses to objects and from numbers to regions in use.
-ghost use Rattle.std.specs.Prelude.{◌≡◌, ◌≢◌, ℕ, ◌+◌, ◌-◌, ◌*◌, ◌/◌, ◌%◌, ◌<◌, ◌≤◌, ◌↔◌, ◌||◌, ◌++◌, ◌∷◌, []};
+ghost use Rattle.std.specs.Prelude.{◌≡◌, ◌≢◌, ℕ, ◌+◌, ◌-◌, ◌*◌, ◌/◌, ◌%◌, ◌<◌, ◌≤◌, ◌↔◌, ◌++◌, ◌∷◌, []};
 ghost use Rattle.std.specs.Prelude.{Bool, true, false, length, max, take, replicate};
 ghost use Rattle.std.specs.Prelude.{slice_index, slice_index_or};
 ghost use Rattle.std.specs.Prelude.{None, Some, IfOk, IfErr, IfSome, OnOk, OnErr, MatchResult, MatchOption};
-ghost use Rattle.std.specs.Prelude.{cond, nat_eq};
 ghost use Rattle.std.specs.Bool.{Decides};
 ghost use Rattle.std.specs.FinMap as map;
 ghost use Rattle.hd_model.specs.Scene.{fields_at, generation_at, IsField};
@@ -25,6 +24,7 @@ use crate::NewFault;
 use crate::area::{Area, Part, Wanted};
 use crate::fields::ObjectFields;
 use crate::moves::Move;
+use crate::notes::{left_after, left_in_fresh, noted, still_current};
 use hd_cells::Region;
 use hd_model::limits::{CARD, FIELDS, HEADER, OLDEST, REGION, REGIONS};
 use hd_model::{Addr, Forward, Id, Memory};
@@ -46,6 +46,9 @@ pub struct Heap {
     held: u32,
     // The region of the last new object, or 0 where other ones may have room for the next.
     current: u32,
+    // Cells that are left in that region, which is then of generation 0, and within the limit: as
+    // far as is known, or 0.
+    left: u32,
     // Whether a card may be set, and whether an object may be registered for finalization.
     carding: bool,
     registering: bool,
@@ -62,14 +65,15 @@ impl Model for Heap {
     ghost use Rattle.std.specs.VecDeque.{deque_capacity};
     ghost use Rattle.hd_heap.specs.Areas.{heap_of};
     ghost use Rattle.hd_heap.specs.Inside.{IsKept};
-    ghost use Rattle.hd_heap.specs.Inside.{AreOthersFull, HasFlags};
+    ghost use Rattle.hd_heap.specs.Inside.{AreOthersFull, HasFlags, HasLeft};
 
     ghost view = { λ h. heap_of h.areas.items h.free.items h.limit };
 
     ghost invariant = { λ h. IsKept h.areas.items h.free.items (deque_capacity h.free)
         h.used h.count h.held
         × AreOthersFull (heap_of h.areas.items h.free.items h.limit) h.current
-        × HasFlags (heap_of h.areas.items h.free.items h.limit) h.carding h.registering };
+        × HasFlags (heap_of h.areas.items h.free.items h.limit) h.carding h.registering
+        × HasLeft (heap_of h.areas.items h.free.items h.limit) h.current h.used h.left };
 }
 
 /// The index in the heap's list of a region, by its number from 1 on.
@@ -93,21 +97,6 @@ pub(crate) fn address_in(region: u32, offset: u32) -> Addr
     ensures { result.0 ≡ region * REGION + offset }
 {
     Addr(region * REGION + offset)
-}
-
-/// The region of the last new object after a region got a generation: 0, for none, where it is 0,
-/// since that region may then have room for a new object.
-fn still_current(current: u32, generation: u8) -> u32
-    ensures { result ≡ cond (nat_eq generation 0) 0 current }
-{
-    if generation == 0 { 0 } else { current }
-}
-
-/// A flag after something was noted, or not.
-fn noted(flag: bool, on: bool) -> bool
-    ensures { result ≡ (flag || on) }
-{
-    flag || on
 }
 
 /// What a field as it is stored references.
@@ -163,6 +152,7 @@ impl Heap {
             count: 0,
             held: 0,
             current: 0,
+            left: 0,
             carding: false,
             registering: false,
         })
@@ -187,6 +177,24 @@ impl Heap {
             Ok(region) => Ok(self.put(region, id, fields, registered)),
             Err(Memory) => Err(NewFault::Memory),
         }
+    }
+
+    /// Makes an object as `new_object` does, where the region of the last new one is known to have
+    /// room for it, within the limit; else nothing is done. It takes constant time beside the
+    /// object's fields, and no memory.
+    #[inline(always)]
+    pub fn put_in_current(&mut self, id: Id, fields: u32, registered: bool) -> Option<Addr>
+        requires identified { id.0 ≢ 0 }
+        requires few_fields { fields ≤ FIELDS }
+        ensures { MatchOption result (self.new ≡ self.old)
+            (λ at. IsMade self.old self.new at (new_object id fields registered)) }
+    {
+        let size = fields + HEADER;
+        let region = self.current;
+        if size > self.left {
+            return None;
+        }
+        Some(self.put(region, id, fields, registered))
     }
 
     /// The identity of the object at `at`.
@@ -426,6 +434,7 @@ impl Heap {
         self.areas[index_of(number)].hold(generation);
         self.held += 1;
         self.current = still_current(self.current, generation);
+        self.left = 0;
         number
     }
 
@@ -448,6 +457,7 @@ impl Heap {
         let end = self.areas[index_of(region)].put_copy(&copy, first);
         self.used += cells;
         self.count += 1;
+        self.left = 0;
         address_in(region, end)
     }
 
@@ -470,6 +480,7 @@ impl Heap {
         let (end, cells) = copy_between(&mut self.areas, source, target, moves, first, forward);
         self.used += cells;
         self.count += (end - first) as u32;
+        self.left = 0;
         end
     }
 
@@ -506,6 +517,7 @@ impl Heap {
     {
         self.areas[index_of(region)].generation = generation;
         self.current = still_current(self.current, generation);
+        self.left = 0;
     }
 
     /// Releases a region in use without objects. It becomes the last free one.
@@ -532,6 +544,7 @@ impl Heap {
         self.used -= cells;
         self.count -= objects;
         self.held -= 1;
+        self.left = 0;
         self.free.push_back_reserved(region);
     }
 
@@ -581,6 +594,7 @@ impl Heap {
         self.reserve_regions(1)?;
         let region = self.fresh(0);
         self.current = region;
+        self.left = left_in_fresh(self.limit, self.used);
         Ok(region)
     }
 
@@ -647,6 +661,7 @@ impl Heap {
         let offset = self.areas[index_of(region)].put(id.0, fields, registered);
         self.used += fields + HEADER;
         self.count += 1;
+        self.left = left_after(self.left, fields + HEADER, region == self.current);
         address_in(region, offset)
     }
 

@@ -9,6 +9,7 @@ mod fields;
 mod forwarding;
 mod heap;
 mod moves;
+mod notes;
 
 pub use area::CARDS;
 pub use condemned::{Extent, ObjectHeader, RegionInfo, RegionObjects};

@@ -1,5 +1,5 @@
 use Rattle.hd_heap.proofs.Basics.{Contents, IsObject, REGION, Region, ap, area_put, arith, cells_of, contents, deque_capacity, object_at, placed_at, region_at, set, size_of, sym, with_copy, ◌*◌, ◌+◌, ◌∙◌, ◌≡◌}
-use Rattle.hd_heap.proofs.{FieldForward.put_placed, RegionSums.cells_placed, RegionReads.closed, RegionReads.opened, RegionReads.noted, RegionReads.held_index, RegionReads.held_read, RegionReads.IsHeap, RegionReads.IsHeldAt, RegionChanges.object_put, RegionChanges.index_free, RegionChanges.put_fits}
+use Rattle.hd_heap.proofs.{FieldForward.put_placed, RegionSums.cells_placed, RegionReads.closed_none, RegionReads.opened, RegionReads.noted, RegionReads.held_index, RegionReads.held_read, RegionReads.IsHeap, RegionReads.IsHeldAt, RegionChanges.object_put, RegionChanges.index_free, RegionChanges.put_fits}
 use Rattle.hd_heap.proofs.heap.Heap.copy_into.Goals.{After-fill-cells, After-index_mut}
 use Rattle.hd_heap.proofs.heap.Heap.copy_into.Goals as goal
 
@@ -84,7 +84,7 @@ put c =
     (λ off. (noted heap).flags.registrations off c.args.from c.requires.object)
 
 pub invariant_of-self : goal.invariant_of-self
-invariant_of-self c = closed (put c)
+invariant_of-self c = closed_none (put c)
 
 pub returns : goal.returns
 returns c =

@@ -1,5 +1,5 @@
 use Rattle.hd_heap.proofs.Basics.{IsRun, ap, arith, deque_capacity, drop, length, move_at, refl, region_of, run_copied, subst, take, take-append_seam, ◌++◌, ◌+◌, ◌-◌, ◌<◌, ◌^◌, ◌∙◌, ◌≡◌}
-use Rattle.hd_heap.proofs.{RegionReads.closed, RegionReads.opened, RegionReads.IsHeap, RegionReads.found, RegionReads.index_within, RegionReads.held_index, RegionUse.heap_lists, HeapSoundness.cells_small, HeapSoundness.objects_small, RunCopies.run_one, RegionCopy.source_read, RegionCopy.target_read, RegionCopy.may_put, RegionCopy.run_moved}
+use Rattle.hd_heap.proofs.{RegionReads.closed_none, RegionReads.opened, RegionReads.IsHeap, RegionReads.found, RegionReads.index_within, RegionReads.held_index, RegionUse.heap_lists, HeapSoundness.cells_small, HeapSoundness.objects_small, RunCopies.run_one, RegionCopy.source_read, RegionCopy.target_read, RegionCopy.may_put, RegionCopy.run_moved}
 use Rattle.hd_heap.proofs.heap.Heap.copy_run.Given.{Over}
 use Rattle.hd_heap.proofs.heap.Heap.copy_run.Goals.{After-copy_between-end}
 use Rattle.hd_heap.proofs.heap.Heap.copy_run.Goals as goal
@@ -75,7 +75,7 @@ overflow_add-self-2 g c = omega
     (arith, (small g ((goal.at.overflow_add-self-2 g c).After-copy_between-end)).1)
 
 pub invariant_of-self : goal.invariant_of-self
-invariant_of-self g c = closed (moved g ((goal.at.invariant_of-self g c).After-copy_between-end))
+invariant_of-self g c = closed_none (moved g ((goal.at.invariant_of-self g c).After-copy_between-end))
 
 pub returns-clause-copied : goal.returns-clause-copied
 returns-clause-copied g c = (moved g ((goal.at.returns-clause-copied g c).After-copy_between-end)).view

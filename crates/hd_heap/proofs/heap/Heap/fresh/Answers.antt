@@ -1,4 +1,4 @@
-use Rattle.hd_heap.proofs.{RegionReads.closed, RegionReads.opened, RegionUse.free_read, RegionUse.region_held}
+use Rattle.hd_heap.proofs.{RegionReads.closed_none, RegionReads.opened, RegionUse.free_read, RegionUse.region_held}
 use Rattle.hd_heap.proofs.heap.Heap.fresh.Goals as goal
 
 pub hold-requires : goal.hold-requires
@@ -16,7 +16,7 @@ invariant_of-self c =
     let heap = opened c.self.inside c.self.view_is c.self.invariant in
     let at = free_read heap c.requires.free c.index-number.ensures c.index_of.ensures
     c.index_mut.ensures.value in
-    closed (region_held heap c.hold.new.self c.args.generation at c.hold.ensures.area c.hold.ensures.held
+    closed_none (region_held heap c.hold.new.self c.args.generation at c.hold.ensures.area c.hold.ensures.held
     c.pop_front.ensures.rest c.pop_front.ensures.capacity c.still_current-self-inside.ensures)
 
 pub returns : goal.returns

@@ -1,9 +1,9 @@
-use Rattle.hd_heap.proofs.{RegionReads.closed, RegionUse.no_regions}
+use Rattle.hd_heap.proofs.{RegionReads.closed_none, RegionUse.no_regions}
 use Rattle.hd_heap.proofs.heap.Heap.open.Goals as goal
 
 pub invariant_of-result : goal.invariant_of-result
 invariant_of-result c =
-    closed (no_regions c.new.result.items c.new-2.result.items c.args.limit _ c.new.ensures.items
+    closed_none (no_regions c.new.result.items c.new-2.result.items c.args.limit _ c.new.ensures.items
     c.new-2.ensures.items)
 
 pub returns : goal.returns

@@ -1,5 +1,6 @@
-use Rattle.hd_heap.proofs.Basics.{Heap, IsRemoved, arith, subst, sym}
-use Rattle.hd_heap.proofs.{RegionReads.closed, RegionReads.opened, RegionReads.index_within, RegionReads.found_read, RegionChanges.object_removed, RegionChanges.removed_cards, RegionChanges.counted}
+use Rattle.hd_heap.proofs.Basics.{Heap, IsRemoved, arith, subst, sym, ◌-◌}
+use Rattle.hd_heap.proofs.{RegionReads.closed, RegionReads.left_read, RegionReads.opened, RegionReads.index_within, RegionReads.found_read, RegionChanges.object_removed, RegionChanges.removed_cards, RegionChanges.counted}
+use Rattle.hd_heap.proofs.HeapLeft.{left_fewer}
 use Rattle.hd_heap.proofs.heap.Heap.remove.Goals as goal
 
 pub index_mut-requires : goal.index_mut-requires
@@ -32,6 +33,9 @@ invariant_of-self c =
     let f = found_read heap c.args.at c.requires c.index_of.ensures c.index_mut.ensures.value in
     let taken = rw c.offset_of.ensures at c.remove-cells.ensures.taken in
     closed (object_removed heap c.args.at f c.remove-cells.ensures.area taken)
+    (left_fewer c.args.self.now c.self.inside.current c.self.inside.used c.self.inside.left
+    (c.self.inside.used - c.remove-cells.result)
+    (left_read c.self.inside c.self.view_is c.self.invariant.3) (omega arith))
 
 pub returns : goal.returns
 returns c =

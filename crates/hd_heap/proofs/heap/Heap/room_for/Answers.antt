@@ -1,5 +1,6 @@
-use Rattle.hd_heap.proofs.Basics.{AreFull, AreOthersFull, Heap, IsRoom, subst, sym, ◌∙◌}
+use Rattle.hd_heap.proofs.Basics.{AreFull, AreOthersFull, HasLeft, Heap, IsRoom, ap, arith, subst, sym, ◌∙◌}
 use Rattle.hd_heap.proofs.{HeapValues.room_was, HeapValues.room_made, HeapNotes.others_begun}
+use Rattle.hd_heap.proofs.HeapLeft.{left_begun}
 use Rattle.hd_heap.proofs.heap.Heap.room_for.Goals as goal
 
 pub returns-in-Some-clause-ok : goal.returns-in-Some-clause-ok
@@ -13,6 +14,15 @@ invariant_of-self c = (
       (others_begun c.reserve_regions.new.self c.fresh-region.result
       (subst AreFull (sym c.reserve_regions.ensures.same) c.in_default.ensures)),
   c.self.invariant.2,
+  subst (λ (h : Heap). HasLeft h c.fresh-region.result c.self.inside.used c.left_in_fresh-self-inside.result)
+      (sym (c.self.view_is ∙ c.fresh-region.ensures.held))
+      (left_begun c.reserve_regions.new.self c.fresh-region.result c.self.inside.used
+      c.left_in_fresh-self-inside.result c.left_in_fresh-self-inside.ensures.region
+      (omega (
+        arith,
+        c.left_in_fresh-self-inside.ensures.limit,
+        ap (λ (h : Heap). h.limit) (c.self.view_is ∙ c.fresh-region.ensures.held),
+      ))),
 )
 
 pub returns-clause-ok : goal.returns-clause-ok

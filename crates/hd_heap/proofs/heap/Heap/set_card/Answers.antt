@@ -1,5 +1,5 @@
 use Rattle.hd_heap.proofs.Basics.{arith, or_parts, sym, true, ◌∙◌}
-use Rattle.hd_heap.proofs.{RegionReads.closed, RegionReads.opened, RegionReads.index_within, RegionReads.found_read, RegionChanges.card_changed}
+use Rattle.hd_heap.proofs.{RegionReads.closed, RegionReads.left_read, RegionReads.opened, RegionReads.index_within, RegionReads.found_read, RegionChanges.card_changed}
 use Rattle.hd_heap.proofs.heap.Heap.set_card.Goals as goal
 
 pub index_mut-requires : goal.index_mut-requires
@@ -14,7 +14,8 @@ invariant_of-self c =
     let f = found_read heap c.args.at c.requires c.index_of.ensures c.index_mut.ensures.value in
     rw c.offset_of.ensures (closed (card_changed heap c.args.at c.args.on f
     (λ off. (or_parts _ _ (sym c.noted-self-inside.ensures ∙ off)).0)
-    (λ off. (or_parts _ _ (sym c.noted-self-inside.ensures ∙ off)).1)))
+    (λ off. (or_parts _ _ (sym c.noted-self-inside.ensures ∙ off)).1))
+    (left_read c.self.inside c.self.view_is c.self.invariant.3))
 
 pub returns : goal.returns
 returns c =

@@ -1,5 +1,5 @@
 use Rattle.hd_heap.proofs.Basics.{arith}
-use Rattle.hd_heap.proofs.{RegionReads.closed, RegionReads.opened, RegionReads.held_index, RegionReads.held_read, RegionChanges.generation_changed}
+use Rattle.hd_heap.proofs.{RegionReads.closed_none, RegionReads.opened, RegionReads.held_index, RegionReads.held_read, RegionChanges.generation_changed}
 use Rattle.hd_heap.proofs.heap.Heap.set_generation.Goals as goal
 
 pub index_mut-requires : goal.index_mut-requires
@@ -11,7 +11,7 @@ index_mut-requires c =
 pub invariant_of-self : goal.invariant_of-self
 invariant_of-self c =
     let heap = opened c.self.inside c.self.view_is c.self.invariant in
-    closed (generation_changed heap c.args.generation
+    closed_none (generation_changed heap c.args.generation
     (held_read heap c.requires.held c.index_of.ensures c.index_mut.ensures.value) c.requires.generation
     c.still_current-self-inside.ensures)
 
