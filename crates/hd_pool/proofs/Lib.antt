@@ -1,3 +1,4 @@
 pub mod Basics
+pub mod LeastByKind
 pub mod PoolCalls
 pub mod WholeBlocks

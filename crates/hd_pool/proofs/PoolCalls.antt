@@ -11,6 +11,11 @@ same_index j k a b small small' e =
     let number : kind_number j ≡ kind_number k = omega arith in
     (same_number j k number, omega arith)
 
+-- a number of a kind, as `Ready` asks for it
+pub is_of : (k : Kind) (block : ℕ) {index room : ℕ} → index ≡ index_of k block → block ≤ BLOCKS → index < room
+    → (index < room) × (index_of k 0 ≤ index) × (index < index_of k STRIDE)
+is_of k block is small within = (within, omega (arith, is), omega (arith, is, small))
+
 -- ---- a read of the kinds
 
 pub kind_within : (kinds : List (Option Kind)) (block : ℕ) → IsSome (kind_at kinds block) → block < length kinds

@@ -1,6 +1,6 @@
 -- What private clauses alone cite: what is always true of the fields of a pool.
-use Rattle.std.specs.Prelude.{◌≡◌, ℕ, ◌/◌, ◌<◌, ◌≤◌, true, ◌+◌, ◌*◌, List, length, slice_index_or, Option, Some, None, IsSome}
-use Rattle.std.specs.{FinSet.contains}
+use Rattle.std.specs.Prelude.{◌≡◌, ℕ, ◌/◌, ◌<◌, ◌≤◌, true, false, ◌+◌, ◌*◌, List, length, slice_index_or, Option, Some, None, IsSome}
+use Rattle.std.specs.{FinSet.FinSet, FinSet.contains, Ordering.nat_cmp}
 use Rattle.hd_model.specs.{declared.data.Kind.Kind, Kinds.kind_number}
 use Rattle.hd_model.specs.declared.limits.TheConstants.{BLOCKS, KINDS, ROWS}
 use Rattle.hd_tiers.specs.Sets.{NumberSet, HasAllOf, HasSomeOf}
@@ -36,3 +36,15 @@ pub record IsWholes (kinds : List (Option Kind)) (free wholes : NumberSet) : Typ
   pub all_free : (kind : Kind) (block : ℕ) → block < STRIDE
       → contains wholes.members (index_of kind block) ≡ true
       → (kind_at kinds block ≡ Some kind) × HasAllOf free.members block
+
+-- the least member from a number on and below another, or a number that is not below the other
+pub record IsLeastOrEnd (s : FinSet nat_cmp) (from to n : ℕ) : Type 0 where
+  pub low : from ≤ n
+  pub least : (k : ℕ) → from ≤ k → k < to → k < n → contains s k ≡ false
+  pub member : n < to → contains s n ≡ true
+
+-- for each kind, by its number, the least member of the kind, or a number past all of the kind
+pub record AreLeast (s : FinSet nat_cmp) (least : List ℕ) : Type 0 where
+  pub many : length least ≡ KINDS
+  pub each : (kind : ℕ) → kind < KINDS
+      → IsLeastOrEnd s (kind * STRIDE) (kind * STRIDE + STRIDE) (slice_index_or least kind 0)

@@ -3,5 +3,6 @@
 #![tactic(auto)]
 
 mod pool;
+mod ready;
 
 pub use pool::Pool;

@@ -7,6 +7,7 @@ ghost use Rattle.hd_model.specs.State.{block_of};
 ghost use Rattle.hd_pool.specs.Inside.{index_of};
 ghost use Rattle.hd_pool.specs.Pool.{slots_of, IsLeastFreeFor, HasNoneFor, IsWhole, IsLeastWholeOf, HasNoWholeOf};
 
+use crate::ready::Ready;
 use hd_mask::BITS;
 use hd_model::limits::{BLOCKS, KINDS, ROWS};
 use hd_model::{Kind, Memory, Slot};
@@ -15,19 +16,19 @@ use std::alloc::Global;
 use std::marker::Model;
 
 // The number of blocks, 0 to 256: each kind has so many numbers in the sets of blocks.
-const STRIDE: u32 = BLOCKS + 1;
+pub(crate) const STRIDE: u32 = BLOCKS + 1;
 
 /// The free slots of a table, seen as the kind of each added block and the set of free slots. A
 /// block has 64 slots. All memory is taken by `open`.
 ///
-/// Each call reads a few masks, whatever the number of blocks.
+/// Each call reads a few masks, whatever the number of blocks: `take` and `put` mostly one.
 #[derive(Drop)]
 pub struct Pool {
     // The kind of each added block, by its number.
     kinds: Vec<Option<Kind>>,
     free: Masks,
     // For each kind, the blocks that have a free slot.
-    ready: Tier<Masks>,
+    ready: Ready,
     // For each kind, the blocks whose slots are all free.
     wholes: Tier<Masks>,
 }
@@ -60,7 +61,7 @@ impl Pool {
             p ≡ record { blocks = blocks; kinds = map.empty; free = set.empty }) }
     {
         let free = Masks::open(alloc, blocks + 1)?;
-        let ready = Tier::<Masks>::open(alloc, KINDS * STRIDE / BITS + 1)?;
+        let ready = Ready::open(alloc)?;
         let wholes = Tier::<Masks>::open(alloc, KINDS * STRIDE / BITS + 1)?;
         match vec![in alloc; None; blocks as usize + 1] {
             Ok(kinds) => Ok(Pool {
@@ -85,7 +86,7 @@ impl Pool {
         self.kinds[block as usize] = Some(kind);
         self.free.insert_block(block);
         let index = index_of(kind, block);
-        self.ready.insert(index);
+        self.ready.insert(kind, index);
         self.wholes.insert(index);
     }
 
@@ -98,10 +99,10 @@ impl Pool {
         ensures kept { IfNone result (self.new ≡ self.old) }
     {
         let first = index_of(kind, 0);
-        let at = least_between(&self.ready, first, first + STRIDE)?;
+        let at = self.ready.least(kind, first)?;
         let taken = self.free.take_least(at - first).unwrap();
         remove_where(taken.full, &mut self.wholes, at);
-        remove_where(taken.last, &mut self.ready, at);
+        self.ready.remove_where(taken.last, kind, at);
         Some(Slot(taken.number))
     }
 
@@ -115,7 +116,7 @@ impl Pool {
         let kind = self.kinds[block as usize].unwrap();
         let added = self.free.add(slot.0);
         let index = index_of(kind, block);
-        insert_where(added.first, &mut self.ready, index);
+        self.ready.insert_where(added.first, kind, index);
         insert_where(added.full, &mut self.wholes, index);
     }
 
@@ -143,7 +144,7 @@ impl Pool {
         self.kinds[block as usize] = None;
         self.free.remove_block(block);
         let index = index_of(kind, block);
-        self.ready.remove(index);
+        self.ready.remove(kind, index);
         self.wholes.remove(index);
     }
 }

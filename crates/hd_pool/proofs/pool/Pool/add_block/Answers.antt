@@ -1,7 +1,14 @@
-use Rattle.hd_pool.proofs.Basics.{ap, arith, insert, length, numbers_of, union, ◌<◌, ◌∙◌}
-use Rattle.hd_pool.proofs.PoolCalls.{added, along, blocks_is, kind_is, seen_put}
+use Rattle.hd_pool.proofs.Basics.{BLOCKS, ap, arith, insert, length, numbers_of, union, ◌<◌, ◌∙◌, ◌≤◌}
+use Rattle.hd_pool.proofs.PoolCalls.{added, along, blocks_is, is_of, kind_is, seen_put}
 use Rattle.hd_pool.proofs.WholeBlocks as wholes
 use Rattle.hd_pool.proofs.pool.Pool.add_block.Goals as goal
+
+pub insert-requires : goal.insert-requires
+insert-requires c =
+    let small : c.args.block ≤ BLOCKS =
+    omega (arith, blocks_is c.self.invariant.0 c.self.view_is, c.self.invariant.0.limit) in
+    is_of c.args.kind c.args.block c.index_of-index.ensures.value small
+    (omega (arith, c.self.invariant.0.ready_room, c.index_of-index.ensures.below))
 
 pub invariant_of-self : goal.invariant_of-self
 invariant_of-self c =

@@ -1,5 +1,5 @@
 use Rattle.hd_pool.proofs.Basics.{Some, ap, arith, difference, kind_at, numbers_of, remove, sym, ◌∙◌, ◌≡◌}
-use Rattle.hd_pool.proofs.PoolCalls.{dropped, along, in_list, low, has_room, read_kind, read_some, seen_left, with_left}
+use Rattle.hd_pool.proofs.PoolCalls.{dropped, along, in_list, is_of, low, has_room, read_kind, read_some, seen_left, with_left}
 use Rattle.hd_pool.proofs.WholeBlocks as wholes
 use Rattle.hd_pool.proofs.pool.Pool.drop_block.Goals as goal
 
@@ -25,7 +25,10 @@ pub index_of-index-requires : goal.index_of-index-requires
 index_of-index-requires c = low c.self.invariant.0 c.self.view_is c.args.block c.requires.added
 
 pub remove-requires : goal.remove-requires
-remove-requires c = omega (arith, c.self.invariant.0.ready_room, c.index_of-index.ensures.below)
+remove-requires c =
+    is_of c.unwrap-kind.result c.args.block c.index_of-index.ensures.value
+    (low c.self.invariant.0 c.self.view_is c.args.block c.requires.added)
+    (omega (arith, c.self.invariant.0.ready_room, c.index_of-index.ensures.below))
 
 pub remove-requires-2 : goal.remove-requires-2
 remove-requires-2 c = omega (arith, c.self.invariant.1.room, c.index_of-index.ensures.below)

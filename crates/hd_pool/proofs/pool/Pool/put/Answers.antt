@@ -1,5 +1,5 @@
 use Rattle.hd_pool.proofs.Basics.{HasAllOf, HasSomeOf, IsTrue, NumberSet, ROWS, Some, ap, arith, false, insert, kind_at, refl, subst, sym, ◌/◌, ◌∙◌, ◌≡◌, ◌↔◌}
-use Rattle.hd_pool.proofs.PoolCalls.{along, in_list, low, has_room, read_kind, read_some}
+use Rattle.hd_pool.proofs.PoolCalls.{along, in_list, is_of, low, has_room, read_kind, read_some}
 use Rattle.hd_pool.proofs.PoolCalls as pools
 use Rattle.hd_pool.proofs.WholeBlocks as wholes
 use Rattle.hd_pool.proofs.pool.Pool.put.Goals as goal
@@ -22,7 +22,10 @@ index_of-index-requires c =
     low c.self.invariant.0 c.self.view_is (c.args.slot.0 / ROWS) c.requires.added
 
 pub insert_where-requires : goal.insert_where-requires
-insert_where-requires c = omega (arith, c.self.invariant.0.ready_room, c.index_of-index.ensures.below)
+insert_where-requires c =
+    is_of c.unwrap-kind.result (c.args.slot.0 / ROWS) c.index_of-index.ensures.value
+    (low c.self.invariant.0 c.self.view_is (c.args.slot.0 / ROWS) c.requires.added)
+    (omega (arith, c.self.invariant.0.ready_room, c.index_of-index.ensures.below))
 
 pub insert_where-requires-2 : goal.insert_where-requires-2
 insert_where-requires-2 c = omega (arith, c.self.invariant.1.room, c.index_of-index.ensures.below)

@@ -1,4 +1,4 @@
-use Rattle.hd_pool.proofs.Basics.{HasAllOf, IsTrue, ap, arith, is_some, refl, subst, sym, true≢false, ◌↔◌}
+use Rattle.hd_pool.proofs.Basics.{HasAllOf, IsLeastFreeFor, IsTrue, ap, arith, is_some, refl, remove, subst, sym, true≢false, ℕ, ◌↔◌, ◌∙◌}
 use Rattle.hd_model.proofs.KindTests.{few_kinds}
 use Rattle.hd_pool.proofs.PoolCalls.{in_some, seen_taken, take_index, take_kind, take_least, take_none, take_ready, take_room, take_some}
 use Rattle.hd_pool.proofs.WholeBlocks.{taken_where, wholes_along}
@@ -10,6 +10,9 @@ returns-in_err-at-clause-none c = (
       c.in_err-at.ensures.none,
   λ _. ap is_some c.from_residual.ensures,
 )
+
+pub least-requires : goal.least-requires
+least-requires c = c.index_of-first.ensures.value
 
 pub take_least-requires : goal.take_least-requires
 take_least-requires c =
@@ -32,12 +35,11 @@ remove_where-requires c =
 
 pub remove_where-requires-2 : goal.remove_where-requires-2
 remove_where-requires-2 c =
-    omega (
-      arith,
-      c.in_ok-at.ensures.found.high,
-      few_kinds c.args.kind,
-      c.self.invariant.0.ready_room,
-      c.index_of-first.ensures.value,
+    let found = c.in_ok-at.ensures.found in
+    let start_is = c.index_of-first.ensures.value in (
+      omega (arith, found.high, few_kinds c.args.kind, c.self.invariant.0.ready_room, start_is),
+      omega (arith, found.low, start_is),
+      omega (arith, found.high, start_is),
     )
 
 pub invariant_of-self : goal.invariant_of-self
@@ -62,14 +64,17 @@ invariant_of-self c =
 
 pub returns-clause-least : goal.returns-clause-least
 returns-clause-least c =
-    take_least c.self.invariant.0 c.self.view_is c.args.kind c.index_of-first.ensures.value
-    c.in_ok-at.ensures.found (in_some _ c.unwrap-taken.ensures c.take_least.ensures.least)
+    subst (λ (n : ℕ). IsLeastFreeFor c.args.self.now c.args.kind (record { 0 = n })) (omega arith)
+    (take_least c.self.invariant.0 c.self.view_is c.args.kind c.index_of-first.ensures.value
+    c.in_ok-at.ensures.found (in_some _ c.unwrap-taken.ensures c.take_least.ensures.least))
 
 pub returns-clause-taken : goal.returns-clause-taken
 returns-clause-taken c =
+    let old = c.args.self.now in
     seen_taken c.self.invariant.0 c.self.view_is c.args.kind c.index_of-first.ensures.value
     c.in_ok-at.ensures.found (in_some _ c.unwrap-taken.ensures c.take_least.ensures.least)
     (in_some _ c.unwrap-taken.ensures c.take_least.ensures.taken)
+    ∙ ap (λ n. record old { free = remove old.free n }) (omega arith)
 
 pub returns-clause-none : goal.returns-clause-none
 returns-clause-none c =
