@@ -1,7 +1,6 @@
 -- A new object of a store: what the machine sees, and that the store keeps what it keeps.
-use Rattle.hd_store.proofs.StoreWords.{Addr, Bool, Contains, HasNoEmptyRegion, Heap, Id, IsField, IsMade, IsObjectRefused, IsStored, KeepsNames, List, Machine, None, not_there, Object, Option, Parts, Placed, Queue, Region, Some, T, age_of, ap, arith, callers_of, cases_eq, cells_of, cond, fields_in, fresh_object, generation_at, generation_in, get, get_beside, get_inserted, get_or, id_at, identity_of, inl, inr, insert, insert_cases, is_carded, is_in_use, is_object, is_some, last_serial, len, len-insert, length, length-replicate, length-set, machine_of, map, max, names_of, nat_cmp_total, new_object, object_at, object_in, objects_by_id, option_map, read_object, refl, region_at, region_generation, region_of, replicate, rest_of, rows_of, same_address, set, share, state_of, subst, suc, sum-insert, sum_by, sym, total_size, true, unheld, unwrap_or, used_of, values, with_object, with_serial, without_free, zero, ℕ, ◌+◌, ◌<◌, ◌∙◌, ◌∷◌, ◌≡◌, ◌≤◌, ◌⊎◌, write_cases}
+use Rattle.hd_store.proofs.StoreWords.{Addr, Bool, Contains, HasNoEmptyRegion, Heap, Id, IsField, IsMade, IsObjectRefused, IsRoomier, IsStored, KeepsNames, List, Machine, None, not_there, Object, Option, Parts, Placed, Queue, Region, Some, T, age_of, ap, arith, callers_of, cases_eq, cells_of, cond, fields_in, fresh_object, generation_at, generation_in, get, get_beside, get_inserted, get_or, id_at, identity_of, inl, inr, insert, insert_cases, is_carded, is_in_use, is_object, is_some, last_serial, len, len-insert, length, length-replicate, length-set, machine_of, map, names_of, nat_cmp_total, new_object, object_at, object_in, objects_by_id, option_map, read_object, refl, region_at, region_generation, region_of, replicate, rest_of, rows_of, same_address, set, share, state_of, subst, suc, sum-insert, sum_by, sym, total_size, true, unheld, unwrap_or, used_of, values, with_object, with_serial, without_free, zero, ℕ, ◌+◌, ◌<◌, ◌∙◌, ◌∷◌, ◌≡◌, ◌≤◌, write_cases}
 use Rattle.hd_heap.specs.{Calls.IsRefused as IsRefusedBy, declared.fault.NewFault.NewFault, declared.fault.NewFault.TheVariants.Full, declared.fault.NewFault.TheVariants.Memory}
-use Rattle.std.proofs.Math.Nat.{le-max_left, le-max_right}
 use Rattle.hd_store.proofs.{StateCounts.used-is, HeapCallReadings.has-placed, QueueTake.stored-queued, EntryReadings.unheld-some, EntryReadings.tied-agrees}
 use Rattle.hd_store.proofs.IdentityReadings.{no_some, names-get, objects-get}
 use Rattle.hd_store.proofs.StoreAdd.{Adds, placed, id-add, names-add, identities-add, roots-add, queue-add, rows-add, weak-add, objects-add}
@@ -284,26 +283,6 @@ module _ (f : Parts) (m : Machine) (view : machine_of f ≡ m) (stored : IsStore
         names = insert (view i).names at.0 ((id_is ∙ ap (identity_of caller) last) i);
         heap = without_free k;
       })
-
--- the queue with more room, or as it was
-abbrev pub IsRoomier : Queue → Queue → Type 0
-IsRoomier old new = (new.queued ≡ old.queued) × (old.room ≤ new.room)
-
-pub roomier : (q w : Queue) (n : ℕ) → w ≡ record q { room = max n q.room } → IsRoomier q w
-roomier q w n is = let same = ap (λ (v : Queue). v.room) is in let most =
-    le-max_right n q.room in (ap (λ (v : Queue). v.queued) is, omega (arith, same, most))
-
-pub room_enough : (q w : Queue) (n : ℕ) → w ≡ record q { room = max n q.room } → n ≤ w.room
-room_enough q w n is = let same = ap (λ (v : Queue). v.room) is in let most =
-    le-max_left n q.room in omega (arith, same, most)
-
-pub either_roomier : (q w : Queue) (n : ℕ) → (w ≡ q) ⊎ (w ≡ record q { room = max n q.room }) → IsRoomier q w
-either_roomier q w n is =
-    elim is [
-      | inl same ↦ let room = ap (λ (v : Queue). v.room) same in
-          (ap (λ (v : Queue). v.queued) same, omega (arith, room))
-      | inr more ↦ roomier q w n more
-    ]
 
 -- more room in the queue changes nothing else
 module _ (f : Parts) (m : Machine) (view : machine_of f ≡ m) (stored : IsStored f) (k : Heap)

@@ -77,7 +77,7 @@ pub use Rattle.hd_store.specs.Inside.{MayHaveEntry, entry_at}
 pub use Rattle.hd_store.specs.{Inside.GrowsBy, Growth.kind_in_use}
 pub use Rattle.hd_store.specs.Inside.{root_named}
 pub use Rattle.hd_store.specs.Inside.{IsMadeHandle, IsSlotGiven}
-pub use Rattle.hd_store.specs.{Inside.IsObjectRefused, Objects.object_named}
+pub use Rattle.hd_store.specs.{Inside.IsObjectRefused, Inside.IsRoomier, Objects.object_named}
 pub use Rattle.hd_store.specs.Offers.{Asks, GrowsFor, GrowsUnoffered, HasLimits, IsOffer, MayOffer, asks_of, block_back, handle_slot, no_room, object_room}
 pub use Rattle.hd_store.specs.{PinnedAddresses.AreAddresses, PinnedAddresses.KeepsPinned, PinnedAddresses.Moves, Inside.HasCollected, Inside.HasNames, Inside.HasAddress, Inside.KeepsNames, Inside.kept_pinned}
 pub use Rattle.hd_store.specs.Reading.{IsNamed, entry_named, name_in, named_in, read_object, unheld}

@@ -8,6 +8,7 @@ use Rattle.hd_model.specs.Kinds.{is_kind, is_paired, kind_of}
 use Rattle.hd_model.specs.Ages.{HasSoundAges, HasSoundCards, grown, age_of}
 use Rattle.hd_model.specs.declared.limits.TheConstants.{HEAP, BLOCKS, CLUMPS, OLDEST, REGISTERS}
 use Rattle.hd_model.specs.State.{Handle, secondary, BlockUse, handles_of, extra_data, State, last_serial, identity_of, register_of, WeakEntry, Numbers, start_of, given_of, block_of, secondary_of, IsFree, total_size}
+use Rattle.hd_model.specs.Table.{Queue}
 use Rattle.hd_model.specs.Heap.{Heap, object_at, id_at, is_carded, used_of, HasIdentities, is_set}
 use Rattle.hd_plan.specs.{Plan.HasNoEmptyRegion, Commit.NeedsCard}
 use Rattle.hd_model.specs.PinnedAddresses.{is_pinned, with_pinned, MayReturn}
@@ -36,6 +37,10 @@ IsObjectRefused old new cells (Full used size) =
     (new ≡ old) × (used ≡ total_size old.state) × (size ≡ cells)
     × (old.numbers.heap < total_size old.state + cells)
 IsObjectRefused old new cells Memory = (new ≡ old) × (total_size old.state + cells ≤ old.numbers.heap)
+
+-- the queue with more room, or as it was
+abbrev pub IsRoomier : Queue → Queue → Type 0
+IsRoomier old new = (new.queued ≡ old.queued) × (old.room ≤ new.room)
 
 -- ---- the anchors of a store, by address
 

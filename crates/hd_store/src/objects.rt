@@ -1,17 +1,20 @@
 // What a store does with objects.
-ghost use Rattle.std.specs.Prelude.{◌≡◌, ◌≢◌, ◌+◌, ◌<◌, ◌≤◌, ◌^◌, length, slice_index_or, None, IsSome, IfOk, IfErr, OnOk, MatchResult, max, ◌⊎◌};
+ghost use Rattle.std.specs.Prelude.{◌≡◌, ◌≢◌, ◌+◌, ◌<◌, ◌≤◌, ◌^◌, length, slice_index_or, None, IsSome, IfOk, IfErr, OnOk, MatchOption, MatchResult};
 ghost use Rattle.std.specs.FinMap.{get, insert, len};
 ghost use Rattle.hd_heap.specs.Calls.{IsMade, new_object, IsRefused as IsRefusedBy};
 ghost use Rattle.hd_model.specs.State.{last_serial, identity_of, total_size, with_object, with_serial};
 ghost use Rattle.hd_store.specs.Reading.{name_in};
 ghost use Rattle.hd_model.specs.{Command.fresh_object, declared.data.Id.Id};
-ghost use Rattle.hd_store.specs.Inside.{IsObjectRefused, KeepsNames};
+ghost use Rattle.hd_store.specs.Inside.{IsObjectRefused, IsRoomier, KeepsNames};
 
 use crate::contents::Contents;
 use hd_final::Final;
 use hd_heap::{Heap, NewFault};
-use hd_model::limits::{FIELDS, HEADER};
+use hd_model::limits::{FIELDS, HEADER, REGION};
 use hd_model::{Addr, Id, Memory};
+
+// The objects for which room is taken in the queue at once: as many as a region may have.
+const AHEAD: u32 = REGION / HEADER;
 
 // The identity of a caller's object with a serial.
 fn identity(caller: u32, serial: u32) -> Id
@@ -22,26 +25,87 @@ fn identity(caller: u32, serial: u32) -> Id
     Id(u64::from(caller) * (1 << 32) + u64::from(serial))
 }
 
+// Takes room in the queue for one more object than `count`, where it has none, and then for those
+// that may follow it in its region too, if there is memory for so many.
+fn reserve_after(queue: &mut Final, count: u32) -> Result<(), Memory>
+    requires { count + AHEAD < 2 ^ 32 }
+    ensures queue { IsRoomier queue.old queue.new }
+    ensures room { OnOk result (count + 1 ≤ queue.new.room) }
+{
+    if count < queue.room() {
+        return Ok(());
+    }
+    match queue.reserve(count + AHEAD) {
+        Ok(()) => Ok(()),
+        Err(Memory) => queue.reserve(count + 1),
+    }
+}
+
 // Takes room in the queue for one more object, of `fields` fields. A full heap is reported first.
 fn reserve_for(heap: &Heap, queue: &mut Final, fields: u32) -> Result<(), NewFault>
-    requires few { len heap.now.objects + 1 < 2 ^ 32 }
+    requires few { len heap.now.objects + AHEAD < 2 ^ 32 }
     requires fields { fields ≤ FIELDS }
-    ensures { MatchResult result
-        (λ _. queue.new ≡ record queue.old { room = max (len heap.now.objects + 1) queue.old.room })
-        (λ fault. (queue.new ≡ queue.old) × IsRefusedBy heap.now heap.now (fields + 3) fault) }
+    ensures queue { IsRoomier queue.old queue.new }
+    ensures room { MatchResult result
+        (λ _. len heap.now.objects + 1 ≤ queue.new.room)
+        (IsRefusedBy heap.now heap.now (fields + 3)) }
 {
     let size = fields + HEADER;
     let used = heap.used();
     if u64::from(used) + u64::from(size) > u64::from(heap.limit()) {
         return Err(NewFault::Full { used, size });
     }
-    match queue.reserve(heap.count() + 1) {
+    match reserve_after(queue, heap.count()) {
         Ok(()) => Ok(()),
         Err(Memory) => Err(NewFault::Memory),
     }
 }
 
+// Makes an object in the region of the last one, if it is known to have room and the queue has it
+// too. It takes no memory.
+#[inline(always)]
+fn make_in_current(heap: &mut Heap, queue: &Final, id: Id, fields: u32, fin: bool) -> Option<Addr>
+    requires identified { id.0 ≢ 0 }
+    requires fields { fields ≤ FIELDS }
+    ensures { MatchOption result (heap.new ≡ heap.old)
+        (λ at. IsMade heap.old heap.new at (new_object id fields fin)
+        × (len heap.old.objects + 1 ≤ queue.now.room)) }
+{
+    if heap.count() >= queue.room() {
+        return None;
+    }
+    match heap.put_in_current(id, fields, fin) {
+        Some(at) => Some(at),
+        None => None,
+    }
+}
+
+// Makes an object, with room for it in the queue, where memory may have to be taken.
+#[inline(never)]
+fn make_with_room(
+    heap: &mut Heap,
+    queue: &mut Final,
+    id: Id,
+    fields: u32,
+    fin: bool,
+) -> Result<Addr, NewFault>
+    requires identified { id.0 ≢ 0 }
+    requires few { len heap.old.objects + AHEAD < 2 ^ 32 }
+    requires fields { fields ≤ FIELDS }
+    ensures heap { MatchResult result
+        (λ at. IsMade heap.old heap.new at (new_object id fields fin))
+        (IsRefusedBy heap.old heap.new (fields + 3)) }
+    ensures queue { IsRoomier queue.old queue.new }
+    ensures room { OnOk result (len heap.old.objects + 1 ≤ queue.new.room) }
+{
+    match reserve_for(heap, queue, fields) {
+        Ok(()) => heap.new_object(id, fields, fin),
+        Err(fault) => Err(fault),
+    }
+}
+
 // Makes an object, with room for it in the queue.
+#[inline(always)]
 fn make(
     heap: &mut Heap,
     queue: &mut Final,
@@ -50,19 +114,17 @@ fn make(
     fin: bool,
 ) -> Result<Addr, NewFault>
     requires identified { id.0 ≢ 0 }
-    requires few { len heap.old.objects + 1 < 2 ^ 32 }
+    requires few { len heap.old.objects + AHEAD < 2 ^ 32 }
     requires fields { fields ≤ FIELDS }
     ensures heap { MatchResult result
         (λ at. IsMade heap.old heap.new at (new_object id fields fin))
         (IsRefusedBy heap.old heap.new (fields + 3)) }
-    ensures queue { MatchResult result
-        (λ _. queue.new ≡ record queue.old { room = max (len heap.old.objects + 1) queue.old.room })
-        (λ _. (queue.new ≡ queue.old) ⊎
-        (queue.new ≡ record queue.old { room = max (len heap.old.objects + 1) queue.old.room })) }
+    ensures queue { IsRoomier queue.old queue.new }
+    ensures room { OnOk result (len heap.old.objects + 1 ≤ queue.new.room) }
 {
-    match reserve_for(heap, queue, fields) {
-        Ok(()) => heap.new_object(id, fields, fin),
-        Err(fault) => Err(fault),
+    match make_in_current(heap, queue, id, fields, fin) {
+        Some(at) => Ok(at),
+        None => make_with_room(heap, queue, id, fields, fin),
     }
 }
 

@@ -2,7 +2,7 @@ use Rattle.hd_store.proofs.StoreWords.{Addr, IsMade, KeepsNames, Machine, None, 
 use Rattle.std.proofs.lemmas.Grind.{get_or_default_zero}
 use Rattle.hd_heap.specs.Calls.{IsRefused as IsRefusedBy}
 use Rattle.hd_store.proofs.StateCounts.{used-is, few_objects}
-use Rattle.hd_store.proofs.StoreNew.{stored-next, machine-next, names-next, refused-next, stored-refused, roomier, room_enough, either_roomier}
+use Rattle.hd_store.proofs.StoreNew.{stored-next, machine-next, names-next, refused-next, stored-refused}
 use Rattle.hd_store.proofs.contents.Contents.add_object.Goals.{After-from}
 use Rattle.hd_store.proofs.contents.Contents.add_object.Goals as goal
 
@@ -30,7 +30,7 @@ invariant_of-self c =
     stored-next f c.args.self.now c.self.view_is c.self.invariant c.make.new.heap c.in-Ok.at
     c.identity-id.result c.from.result c.args.fin c.in-Ok.ensures.heap c.args.caller
     (c.index.result.now + 1) (last at) c.identity-id.ensures.value c.requires.fresh q
-    (roomier f.queue q _ c.in-Ok.ensures.queue).0 (room_enough f.queue q _ c.in-Ok.ensures.queue)
+    c.make.ensures.queue.0 c.in-Ok.ensures.room
 
 pub returns-in-Ok-clause-made : goal.returns-in-Ok-clause-made
 returns-in-Ok-clause-made c =
@@ -42,20 +42,20 @@ returns-in-Ok-clause-made c =
     (subst (λ n. IsMade c.self.inside.heap c.make.new.heap c.in-Ok.at
     (new_object c.identity-id.result n c.args.fin)) c.from.ensures c.in-Ok.ensures.heap) c.args.caller
     (c.index.result.now + 1) (last at) c.identity-id.ensures.value c.requires.fresh q
-    (roomier f.queue q _ c.in-Ok.ensures.queue).0 (room_enough f.queue q _ c.in-Ok.ensures.queue)
+    c.make.ensures.queue.0 c.in-Ok.ensures.room
 
 pub invariant_of-self-in-Err : goal.invariant_of-self-in-Err
 invariant_of-self-in-Err c =
     let f = parts c.self.inside in
     stored-refused f c.args.self.now c.self.view_is c.self.invariant c.make.new.heap c.make.new.queue
-    (either_roomier f.queue c.make.new.queue _ c.in-Err.ensures.queue)
+    c.make.ensures.queue
     (c.from.result + 3) c.in-Err.fault c.in-Err.ensures.heap
 
 pub returns-in-Err-clause-refused : goal.returns-in-Err-clause-refused
 returns-in-Err-clause-refused c =
     let f = parts c.self.inside in
     refused-next f c.args.self.now c.self.view_is c.self.invariant c.make.new.heap c.make.new.queue
-    (either_roomier f.queue c.make.new.queue _ c.in-Err.ensures.queue)
+    c.make.ensures.queue
     (c.args.fields + 3) c.in-Err.fault (subst
     (λ n. IsRefusedBy c.self.inside.heap c.make.new.heap (n + 3) c.in-Err.fault) c.from.ensures
     c.in-Err.ensures.heap)
@@ -85,4 +85,4 @@ returns-in-Ok-clause-kept c =
     (names-next f c.args.self.now c.self.view_is c.self.invariant c.make.new.heap c.in-Ok.at
     c.identity-id.result c.from.result c.args.fin c.in-Ok.ensures.heap c.args.caller
     (c.index.result.now + 1) (last at) c.identity-id.ensures.value c.requires.fresh q
-    (roomier f.queue q _ c.in-Ok.ensures.queue).0 (room_enough f.queue q _ c.in-Ok.ensures.queue))
+    c.make.ensures.queue.0 c.in-Ok.ensures.room)
