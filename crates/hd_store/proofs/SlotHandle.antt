@@ -1,8 +1,10 @@
 -- The handle in a slot of a store, as commands find it.
-use Rattle.hd_store.proofs.StoreWords.{Addr, Handle, Id, IfSome, IsNamed, IsStored, IsTable, Kind, Machine, MayBeStored, None, Option, Parts, Row, Slot, Some, age_of, ap, block_of, generation_at, get, handle_at, handle_of, id_at, is_object, kind_in_use, machine_of, named_in, object_at, object_named, option_map, refl, rename_handle, same_Some, secondary_of, subst, sym, true, use_of, ◌∙◌, ◌≡◌, ◌≤◌, name_in, seen_by}
+use Rattle.hd_store.proofs.StoreWords.{Addr, Handle, HasHandles, Id, IfSome, IsNamed, IsSome, IsStored, IsTable, Kind, Machine, MayBeStored, None, Option, Parts, Row, Slot, Some, age_of, ap, block_of, false≢true, generation_at, get, handle_at, handle_of, id_at, is_object, is_some, kind_in_use, live_at, machine_of, named_in, object_at, object_named, option_map, refl, rename_handle, same_Some, secondary_of, subst, sym, true, use_of, ◌/◌, ◌∙◌, ◌≡◌, ◌≤◌, name_in, seen_by}
+use Rattle.hd_commands.specs.Handles.{IsWithin}
+use Rattle.hd_model.specs.declared.limits.TheConstants.{ROWS}
 use Rattle.hd_seg.specs.Row.{row_of}
 use Rattle.hd_seg.proofs.RowRewrite.{extra_again}
-use Rattle.hd_store.proofs.{IdentityReadings.no_some, IdentityReadings.names-are, HeapCallReadings.objects_named, HeapCallReadings.generation-is, StoreRows.row-read}
+use Rattle.hd_store.proofs.{IdentityReadings.no_some, IdentityReadings.names-are, HeapCallReadings.objects_named, HeapCallReadings.generation-is, StoreRows.live-is, StoreRows.row-read}
 
 pub same_handle : (h : Handle Addr) → handle_of h.kind (row_of h) ≡ h
 same_handle h = λ i. record { kind = h.kind; target = h.target; extra = extra_again h.extra i }
@@ -10,6 +12,34 @@ same_handle h = λ i. record { kind = h.kind; target = h.target; extra = extra_a
 pub no_row : (o : Option (Handle Addr)) → option_map row_of o ≡ None → o ≡ None
 no_row None is = refl
 no_row (Some h) is = absurd (no_some (row_of h) is)
+
+pub has-row : (o : Option (Handle Addr)) (row : Row) → Some row ≡ option_map row_of o → IsSome o
+has-row None row is = absurd (no_some row is)
+has-row (Some h) row is = refl
+
+-- the row and the kind of a slot that has a row
+module _ (f : Parts) (m : Machine) (view : machine_of f ≡ m) (slot : Slot)
+    (there : IsSome (get f.table.rows slot.0)) where
+  row_is : get f.table.rows slot.0 ≡ Some (live_at f.table slot.0)
+  row_is = live-is f.table slot.0 there
+
+  pub row-there : Some (row_of (live_at f.table slot.0)) ≡ option_map row_of (get f.table.rows slot.0)
+  row-there = ap (option_map row_of) (sym row_is)
+
+  pub kind-known : IsTable f.table
+      → Some (live_at f.table slot.0).kind ≡ kind_in_use (use_of m.state (block_of slot))
+  kind-known table =
+      ap kind_in_use (sym (table.rows slot.0 (live_at f.table slot.0) row_is).block)
+      ∙ ap (λ (n : Machine). kind_in_use (use_of n.state (block_of slot))) view
+
+-- the slot of a handle is one of the table's
+pub slot-within : (m : Machine) → HasHandles m.numbers m.state → (slot : Slot)
+    → IsSome (handle_at m.state slot) → IsWithin (seen_by m) slot
+slot-within m handles slot live = by (handle_at m.state slot) refl live
+  where
+    by : (o : Option (Handle Id)) → handle_at m.state slot ≡ o → IsSome o → IsWithin (seen_by m) slot
+    by None is none = absurd (false≢true none)
+    by (Some h) is some = handles.blocks (slot.0 / ROWS) (ap is_some (handles.kinds slot.0 h is))
 
 -- the handle of a row that was found
 pub record FoundRow (f : Parts) (slot : Slot) (row : Row) : Type 0 where
@@ -40,10 +70,6 @@ module _ (f : Parts) (m : Machine) (view : machine_of f ≡ m) (stored : IsStore
   kind_use =
       ap (λ (n : Machine). kind_in_use (use_of n.state (block_of slot))) (sym view)
       ∙ ap kind_in_use (table.rows slot.0 at.handle at.is_stored).block
-
-  -- its block has a kind
-  pub kind-there : None ≡ kind_in_use (use_of m.state (block_of slot)) → ⊥
-  kind-there none = no_some at.handle.kind (sym kind_use ∙ sym none)
 
   stored_is : handle_at m.state slot ≡ Some (rename_handle (name_in m.names) at.handle)
   stored_is =

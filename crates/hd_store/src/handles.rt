@@ -1,5 +1,5 @@
 // What a store does with handles and blocks.
-ghost use Rattle.std.specs.Prelude.{◌≡◌, ◌+◌, ◌/◌, ◌<◌, ◌≤◌, false, Some, None, IfOk, IfErr, OnOk, OnErr, IfSome, IsSome, option_map};
+ghost use Rattle.std.specs.Prelude.{◌≡◌, ◌+◌, ◌/◌, ◌<◌, ◌≤◌, false, Some, None, IfOk, IfErr, OnOk, OnErr, IsSome, option_map};
 ghost use Rattle.hd_commands.specs.Handles.{handle_named, IsWithin, MayBeStored};
 ghost use Rattle.hd_model.specs.Handles.{extra_of, handle_of};
 ghost use Rattle.hd_store.specs.{Reading.name_in, Reading.named_in, Reading.IsNamed, Store.seen_by};
@@ -29,19 +29,15 @@ impl Contents {
         }
     }
 
-    /// The target of the handle in a slot, if the slot is live and not one that the weak table
-    /// holds.
+    /// The target of the handle in a live slot.
     #[inline(always)]
-    pub(crate) fn target_in(&self, slot: Slot) -> Option<Option<Addr>>
+    pub(crate) fn live_target(&self, slot: Slot) -> Option<Addr>
+        requires { IsSome (handle_at self.now.state slot) }
         ensures value { option_map (λ (h : Held Id). h.target) (handle_at self.now.state slot)
-            ≡ option_map (named_in self.now.names) result }
-        ensures named { IfSome result (IsNamed self.now.names) }
+            ≡ Some (named_in self.now.names result) }
+        ensures named { IsNamed self.now.names result }
     {
-        if self.weak.held(slot) {
-            return None;
-        }
-        let row = self.table.row(slot)?;
-        Some(row.target)
+        self.table.target(slot)
     }
 
     /// The handle in a live slot.
@@ -53,9 +49,12 @@ impl Contents {
         ensures may { MayBeStored (seen_by self.now) slot (handle_of result) }
         ensures within { IsWithin (seen_by self.now) slot }
     {
-        match self.handle(slot) {
-            Some(handle) => handle,
-            None => unreachable!(),
+        let kind = self.table.live_kind(slot);
+        let row = self.table.row_by(slot, kind.paired());
+        Handle {
+            kind,
+            target: row.target,
+            extra: row.extra,
         }
     }
 

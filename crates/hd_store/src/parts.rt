@@ -128,7 +128,7 @@ impl Parts for Contents {
             return None;
         }
         let row = self.table.row(slot)?;
-        let kind = self.kind_of(slot)?;
+        let kind = self.table.live_kind(slot);
         Some(Handle {
             kind,
             target: row.target,

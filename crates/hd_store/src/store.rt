@@ -1,4 +1,4 @@
-ghost use Rattle.std.specs.Prelude.{◌≡◌, ◌*◌, ◌<◌, ◌≤◌, length, replicate, slice_index_or, true, IsTrue, IfOk, IfNone, IfSome, None, OnErr, Some, option_map};
+ghost use Rattle.std.specs.Prelude.{◌≡◌, ◌*◌, ◌<◌, ◌≤◌, length, replicate, slice_index_or, true, IsTrue, IfOk, IsSome, None, OnErr, Some, option_map};
 ghost use Rattle.std.specs.FinMap.{get};
 ghost use Rattle.hd_model.specs.declared.command.Cmd.TheVariants as cmd;
 ghost use Rattle.hd_model.specs.Handles.{handle_of};
@@ -90,29 +90,28 @@ impl Store {
         Ok(entry_of(caller, cmd, came))
     }
 
-    /// Gives an object register the target of the live handle in a slot, and returns it: what an
-    /// `hget` does by a handle register that has the slot. Where the slot is not live nothing
-    /// changes, and none is returned. The slot may be any number.
+    /// Gives an object register the target of the handle in a live slot, and returns it: what an
+    /// `hget` does by a handle register that has the slot.
     #[inline(always)]
-    pub fn load_target(&mut self, caller: u32, d: u8, slot: Slot) -> Option<Option<Id>>
+    pub fn load_target(&mut self, caller: u32, d: u8, slot: Slot) -> Option<Id>
         requires caller { caller < self.old.numbers.callers }
         requires register { d < REGISTERS }
-        ensures found { result ≡
-            option_map (λ (h : Held Id). h.target) (handle_at self.old.state slot) }
-        ensures stays { IfNone result (self.new ≡ self.old) }
-        ensures loads { IfSome result (λ id. let after = with_register self.old.state caller d id in
-            self.new ≡ record self.old { state = after }) }
-        ensures called { IfSome result (λ id. let named = Some slot in
+        requires live { IsSome (handle_at self.old.state slot) }
+        ensures found { option_map (λ (h : Held Id). h.target) (handle_at self.old.state slot)
+            ≡ Some result }
+        ensures loads { let after = with_register self.old.state caller d result in
+            self.new ≡ record self.old { state = after } }
+        ensures called { let named = Some slot in
             HasCalled (pointed self.old caller named) caller (cmd.HGet d 0) None
-            (pointed self.new caller named) (load_entry caller d id)) }
+            (pointed self.new caller named) (load_entry caller d result) }
     {
         // Read for the proof alone: the state is one over the heap.
         let _before = self.contents.objects();
-        let target = self.contents.target_in(slot)?;
+        let target = self.contents.live_target(slot);
         let id = self.contents.named(target);
         self.contents.set_register(caller, d, target);
         let _after = self.contents.objects();
-        Some(id)
+        id
     }
 
     /// Whether a command needs a slot that the weak table has yet to get: so does a `cadd` that

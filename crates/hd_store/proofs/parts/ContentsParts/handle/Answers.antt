@@ -1,8 +1,8 @@
-use Rattle.hd_store.proofs.StoreWords.{Addr, ap, get, id_at, not_there, option_map, parts, refl, rename_handle, seen_by, sym, ◌∙◌}
+use Rattle.hd_store.proofs.StoreWords.{Addr, Some, ap, get, id_at, is_some, not_there, option_map, parts, refl, rename_handle, seen_by, sym, ◌∙◌}
 use Rattle.hd_commands.specs.{Handles.handle_named}
 use Rattle.hd_model.specs.{declared.handle.Handle.Handle}
 use Rattle.hd_store.proofs.{StoreRows.row-read, StoreRows.held-read}
-use Rattle.hd_store.proofs.SlotHandle.{no_row, kind-there, handle-is, handle-may}
+use Rattle.hd_store.proofs.SlotHandle.{no_row, has-row, kind-known, handle-is, handle-may, slot-within}
 use Rattle.hd_store.proofs.parts.ContentsParts.handle.Goals as goal
 
 pub returns-then-held-clause-value : goal.returns-then-held-clause-value
@@ -18,23 +18,30 @@ returns-in_err-row-clause-value c =
     ∙ sym (ap (option_map (λ (h : Handle Addr). handle_named (seen_by c.args.self.now) h))
     c.from_residual.ensures)
 
-pub returns-in_err-kind-clause-value : goal.returns-in_err-kind-clause-value
-returns-in_err-kind-clause-value c =
-    absurd (kind-there (parts c.self.inside) c.args.self.now c.self.view_is c.self.invariant
-    c.in_ok-row.ensures.table c.args.slot
-    (not_there (get c.self.inside.weak.held c.args.slot.0) (sym c.held.ensures.value ∙ c.if-held.false))
-    c.in_ok-row.row c.in_ok-row.ensures.value c.in_err-kind.ensures)
+pub live_kind-kind-requires : goal.live_kind-kind-requires
+live_kind-kind-requires c =
+    has-row (get c.self.inside.table.rows c.args.slot.0) c.in_ok-row.row c.in_ok-row.ensures.value
 
 pub returns-clause-value : goal.returns-clause-value
 returns-clause-value c =
     handle-is (parts c.self.inside) c.args.self.now c.self.view_is c.self.invariant c.in_ok-row.ensures.table
     c.args.slot (not_there (get c.self.inside.weak.held c.args.slot.0)
     (sym c.held.ensures.value ∙ c.if-held.false)) c.in_ok-row.row c.in_ok-row.ensures.value
-    c.in_ok-kind.kind c.in_ok-kind.ensures _ refl
+    c.live_kind-kind.result (ap Some c.live_kind-kind.ensures.value
+    ∙ kind-known (parts c.self.inside) c.args.self.now c.self.view_is c.args.slot
+    (has-row (get c.self.inside.table.rows c.args.slot.0) c.in_ok-row.row c.in_ok-row.ensures.value)
+    c.in_ok-row.ensures.table) _ refl
 
 pub returns-clause-may : goal.returns-clause-may
 returns-clause-may c =
     handle-may (parts c.self.inside) c.args.self.now c.self.view_is c.self.invariant c.in_ok-row.ensures.table
     c.args.slot (not_there (get c.self.inside.weak.held c.args.slot.0)
     (sym c.held.ensures.value ∙ c.if-held.false)) c.in_ok-row.row c.in_ok-row.ensures.value
-    c.in_ok-kind.kind c.in_ok-kind.ensures _ refl
+    c.live_kind-kind.result (ap Some c.live_kind-kind.ensures.value
+    ∙ kind-known (parts c.self.inside) c.args.self.now c.self.view_is c.args.slot
+    (has-row (get c.self.inside.table.rows c.args.slot.0) c.in_ok-row.row c.in_ok-row.ensures.value)
+    c.in_ok-row.ensures.table) _ refl
+
+pub returns-clause-within : goal.returns-clause-within
+returns-clause-within c =
+    slot-within c.args.self.now c.requires c.args.slot (ap is_some (returns-clause-value c))
