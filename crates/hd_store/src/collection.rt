@@ -18,6 +18,7 @@ use std::sync::ledger::Ledger;
 impl Contents {
     /// Collects generation `n` and all younger ones. The entries of the weak table whose key is
     /// not kept leave it. Where there is too little memory, nothing is changed.
+    #[inline(always)]
     pub(crate) fn collect<L: Ledger>(
         &mut self,
         n: u8,
@@ -61,6 +62,7 @@ fn sweep_lost(weak: &mut Cwt, table: &Seg, cleared: u32)
 }
 
 /// `collect N`.
+#[inline(always)]
 pub(crate) fn collect_up_to<L: Ledger>(
     store: &mut Contents,
     caller: u32,

@@ -14,6 +14,7 @@ use std::sync::ledger::Ledger;
 /// Does a command of a caller, and returns what it comes to. From any pinned addresses that are
 /// those of their objects, its entry is a step of the machine to others that are. An offered slot or
 /// block is taken. Without one a new handle makes the table grow, or finds it full.
+#[inline(always)]
 pub(crate) fn carry_out<L: Ledger>(
     store: &mut Contents,
     caller: u32,

@@ -17,6 +17,7 @@ use std::sync::ledger::Ledger;
 
 impl Contents {
     /// The slot of the weak table with the entry of a key. Each entry that is looked at is a step.
+    #[inline(always)]
     pub(crate) fn slot_of_key<L: Ledger>(&self, key: Addr, steps: &mut Steps<L>) -> Option<Slot>
         requires { IsSome (get self.now.names key.0) }
         ensures value { result ≡ slot_of_key self.now.state (name_in self.now.names key) }
@@ -40,6 +41,7 @@ impl Contents {
     }
 
     /// The value of the entry in a slot of the weak table.
+    #[inline(always)]
     pub(crate) fn entry_value(&self, slot: Slot) -> Option<Addr>
         requires { IsSome (get self.now.state.weak slot.0) }
         ensures value { named_in self.now.names result ≡ value_at self.now.state slot }

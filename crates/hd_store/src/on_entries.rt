@@ -83,6 +83,7 @@ pub(crate) fn add_entry<L: Ledger>(
 }
 
 /// `cfind rD rK`.
+#[inline(always)]
 pub(crate) fn find_entry<L: Ledger>(
     store: &mut Contents,
     caller: u32,
@@ -111,6 +112,7 @@ pub(crate) fn find_entry<L: Ledger>(
 }
 
 /// `cremove rK`, which returns whether there was an entry.
+#[inline(always)]
 pub(crate) fn remove_entry<L: Ledger>(
     store: &mut Contents,
     caller: u32,

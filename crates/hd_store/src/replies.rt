@@ -9,6 +9,7 @@ use hd_commands::{CommandResult, Done, load_reply};
 use hd_model::{Grown, Refusal, Reply};
 
 /// What a `cfind` comes to.
+#[inline(always)]
 pub(crate) fn finding(came: Result<Lookup, Refusal>) -> CommandResult
     ensures { result ≡ done_with found_reply came }
 {
@@ -19,6 +20,7 @@ pub(crate) fn finding(came: Result<Lookup, Refusal>) -> CommandResult
 }
 
 /// What a `cremove` comes to.
+#[inline(always)]
 pub(crate) fn removing(came: Result<bool, Refusal>) -> CommandResult
     ensures { result ≡ done_with removed_reply came }
 {
@@ -29,6 +31,7 @@ pub(crate) fn removing(came: Result<bool, Refusal>) -> CommandResult
 }
 
 /// What a `gcroot` comes to.
+#[inline(always)]
 pub(crate) fn rooting(came: Result<Option<Root>, Refusal>) -> CommandResult
     ensures { result ≡ done_with root_reply came }
 {
@@ -39,6 +42,7 @@ pub(crate) fn rooting(came: Result<Option<Root>, Refusal>) -> CommandResult
 }
 
 /// What a `trim` comes to.
+#[inline(always)]
 pub(crate) fn trimming(grown: Grown) -> Done
     ensures { result ≡ done_trimming grown }
 {
