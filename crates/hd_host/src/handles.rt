@@ -78,9 +78,7 @@ impl Host {
         let Some(slot) = self.live_slot(handle) else {
             return Err(Fault::Stale);
         };
-        let Some(target) = self.store.load_target(context, dst, slot) else {
-            return Err(Fault::Stale);
-        };
+        let target = self.store.load_target(context, dst, slot);
         self.last = Last::Nothing;
         Ok(target)
     }
