@@ -37,3 +37,7 @@ mod QueueIndexes
 mod ValueCalls
 mod SlotCalls
 mod PartsCommands
+mod LoadedParts
+mod FilledObjects
+mod ClearedRegisters
+mod HostedCalls

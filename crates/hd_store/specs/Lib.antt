@@ -13,3 +13,4 @@ pub mod Stored
 pub mod StoreParts
 pub mod Objects
 pub mod Inside
+pub mod Hosted
