@@ -1,5 +1,5 @@
 // What a store does with handles and blocks.
-ghost use Rattle.std.specs.Prelude.{◌≡◌, ◌+◌, ◌/◌, ◌<◌, ◌≤◌, false, Some, None, IfOk, IfErr, OnOk, OnErr, IsSome, option_map};
+ghost use Rattle.std.specs.Prelude.{◌≡◌, ◌+◌, ◌/◌, ◌<◌, ◌≤◌, false, Some, None, IfOk, IfErr, OnOk, OnErr, IfSome, IsSome, option_map};
 ghost use Rattle.hd_commands.specs.Handles.{handle_named, IsWithin, MayBeStored};
 ghost use Rattle.hd_model.specs.Handles.{extra_of, handle_of};
 ghost use Rattle.hd_store.specs.{Reading.name_in, Reading.named_in, Reading.IsNamed, Store.seen_by};
@@ -27,6 +27,21 @@ impl Contents {
             BlockKind::Rows(kind) => Some(kind),
             BlockKind::Unused | BlockKind::Extras => None,
         }
+    }
+
+    /// The target of the handle in a slot, if the slot is live and not one that the weak table
+    /// holds.
+    #[inline(always)]
+    pub(crate) fn target_in(&self, slot: Slot) -> Option<Option<Addr>>
+        ensures value { option_map (λ (h : Held Id). h.target) (handle_at self.now.state slot)
+            ≡ option_map (named_in self.now.names) result }
+        ensures named { IfSome result (IsNamed self.now.names) }
+    {
+        if self.weak.held(slot) {
+            return None;
+        }
+        let row = self.table.row(slot)?;
+        Some(row.target)
     }
 
     /// The target of the handle in a live slot.
