@@ -1,7 +1,7 @@
 -- Masks read as a set: what a write of one mask does to it.
 use Rattle.hd_tiers.proofs.Basics.{BITS, Err, FinSet, HasAllOf, HasNoneBetween, HasNoneFrom, HasNoneOf, HasSomeOf, NumberSet, IsLeastFrom, IsLeastOf, Lengthened, List, MatchResult, Ok, Result, ap, arith, bit_and, bit_at, bit_not, bit_or, cases_eq, cases_lt, contains, contains-empty, contains-from_list_nat, difference, empty, eqb-true, filter, get_or, get_or-replicate, get_or-set_other, get_or-set_same, get_or_past, inl, inr, insert, is_marked, length, length-replicate, length-set, max, nat_cmp, nat_cmp-IsAntisymmetric, nat_cmp_total, numbers_of, range_with_len, refl, remove, replicate, same_set, set, subst, sym, true, union, w64, ℕ, ◌%◌, ◌*◌, ◌+◌, ◌-◌, ◌/◌, ◌<◌, ◌==◌, ◌^◌, ◌∙◌, ◌≡◌, ◌≢◌, ◌≤◌, ◌⊎◌}
 use Rattle.std.proofs.lemmas.Nat.Bits.{bit_at-zero, bit_at_above, bit_at_ones, same_from_bits_below}
-use Rattle.hd_tiers.specs.Inside.{set_of}
+use Rattle.hd_tiers.specs.Sets.{set_of}
 use Rattle.hd_mask.proofs.Bits.{bit_at-shr, least_bit, set_same, set_other, clear_same, clear_other}
 use Rattle.hd_tiers.proofs.SetMembers.{kept_in, kept_outside, insert_same, insert_other, remove_same, remove_other, union_same, union_other, difference_same, difference_other}
 

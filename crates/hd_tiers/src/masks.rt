@@ -22,7 +22,7 @@ pub struct Masks {
 impl Model for Masks {
     ghost use Rattle.std.specs.Prelude.{◌*◌, ◌^◌, ◌<◌, length};
     ghost use Rattle.hd_mask.specs.declared.TheConstants.{BITS};
-    ghost use Rattle.hd_tiers.specs.{Sets.NumberSet, Sets.number_set_code, Inside.set_of};
+    ghost use Rattle.hd_tiers.specs.Sets.{NumberSet, number_set_code, set_of};
 
     ghost Value = { NumberSet };
 
