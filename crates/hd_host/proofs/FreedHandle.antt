@@ -96,9 +96,9 @@ module _ {m : Machine} {p : FreeSlots} {stamps : List ℕ} {last : Change} {v : 
         (omega arith ∙ ap (λ (o : Option (Held Id)). low_bits (is_some o) slot) (sym gone)) others_stay at
         (omega (arith, near, long)))
 
-    pub freed : stamp_of v slot + 1 < 2 ^ 40
-        → FreesHandle v handle (view_of k others (change_by (Some slot) Zero))
-    freed below = record {
+    pub freed : {after : Change} → after ≡ change_by (Some slot) Zero → stamp_of v slot + 1 < 2 ^ 40
+        → FreesHandle v handle (view_of k others after)
+    freed after_is below = record {
       slot = slot;
       handle_is = of;
       below_end = below;
@@ -108,5 +108,5 @@ module _ {m : Machine} {p : FreeSlots} {stamps : List ℕ} {last : Change} {v : 
       stamps = ap stamps_in raised ∙ map-set (λ entry. entry / 2 ^ 24) stamps slot.0 next
           ∙ ap (slice_set (stamps_in stamps) slot.0) (omega (arith, stamp_same))
           ∙ ap (λ (xs : List ℕ). slice_set xs slot.0 (stamp_of v slot + 1)) (ap (λ (x : HostView). x.stamps) view);
-      last = refl;
+      last = after_is;
     }

@@ -1,8 +1,15 @@
 -- What a call did to slots and blocks, by the entry of its command.
 use Rattle.std.specs.Prelude.{Option, None, Some}
+use Rattle.std.specs.Coded.{Coded}
 use Rattle.hd_model.specs.{declared.data.Grown.Grown, declared.data.Slot.Slot}
 use Rattle.hd_model.specs.declared.data.Grown.TheVariants.{Zero, One, Two, Back}
 use Rattle.hd_host.specs.declared.change.Change.{Change}
+use Rattle.hd_host.specs.contracts.change.Change as change_contract
+use Rattle.hd_host.specs.declared.last.Short.{Short}
+use Rattle.hd_host.specs.declared.last.Short.TheVariants as short
+
+abbrev pub change_code : Coded Change
+change_code = change_contract.the_row.coded
 
 -- that of a call that neither gives nor frees a slot
 abbrev pub no_change : Change
@@ -21,3 +28,9 @@ change_by slot (One block) = record no_change { slot = slot; block = Some block 
 change_by slot (Two block other) =
     record no_change { slot = slot; block = Some block; data_block = Some other }
 change_by slot (Back block) = record no_change { slot = slot; given_back = Some block }
+
+-- a change in short, in full: where blocks changed, it is what they last did
+abbrev pub in_full : Short → Change → Change
+in_full short.Nothing blocks = no_change
+in_full (short.Slot slot) blocks = record no_change { slot = Some slot }
+in_full short.Blocks blocks = blocks

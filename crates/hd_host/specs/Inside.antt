@@ -1,12 +1,11 @@
 -- What private clauses alone cite.
-use Rattle.std.specs.Prelude.{◌≡◌, ℕ, Bool, true, false, Option, None, Some, Result, Ok, Err, ◌+◌, ◌*◌, ◌/◌, ◌%◌, ◌<◌, ◌^◌, List, is_some, length, map, slice_index}
+use Rattle.std.specs.Prelude.{◌≡◌, ℕ, Bool, true, false, Option, None, Result, Ok, Err, ◌+◌, ◌*◌, ◌/◌, ◌%◌, ◌<◌, ◌^◌, List, is_some, length, map, slice_index}
 use Rattle.hd_model.specs.{declared.data.Entry.Entry, declared.data.Slot.Slot, declared.command.Cmd.Cmd, State.State, State.handle_at, State.handle_register_of, declared.limits.TheConstants.ROWS, declared.data.Refusal.Refusal}
 use Rattle.hd_store.specs.Calls.{pointed, HasCalled}
 use Rattle.hd_store.specs.{Store.Machine, Offers.HasLimits}
 use Rattle.hd_pool.specs.Pool.{FreeSlots}
 use Rattle.hd_slots.specs.Tied.{IsTied}
-use Rattle.hd_host.specs.{declared.change.Change.Change, declared.change.Last.Last, declared.fault.Fault.Fault, Changes.no_change, View.state_in}
-use Rattle.hd_host.specs.declared.change.Last.TheVariants as kept
+use Rattle.hd_host.specs.{declared.change.Change.Change, declared.fault.Fault.Fault, Changes.no_change, View.state_in}
 use Rattle.hd_host.specs.declared.stamps.TheConstants.{FREE}
 use Rattle.hd_model.specs.declared.data.Refusal.TheVariants as refusal
 use Rattle.hd_host.specs.declared.fault.Fault.TheVariants as fault
@@ -22,12 +21,6 @@ fault_of refusal.WrongKind = fault.WrongKind
 fault_of refusal.EmptyRegister = fault.Stale
 fault_of refusal.CountZero = fault.CountZero
 fault_of refusal.Present = fault.Present
-
--- a change as a host keeps it, in full
-abbrev pub in_full : Last → Change
-in_full kept.Nothing = no_change
-in_full (kept.Slot slot) = record no_change { slot = Some slot }
-in_full (kept.Blocks change) = change
 
 -- what a call returns that neither gives nor frees a slot: its value, and then it is the last one that was
 -- done; or the fault of the refusal

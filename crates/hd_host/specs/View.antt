@@ -5,7 +5,7 @@ use Rattle.std.specs.FinMap.{empty}
 use Rattle.hd_model.specs.{declared.data.Id.Id, State.State, PinnedAddresses.with_pinned}
 use Rattle.hd_store.specs.{StateHeap.IsStoredAt, Store.Machine, Store.machine_code}
 use Rattle.hd_host.specs.declared.change.Change.{Change}
-use Rattle.hd_host.specs.contracts.change.Change as change_contract
+use Rattle.hd_host.specs.Changes.{change_code}
 
 -- a host: its store, in whose state no handle register has a slot; the stamp of each slot; and what the last
 -- call that was done did to slots and blocks
@@ -17,7 +17,7 @@ pub record HostView : Type 0 where
 abbrev pub host_view_code : Coded HostView
 host_view_code =
     code_by (Machine × (List ℕ × Change))
-    (coded× machine_code (coded× (coded_list coded_ℕ) change_contract.the_row.coded))
+    (coded× machine_code (coded× (coded_list coded_ℕ) change_code))
     (λ h. (h.machine, (h.stamps, h.last)))
     (λ p. record { machine = p.0; stamps = p.1.0; last = p.1.1 })
     (λ _. refl)

@@ -7,9 +7,9 @@ ghost use Rattle.hd_host.specs.Calls.{HasReplied, Trims, Tries};
 ghost use Rattle.hd_commands.specs.Done.{queued_reply};
 ghost use Rattle.hd_store.specs.Replies.{given_back, root_reply};
 
-use crate::change::{Last, settle};
 use crate::fault::Fault;
 use crate::host::Host;
+use crate::last::settle;
 use hd_model::limits::{OLDEST, REGISTERS};
 use hd_model::{Grown, Id, Kind, Memory, Report};
 use hd_slots::{Change as Slots, note_slot, offer};
@@ -26,7 +26,7 @@ impl Host {
         let _contexts = self.contexts();
         match self.store.collect(0, n) {
             Ok(report) => {
-                self.last = Last::Nothing;
+                self.last.clear();
                 Ok(report)
             }
             Err(Memory) => Err(Fault::Memory),
@@ -43,7 +43,7 @@ impl Host {
         ensures contexts { self.new.machine.numbers.callers ≡ self.old.machine.numbers.callers }
     {
         let taken = self.store.take_queued(context, dst);
-        self.last = Last::Nothing;
+        self.last.clear();
         taken
     }
 
@@ -56,12 +56,12 @@ impl Host {
     {
         // Read for the proof alone: there is a context 0, and no register has a slot.
         let _contexts = self.contexts();
-        let _last = self.last;
+        let _last = &self.last;
         let change = Slots::GivesBack(kind);
         let offered = offer(&mut self.pool, change);
         let grown = self.store.trim(0, kind, offered);
         note_slot(&mut self.pool, change, None, grown);
-        self.last = Last::by(None, grown);
+        self.last.set(None, grown);
         given_back(grown)
     }
 

@@ -6,12 +6,12 @@ ghost use Rattle.hd_model.specs.{declared.data.Id.Id, Command.load_reply, Valid.
 ghost use Rattle.hd_model.specs.State.{Handle as Held, count_of, handle_at};
 ghost use Rattle.hd_host.specs.Calls.{FailsOf, FailsBy, MakesHandle, FreesHandle, TriesOf};
 ghost use Rattle.hd_model.specs.Handles.{extra_of};
-ghost use Rattle.hd_host.specs.{Handles.handle_of, Inside.Settled, Inside.in_full, View.IsAsItWas};
+ghost use Rattle.hd_host.specs.{Handles.handle_of, Inside.Settled, View.IsAsItWas};
 
-use crate::change::{Last, settle};
 use crate::fault::Fault;
 use crate::handle::Handle;
 use crate::host::Host;
+use crate::last::{Last, settle};
 use crate::stamps::END;
 use hd_model::limits::REGISTERS;
 use hd_model::{Grown, Id, Make, Refusal, Slot, Strength};
@@ -37,7 +37,7 @@ impl Host {
             Ok((slot, grown)) => {
                 note_slot(&mut self.pool, change, Some(slot), grown);
                 self.stamps.make(slot);
-                self.last = Last::by(Some(slot), grown);
+                self.last.set(Some(slot), grown);
                 Ok(self.handle_in(slot))
             }
             Err(refusal) => Err(Fault::of(refusal)),
@@ -63,7 +63,7 @@ impl Host {
         self.store.free_handle(0, slot);
         note_slot(&mut self.pool, Slots::Frees, Some(slot), Grown::Zero);
         self.stamps.free(slot);
-        self.last = Last::Slot(slot);
+        self.last.set(Some(slot), Grown::Zero);
         Ok(())
     }
 
@@ -79,7 +79,7 @@ impl Host {
             return Err(Fault::Stale);
         };
         let target = self.store.load_target(context, dst, slot);
-        self.last = Last::Nothing;
+        self.last.clear();
         Ok(target)
     }
 
@@ -157,7 +157,7 @@ impl Host {
     {
         // Read for the proof alone: there is a context 0, and each live slot has a stamp.
         let _contexts = self.contexts();
-        let _last = self.last;
+        let _last = &self.last;
         let Some(slot) = self.live_slot(handle) else {
             return Err(Fault::Stale);
         };
@@ -224,7 +224,7 @@ impl Host {
 // What a call returns that returns a count.
 #[inline(always)]
 fn settle_count(last: &mut Last, came: Result<u32, Refusal>) -> Result<u64, Fault>
-    ensures { Settled (in_full last.old) came (in_full last.new) result }
+    ensures { Settled last.old came last.new result }
 {
     match settle(last, came) {
         Ok(count) => Ok(u64::from(count)),

@@ -2,8 +2,9 @@ ghost use Rattle.std.specs.Prelude.{◌≡◌, ◌≤◌, ◌*◌, ◌+◌, repl
 ghost use Rattle.hd_model.specs.State.{Numbers, start_of};
 ghost use Rattle.hd_host.specs.{Changes.no_change, Handles.IsOf, Handles.IsStale};
 
-use crate::change::{Change, Last};
+use crate::change::Change;
 use crate::handle::Handle;
+use crate::last::Last;
 use crate::stamps::Stamps;
 use hd_model::limits::{BLOCKS, CALLERS, CLUMPS, HEAP, OLDEST, ROWS};
 use hd_model::{Memory, Slot};
@@ -41,7 +42,7 @@ pub struct Host {
 }
 
 impl Model for Host {
-    ghost use Rattle.hd_host.specs.{View.HostView, View.host_view_code, Inside.IsHost, Inside.in_full, Inside.stamps_in};
+    ghost use Rattle.hd_host.specs.{View.HostView, View.host_view_code, Inside.IsHost, Inside.stamps_in};
 
     ghost Value = { HostView };
 
@@ -50,7 +51,7 @@ impl Model for Host {
     ghost view = { λ h. record {
       machine = h.store;
       stamps = stamps_in h.stamps;
-      last = in_full h.last;
+      last = h.last;
     } };
 
     ghost invariant = { λ h. IsHost h.store h.pool h.stamps };
@@ -75,7 +76,7 @@ impl Host {
         let store = Store::open(alloc, limits.cells, limits.blocks, limits.contexts)?;
         let pool = Pool::open(alloc, limits.blocks)?;
         let stamps = Stamps::open(alloc, limits.blocks)?;
-        let last = Last::Nothing;
+        let last = Last::none();
         Ok(Host {
             store,
             pool,
@@ -97,7 +98,7 @@ impl Host {
     pub fn last(&self) -> Change
         ensures { result ≡ self.now.last }
     {
-        self.last.in_full()
+        self.last.get()
     }
 
     // The slot of a live handle.
@@ -106,7 +107,7 @@ impl Host {
         ensures { MatchOption result (IsStale self.now handle) (IsOf self.now handle) }
     {
         // Read for the proof alone: each slot has an entry.
-        let _last = self.last;
+        let _last = &self.last;
         if self.stamps.is_live(handle) {
             Some(handle.slot())
         } else {

@@ -8,6 +8,7 @@ mod fault;
 mod handle;
 mod handles;
 mod host;
+mod last;
 mod objects;
 mod observing;
 mod stamps;

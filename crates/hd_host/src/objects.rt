@@ -5,10 +5,10 @@ ghost use Rattle.hd_model.specs.declared.data.Reply.TheVariants as reply;
 ghost use Rattle.hd_model.specs.{Command.load_reply, State.last_serial};
 ghost use Rattle.hd_host.specs.{Calls.HasReplied, Calls.FailsBy, Calls.Tries};
 
-use crate::change::{Last, settle};
 use crate::fault::Fault;
 use crate::handles::is_last;
 use crate::host::Host;
+use crate::last::settle;
 use hd_model::limits::{FIELDS, HEADER, REGISTERS};
 use hd_model::{Id, Memory};
 
@@ -163,7 +163,7 @@ impl Host {
         ensures contexts { self.new.machine.numbers.callers ≡ self.old.machine.numbers.callers }
     {
         self.store.copy_register(context, dst, src);
-        self.last = Last::Nothing;
+        self.last.clear();
     }
 
     /// Local `dst` becomes null.
@@ -175,7 +175,7 @@ impl Host {
         ensures contexts { self.new.machine.numbers.callers ≡ self.old.machine.numbers.callers }
     {
         self.store.clear_register(context, dst);
-        self.last = Last::Nothing;
+        self.last.clear();
     }
 
     /// Static `k` gets what local `src` references. All contexts have the 16 statics.
@@ -187,7 +187,7 @@ impl Host {
         ensures contexts { self.new.machine.numbers.callers ≡ self.old.machine.numbers.callers }
     {
         self.store.put_static(context, k, src);
-        self.last = Last::Nothing;
+        self.last.clear();
     }
 
     /// Local `dst` gets what static `k` references, which is returned.
@@ -200,7 +200,7 @@ impl Host {
         ensures contexts { self.new.machine.numbers.callers ≡ self.old.machine.numbers.callers }
     {
         let target = self.store.get_static(context, dst, k);
-        self.last = Last::Nothing;
+        self.last.clear();
         target
     }
 }

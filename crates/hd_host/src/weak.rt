@@ -6,9 +6,9 @@ ghost use Rattle.hd_slots.specs.Change.{change_in};
 ghost use Rattle.hd_store.specs.Replies.{found_reply, removed_reply};
 ghost use Rattle.hd_host.specs.View.{IsAsItWas};
 
-use crate::change::{Last, settle};
 use crate::fault::Fault;
 use crate::host::Host;
+use crate::last::settle;
 use hd_model::limits::REGISTERS;
 use hd_model::{Cmd, Kind};
 use hd_slots::{Change as Slots, note_slot, offer};
@@ -31,7 +31,7 @@ impl Host {
         match self.store.add_entry(context, key, value, offered) {
             Ok((slot, grown)) => {
                 note_slot(&mut self.pool, change, Some(slot), grown);
-                self.last = Last::by(Some(slot), grown);
+                self.last.set(Some(slot), grown);
                 Ok(())
             }
             Err(refusal) => Err(Fault::of(refusal)),

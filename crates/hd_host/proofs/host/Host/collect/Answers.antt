@@ -9,7 +9,7 @@ invariant_of-self c =
 
 pub returns-in-Ok-clause-does : goal.returns-in-Ok-clause-does
 returns-in-Ok-clause-does c =
-    replied_on c.self.invariant c.self.view_is (some_context c.self.invariant c.self.view_is) refl refl (reply.Report c.in-Ok.report) c.in-Ok.ensures refl refl refl
+    replied_on c.self.invariant c.self.view_is (some_context c.self.invariant c.self.view_is) refl refl (reply.Report c.in-Ok.report) c.in-Ok.ensures refl refl c.clear.ensures
 
 pub returns-in-Ok-clause-contexts : goal.returns-in-Ok-clause-contexts
 returns-in-Ok-clause-contexts c =

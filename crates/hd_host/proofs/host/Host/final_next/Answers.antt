@@ -10,7 +10,7 @@ invariant_of-self c =
 pub returns-clause-does : goal.returns-clause-does
 returns-clause-does c =
     replied_on c.self.invariant c.self.view_is c.requires.context refl refl (queued_reply c.take_queued-taken.result) c.take_queued-taken.ensures (not_queued c.take_queued-taken.result) (queues c.take_queued-taken.result)
-    refl
+    c.clear.ensures
 
 pub returns-clause-contexts : goal.returns-clause-contexts
 returns-clause-contexts c =

@@ -45,7 +45,7 @@ invariant_of-self c =
 
 pub returns-clause-does : goal.returns-clause-does
 returns-clause-does c =
-    freed c.self.invariant c.self.view_is c.in-Some.ensures c.free_handle.new.self c.free_handle.ensures c.note_slot.ensures c.free.ensures
+    freed c.self.invariant c.self.view_is c.in-Some.ensures c.free_handle.new.self c.free_handle.ensures c.note_slot.ensures c.free.ensures c.set.ensures
     (omega (arith, c.if-stamp-eq-END.false, c.stamp.ensures.value, c.stamp.ensures.most, (stamp_is (whole c.self.invariant c.self.view_is) c.in-Some.ensures)))
 
 pub returns-clause-contexts : goal.returns-clause-contexts

@@ -22,7 +22,7 @@ returns-clause-does c =
       ap (λ (x : Machine). handle_register_of x.state c.args.context 0)
           c.load_target-target.ensures.loads,
     )
-    (not_refused c.load_target-target.result) (loads c.load_target-target.result) refl
+    (not_refused c.load_target-target.result) (loads c.load_target-target.result) c.clear.ensures
 
 pub returns-clause-contexts : goal.returns-clause-contexts
 returns-clause-contexts c =

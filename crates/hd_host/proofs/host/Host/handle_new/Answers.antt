@@ -42,7 +42,7 @@ pub returns-in-Ok-clause-does : goal.returns-in-Ok-clause-does
 returns-in-Ok-clause-does c =
     makes c.self.invariant c.self.view_is c.requires.context c.args.make c.args.target c.kind.ensures
     c.offer-offered.new.pool c.offer-offered.result c.offer-offered.ensures c.make_handle.new.self c.in-Ok.ensures
-    c.make.ensures c.by-self-inside.ensures c.handle_in.ensures
+    c.make.ensures c.set.ensures c.handle_in.ensures
 
 pub returns-in-Ok-clause-contexts : goal.returns-in-Ok-clause-contexts
 returns-in-Ok-clause-contexts c =

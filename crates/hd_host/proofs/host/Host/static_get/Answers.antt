@@ -10,7 +10,7 @@ invariant_of-self c =
 pub returns-clause-does : goal.returns-clause-does
 returns-clause-does c =
     replied_on c.self.invariant c.self.view_is c.requires.context refl refl (load_reply c.get_static-target.result) c.get_static-target.ensures (not_refused c.get_static-target.result) (loads c.get_static-target.result)
-    refl
+    c.clear.ensures
 
 pub returns-clause-contexts : goal.returns-clause-contexts
 returns-clause-contexts c =

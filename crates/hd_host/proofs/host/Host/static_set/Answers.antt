@@ -8,7 +8,7 @@ invariant_of-self c =
 
 pub returns-clause-does : goal.returns-clause-does
 returns-clause-does c =
-    replied_on c.self.invariant c.self.view_is c.requires.context refl refl reply.Done c.put_static.ensures refl refl refl
+    replied_on c.self.invariant c.self.view_is c.requires.context refl refl reply.Done c.put_static.ensures refl refl c.clear.ensures
 
 pub returns-clause-contexts : goal.returns-clause-contexts
 returns-clause-contexts c =

@@ -21,7 +21,7 @@ invariant_of-self c =
 pub returns-in-Ok-clause-does : goal.returns-in-Ok-clause-does
 returns-in-Ok-clause-does c =
     adds c.self.invariant c.self.view_is c.requires.context c.args.key c.args.value c.offer-offered.new.pool
-    c.offer-offered.result c.change_by_entry-change.ensures c.offer-offered.ensures c.in-Ok.ensures c.by-self-inside.ensures
+    c.offer-offered.result c.change_by_entry-change.ensures c.offer-offered.ensures c.in-Ok.ensures c.set.ensures
 
 pub returns-in-Ok-clause-contexts : goal.returns-in-Ok-clause-contexts
 returns-in-Ok-clause-contexts c =

@@ -16,7 +16,7 @@ invariant_of-self c =
 
 pub returns-clause-does : goal.returns-clause-does
 returns-clause-does c =
-    trims c.self.invariant c.self.view_is c.args.kind c.offer-offered.new.pool c.offer-offered.result c.offer-offered.ensures c.trim-grown.ensures c.by-self-inside.ensures c.given_back.ensures
+    trims c.self.invariant c.self.view_is c.args.kind c.offer-offered.new.pool c.offer-offered.result c.offer-offered.ensures c.trim-grown.ensures c.set.ensures c.given_back.ensures
 
 pub returns-clause-contexts : goal.returns-clause-contexts
 returns-clause-contexts c =
