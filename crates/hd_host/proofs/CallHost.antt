@@ -9,7 +9,7 @@ use Rattle.hd_model.specs.declared.limits.TheConstants.{ROWS}
 use Rattle.hd_pool.specs.Pool.{FreeSlots}
 use Rattle.hd_slots.specs.Change.{MayNote, Offers, change_in, noted}
 use Rattle.hd_store.specs.{Offers.HasLimits, Offers.RanOut, PinnedAddresses.Moves, Store.Machine}
-use Rattle.hd_host.specs.{declared.change.Change.Change, Calls.FailsBy, Calls.HasDone, Changes.change_by, Replies.RepliesTo, Steps.HasStepped, Steps.pointed, View.HostView, View.IsAsItWas, View.state_in, Inside.fault_of, Inside.IsHost, Inside.HasMoved, Inside.ShowsLive, Inside.low_bits, Inside.stamps_in}
+use Rattle.hd_host.specs.{declared.change.Change.Change, Calls.FailsBy, Calls.HasDone, Changes.change_by, Replies.RepliesTo, Steps.HasStepped, Steps.pointed, View.HostView, View.IsAsItWas, View.state_in, Inside.fault_of, Inside.IsHost, Inside.HasMoved, Inside.ShowsLive, Inside.low_bits, Handles.stamps_in}
 use Rattle.hd_host.proofs.CallPool.{may_be_noted, moved, tied_on, tied_pointed, takes_least}
 use Rattle.hd_host.proofs.LiveEntries.{live_stays}
 use Rattle.hd_host.proofs.EmptyRegisters.{OthersEmpty, others_pointed, others_stay, emptied}

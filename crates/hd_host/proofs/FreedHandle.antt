@@ -18,7 +18,7 @@ use Rattle.hd_store.specs.{Calls.HasCalled, Calls.KeepsFirst, Store.Machine}
 use Rattle.hd_host.specs.declared.change.Change.{Change}
 use Rattle.hd_host.specs.declared.handle.Handle.{Handle}
 use Rattle.hd_host.specs.declared.stamps.TheConstants.{FREE}
-use Rattle.hd_host.specs.{Calls.FreesHandle, Changes.change_by, Handles.IsOf, Handles.stamp_of, Steps.pointed, View.HostView, Inside.HasMoved, Inside.IsHost, Inside.low_bits, Inside.stamps_in}
+use Rattle.hd_host.specs.{Calls.FreesHandle, Changes.change_by, Handles.IsOf, Handles.stamp_of, Steps.pointed, View.HostView, Inside.HasMoved, Inside.IsHost, Inside.low_bits, Handles.stamps_in}
 use Rattle.hd_host.proofs.CallHost.{changes, host_with, known_in, may_note_by, stepped_by, view_of}
 use Rattle.hd_host.proofs.LiveEntries.{gone_after, other_stays, shows_written, stamp_in}
 use Rattle.hd_host.proofs.{Registers.pointed-again, SlotOfHandle.live_within, WholeHost.whole}

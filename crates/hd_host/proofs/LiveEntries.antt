@@ -13,7 +13,7 @@ use Rattle.hd_model.specs.declared.command.Cmd.TheVariants as cmd
 use Rattle.hd_model.specs.declared.data.Refusal.TheVariants as refusal
 use Rattle.hd_model.specs.State.{Handle as Held, State, handle_at, handle_register_of}
 use Rattle.hd_host.specs.declared.stamps.TheConstants.{FREE}
-use Rattle.hd_host.specs.Inside.{ShowsLive, low_bits, stamps_in}
+use Rattle.hd_host.specs.{Handles.stamps_in, Inside.ShowsLive, Inside.low_bits}
 
 module _ {s : State} {e : Entry} {at : Slot} where
   -- whether a handle is live after a command that writes no handle register

@@ -16,7 +16,7 @@ use Rattle.hd_pool.specs.Pool.{FreeSlots}
 use Rattle.hd_slots.specs.Change.{MayNote, Offers, noted}
 use Rattle.hd_slots.specs.declared.change.Change.TheVariants.{Takes}
 use Rattle.hd_store.specs.{Calls.HasCalled, Calls.KeepsFirst, Offers.IsOffer, Store.Machine}
-use Rattle.hd_host.specs.{declared.change.Change.Change, declared.fault.Fault.Fault, declared.handle.Handle.Handle as Given, Calls.FailsBy, Calls.HasDone, Calls.MakesHandle, Changes.change_by, Handles.handle_of, Steps.HasStepped, Steps.pointed, View.HostView, View.IsAsItWas, Inside.fault_of, Inside.HasMoved, Inside.IsHost, Inside.low_bits, Inside.stamps_in}
+use Rattle.hd_host.specs.{declared.change.Change.Change, declared.fault.Fault.Fault, declared.handle.Handle.Handle as Given, Calls.FailsBy, Calls.HasDone, Calls.MakesHandle, Changes.change_by, Handles.handle_of, Steps.HasStepped, Steps.pointed, View.HostView, View.IsAsItWas, Inside.fault_of, Inside.HasMoved, Inside.IsHost, Inside.low_bits, Handles.stamps_in}
 use Rattle.hd_host.proofs.CallPool.{may_be_offered, tied_on, tied_pointed}
 use Rattle.hd_host.proofs.LiveEntries.{other_stays, shows_written}
 use Rattle.hd_host.proofs.WholeHost.{live_low}

@@ -1,5 +1,5 @@
 -- What private clauses alone cite.
-use Rattle.std.specs.Prelude.{◌≡◌, ℕ, Bool, true, false, Option, None, Result, Ok, Err, ◌+◌, ◌*◌, ◌/◌, ◌%◌, ◌<◌, ◌^◌, List, is_some, length, map, slice_index}
+use Rattle.std.specs.Prelude.{◌≡◌, ℕ, Bool, true, false, Option, None, Result, Ok, Err, ◌+◌, ◌*◌, ◌%◌, ◌<◌, ◌^◌, List, is_some, length, slice_index}
 use Rattle.hd_model.specs.{declared.data.Entry.Entry, declared.data.Slot.Slot, declared.command.Cmd.Cmd, State.State, State.handle_at, State.handle_register_of, declared.limits.TheConstants.ROWS, declared.data.Refusal.Refusal}
 use Rattle.hd_store.specs.Calls.{pointed, HasCalled}
 use Rattle.hd_store.specs.{Store.Machine, Offers.HasLimits}
@@ -41,10 +41,6 @@ pub record HasMoved (old : Machine) (context : ℕ) (slot : Option Slot) (comman
   pub new_is : new ≡ pointed after context None
 
 -- ---- what is always true of the parts of a host
-
--- the stamps of slots, by their entries, each of which is a stamp above 24 bits
-abbrev pub stamps_in : List ℕ → List ℕ
-stamps_in = map (λ entry. entry / 2 ^ 24)
 
 -- these are the number of the slot where it is live, and else one that no slot has
 abbrev pub low_bits : Bool → Slot → ℕ

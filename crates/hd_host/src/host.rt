@@ -42,7 +42,7 @@ pub struct Host {
 }
 
 impl Model for Host {
-    ghost use Rattle.hd_host.specs.{View.HostView, View.host_view_code, Inside.IsHost, Inside.stamps_in};
+    ghost use Rattle.hd_host.specs.{View.HostView, View.host_view_code, Inside.IsHost, Handles.stamps_in};
 
     ghost Value = { HostView };
 

@@ -4,7 +4,7 @@ use Rattle.std.specs.FinSet as set
 use Rattle.hd_model.specs.State.{Numbers}
 use Rattle.hd_model.specs.declared.limits.TheConstants.{ROWS}
 use Rattle.hd_store.specs.Offers.{HasLimits}
-use Rattle.hd_host.specs.{declared.stamps.TheConstants.FREE, Inside.stamps_in}
+use Rattle.hd_host.specs.{declared.stamps.TheConstants.FREE, Handles.stamps_in}
 use Rattle.hd_host.proofs.{FirstHost.host_at_first, LiveEntries.none_stamped}
 use Rattle.hd_host.proofs.host.Host.open.Goals as goal
 
