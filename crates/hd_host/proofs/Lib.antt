@@ -14,7 +14,11 @@ mod SlotOfHandle
 mod Trimmed
 mod MadeHandle
 mod AddedEntry
-mod SameHost
+pub mod SameHost
 mod OutOfMemory
 mod FreedHandle
 mod NextHandle
+pub mod OtherCallers
+mod RowOfOne
+pub mod CallTurns
+pub mod SoundTurns

@@ -4,4 +4,5 @@ pub mod Steps
 pub mod Replies
 pub mod Changes
 pub mod Calls
+pub mod Turns
 pub mod Inside
