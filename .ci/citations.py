@@ -14,7 +14,7 @@ WORD = re.compile(r"[^\W\d][\w'-]*(?<!-)")
 IMPORT = re.compile(r"^[ \t]*(?:ghost )?(?:pub )?use Rattle\.(\w+)\.(specs|proofs)(?:\.([\w.]+?))?(?:\.\{([^}]*)\}| as (\w+))[;]?[ \t]*$", re.M)
 ANTT_HEAD = re.compile(r"^(?:unfoldable |opaque )*(?:abbrev|def|record|data|pub record|pub data|pub abbrev|lemma|syntax)\b(.*)$")
 RUST_HEAD = re.compile(
-    r"^(?P<indent>[ ]*)(?:pub(?:\([a-z]+\))? )?(?:unsafe )?(?P<what>fn|struct|enum|trait|impl|type)\b(?P<rest>.*)$")
+    r"^(?P<indent>[ ]*)(?:pub(?:\([a-z]+\))? )?(?:unsafe )?(?:extern \"C\" )?(?P<what>fn|struct|enum|trait|impl|type)\b(?P<rest>.*)$")
 
 
 def text_of(path):
@@ -104,6 +104,8 @@ class Rust:
                 self.items[owner] += block
                 at += block.count("\n") + 1
             else:
+                # The free slots of a host are in no clause: what contracts see of it leaves them out.
+                block = re.sub(r"\n +pub\(crate\) pool: Pool,", "", block) if head["rest"].startswith(" Host ") else block
                 self.items[re.match(r"\s*(\w+)", head["rest"])[1]] += re.sub(r"\bby \{[^}]*\}", "", block)
                 at += block.count("\n") + 1
 
