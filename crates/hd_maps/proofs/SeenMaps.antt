@@ -1,6 +1,6 @@
 -- A map whose values are seen through a function: what it has, how it changes, and its keys; and how many
 -- keys there are below a number.
-use Rattle.hd_model.proofs.Basics.{Bool, FinMap, IsSome, List, None, Option, Some, T, [], ap, arith, below_all, cond, empty, entries, entries_sorted, eq_by_cmp, false, find, get, get-empty, get-entries, get-insert, get-remove, insert, is_lt, is_sorted, keys, len, len-entries, length, length-map, map, nat_cmp, nat_cmp_total, option_map, refl, remove, subst, sym, true, ℕ, ◌&&◌, ◌<◌, ◌∙◌, ◌∷◌, ◌≡◌, ◌≤◌}
+use Rattle.hd_model.proofs.Basics.{Bool, FinMap, IsSome, List, None, Option, Some, T, [], ap, arith, below_all, cond, empty, entries, entries_sorted, eq_by_cmp, false, find, get, get-empty, get-entries, get-insert, get-remove, insert, is_lt, is_sorted, keys, len, len-entries, length, length-map, map, nat_cmp, nat_cmp_total, option_map, refl, remove, subst, sym, true, values, ℕ, ◌&&◌, ◌<◌, ◌∙◌, ◌∷◌, ◌≡◌, ◌≤◌}
 use Rattle.std.specs.FinMap.{entries-from_sorted, nat_cmp-IsAntisymmetric, same_map}
 use Rattle.hd_maps.specs.Fields.{seen_as}
 use Rattle.hd_maps.proofs.ListBuilds.{below_few, keys_listed}
@@ -30,6 +30,10 @@ module _ {A B : Type 0} (f : A → B) where
   keys_same : (es : List (ℕ × A)) → map (λ (e : ℕ × B). e.0) (map seen es) ≡ map (λ (e : ℕ × A). e.0) es
   keys_same [] = refl
   keys_same (e ∷ es) = ap (λ ks. e.0 ∷ ks) (keys_same es)
+
+  values_same : (es : List (ℕ × A)) → map (λ (e : ℕ × B). e.1) (map seen es) ≡ map f (map (λ (e : ℕ × A). e.1) es)
+  values_same [] = refl
+  values_same (e ∷ es) = ap (λ vs. f e.1 ∷ vs) (values_same es)
 
   entries_as : (m : FinMap nat_cmp A) → entries (seen_as f m) ≡ map seen (entries m)
   entries_as m =
@@ -73,6 +77,9 @@ module _ {A B : Type 0} (f : A → B) where
 
   pub keys_as : (m : FinMap nat_cmp A) → keys (seen_as f m) ≡ keys m
   keys_as m = ap (λ (es : List (ℕ × B)). map (λ e. e.0) es) (entries_as m) ∙ keys_same (entries m)
+
+  pub values_as : (m : FinMap nat_cmp A) → values (seen_as f m) ≡ map f (values m)
+  values_as m = ap (λ (es : List (ℕ × B)). map (λ e. e.1) es) (entries_as m) ∙ values_same (entries m)
 
 pub keys_length : {X : Type 0} (m : FinMap nat_cmp X) → length (keys m) ≡ len m
 keys_length {X} m = length-map (entries m) (λ (e : ℕ × X). e.0) ∙ sym (len-entries m)

@@ -1,5 +1,5 @@
 -- What each call does to a table, by its fields and its value.
-use Rattle.hd_model.proofs.Basics.{FinMap, IsSome, None, Option, Some, ap, arith, cases_lt, empty, false, false≢true, get, get-empty, insert, is_some, keys, len, nat_cmp, option_map, refl, remove, subst, sym, true, ℕ, ⊎_elim, ◌+◌, ◌<◌, ◌∙◌, ◌≡◌, ◌≤◌}
+use Rattle.hd_model.proofs.Basics.{FinMap, IsSome, None, Option, Some, ap, arith, cases_lt, empty, false, false≢true, get, get-empty, insert, is_some, keys, len, map, nat_cmp, option_map, refl, remove, subst, sym, true, values, ℕ, ⊎_elim, ◌+◌, ◌<◌, ◌∙◌, ◌≡◌, ◌≤◌}
 use Rattle.hd_model.proofs.MapBuild.{had_source}
 use Rattle.hd_model.proofs.ReadAfterWrite.{remove_cases, some_cases}
 use Rattle.hd_model.specs.declared.limits.TheConstants.{BLOCKS}
@@ -9,7 +9,7 @@ use Rattle.hd_maps.specs.Inside.{IsTable}
 use Rattle.hd_maps.specs.TableViews.{slots_of, TableView, Row}
 use Rattle.hd_maps.specs.Fields.{seen_as}
 use Rattle.hd_maps.specs.View.{use_of}
-use Rattle.hd_maps.proofs.SeenMaps.{empty_as, few_keys, get_as, insert_as, keys_as, len_as, remove_as}
+use Rattle.hd_maps.proofs.SeenMaps.{empty_as, few_keys, get_as, insert_as, keys_as, len_as, remove_as, values_as}
 
 -- the table of a number of blocks with these handles and uses
 abbrev pub seen : ℕ → FinMap nat_cmp Row → FinMap nat_cmp Use → TableView
@@ -95,6 +95,9 @@ module _ {count : ℕ} {handles : FinMap nat_cmp Row} {uses : FinMap nat_cmp Use
 
   pub slots_are : keys handles ≡ keys t.handles
   slots_are = sym (keys_as handle_of handles) ∙ ap (λ (u : TableView). keys u.handles) view
+
+  pub rows_are : map handle_of (values handles) ≡ values t.handles
+  rows_are = sym (values_as handle_of handles) ∙ ap (λ (u : TableView). values u.handles) view
 
   -- how the value changes with the handles, and with the uses
   pub seen_put : (others : FinMap nat_cmp Row) (k : ℕ) (h : Row) → others ≡ insert handles k h

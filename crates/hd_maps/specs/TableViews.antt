@@ -1,5 +1,5 @@
 -- What contracts see of the table: the handles by slot, and the use of each block that has one.
-use Rattle.std.specs.Prelude.{◌≡◌, ℕ, Some, refl, List, None, ◌+◌, ◌<◌, ◌≤◌, ◌*◌, IsSome, Contains}
+use Rattle.std.specs.Prelude.{◌≡◌, ℕ, refl, None, ◌+◌, ◌<◌, ◌≤◌, ◌*◌, IsSome}
 use Rattle.std.specs.Coded.{Coded, code_by, coded×, coded_ℕ}
 use Rattle.std.specs.FinMap as finmap
 use Rattle.std.specs.FinMap.{FinMap, get}
@@ -9,7 +9,6 @@ use Rattle.hd_model.specs.State.{Handle, BlockUse}
 use Rattle.hd_model.specs.Code.{id_code, handle_code, use_code}
 use Rattle.hd_model.specs.declared.limits.TheConstants.{ROWS}
 use Rattle.hd_model.specs.declared.handle.Handle.{Handle as CommandHandle}
-use Rattle.hd_model.specs.Handles.{handle_of}
 
 -- the handles by slot, and the use of each block that has one
 pub record TableView : Type 0 where
@@ -27,11 +26,6 @@ table_view_code =
 -- a handle, whose objects are referenced by identity
 abbrev pub Row : Type 0
 Row = CommandHandle Id
-
--- each of a list is the handle in some slot
-abbrev pub AreLive : FinMap nat_cmp (Handle Id) → List Row → Type 0
-AreLive handles rows =
-    (h : Row) → Contains rows h → (slot : ℕ) × (get handles slot ≡ Some (handle_of h))
 
 -- the number of slots of a number of blocks. Block 0 is never used.
 abbrev pub slots_of : ℕ → ℕ

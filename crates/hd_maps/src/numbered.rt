@@ -1,8 +1,8 @@
 // A map by number.
-ghost use Rattle.std.specs.Prelude.{◌≡◌, ◌<◌, ◌^◌, option_copied, is_some, MatchResult, IfOk};
+ghost use Rattle.std.specs.Prelude.{◌≡◌, ◌<◌, ◌^◌, map, option_copied, is_some, MatchResult, IfOk};
 ghost use Rattle.std.specs.Option.{option_copied_mut};
 ghost use Rattle.std.specs.Borrow.{sem};
-ghost use Rattle.hd_maps.specs.LentValues.{lends_value};
+ghost use Rattle.hd_maps.specs.LentValues.{lends_value, lent_entry};
 ghost use Rattle.hd_maps.specs.NextKeys.{IsLeastFrom, IsGreatestTo};
 ghost use Rattle.std.specs.FinMap as map;
 
@@ -97,6 +97,19 @@ impl<V> Numbered<V> {
             };
         }
         Ok(keys)
+    }
+
+    /// The entries, by rising key.
+    pub fn entries(&self, alloc: Global) -> Result<Vec<(u64, &V)>, Memory>
+        ensures { IfOk result (λ listed. map lent_entry listed.items ≡ map.entries self.now) }
+    {
+        let mut entries = Vec::new(alloc);
+        for (key, value) in self.tree.iter() {
+            let Ok(_) = entries.push((*key, value)) else {
+                return Err(Memory);
+            };
+        }
+        Ok(entries)
     }
 
     /// The value at a key, to be written.

@@ -1,8 +1,9 @@
 // The objects, and the cells that they take.
-ghost use Rattle.std.specs.Prelude.{◌≡◌, ◌+◌, ◌<◌, ◌≤◌, ◌^◌, length, slice_set, None, Some, IsSome, IfOk, MatchResult, option_copied};
+ghost use Rattle.std.specs.Prelude.{◌≡◌, ◌+◌, ◌<◌, ◌≤◌, ◌^◌, length, slice_set, None, Some, IsSome, IfOk, MatchResult, map, option_copied};
 ghost use Rattle.std.specs.FinMap as map;
 ghost use Rattle.std.specs.FinMap.{get, insert};
 ghost use Rattle.hd_model.specs.State.{size_of};
+ghost use Rattle.hd_maps.specs.LentValues.{lent_entry};
 ghost use Rattle.hd_maps.specs.StoredObjects.{IsYoungest, object_in, cells_of, edited};
 
 use crate::data::{Edit, Object};
@@ -81,6 +82,13 @@ impl Objects {
         ensures { IfOk result (λ ids. ids.items ≡ map.keys self.now) }
     {
         self.stored.keys(alloc)
+    }
+
+    /// The objects, by rising identity.
+    pub fn entries(&self, alloc: Global) -> Result<Vec<(u64, &Object)>, Memory>
+        ensures { IfOk result (λ listed. map lent_entry listed.items ≡ map.entries self.now) }
+    {
+        self.stored.entries(alloc)
     }
 
     /// The cells of an object.

@@ -1,12 +1,12 @@
 // The handles by slot, and the use of each block.
-ghost use Rattle.std.specs.Prelude.{◌≡◌, ℕ, ◌+◌, ◌*◌, ◌<◌, ◌≤◌, ◌↔◌, length, Some, None, IsSome, IsTrue, IfOk, IfSome, IfNone, option_map};
+ghost use Rattle.std.specs.Prelude.{◌≡◌, ℕ, ◌+◌, ◌*◌, ◌<◌, ◌≤◌, ◌↔◌, length, Some, None, IsSome, IsTrue, IfOk, IfSome, IfNone, map, option_map};
 ghost use Rattle.std.specs.FinMap as map;
-ghost use Rattle.std.specs.FinMap.{get, insert, keys, len};
+ghost use Rattle.std.specs.FinMap.{get, insert, keys, len, values};
 ghost use Rattle.hd_model.specs.State.{handles_of};
 ghost use Rattle.hd_model.specs.declared.limits.TheConstants.{BLOCKS, ROWS};
 ghost use Rattle.hd_model.specs.Handles.{handle_of};
 ghost use Rattle.hd_maps.specs.View.{use_of};
-ghost use Rattle.hd_maps.specs.TableViews.{slots_of, IsLeast, AreLive};
+ghost use Rattle.hd_maps.specs.TableViews.{slots_of, IsLeast};
 
 use crate::data::{BlockUse, Handle, is_kind};
 use crate::numbered::Numbered;
@@ -90,7 +90,7 @@ impl Table {
 
     /// The handles, in the order of their slots.
     pub fn handles(&self, alloc: Global) -> Result<Vec<Handle>, Memory>
-        ensures { IfOk result (λ handles. AreLive self.now.handles handles.items) }
+        ensures { IfOk result (λ handles. map handle_of handles.items ≡ values self.now.handles) }
     {
         self.handles.values(alloc)
     }
