@@ -24,7 +24,7 @@ holding_is short t x e = absurd (none-some x e)
 holding_is long t x e = absurd (none-some x e)
 holding_is attaches t x e = absurd (none-some x e)
 
-never_weak : (o : Option (Option (WeakEntry Id))) (h : Handle Id) → option_map weak_handle o ≡ Some h
+pub never_weak : (o : Option (Option (WeakEntry Id))) (h : Handle Id) → option_map weak_handle o ≡ Some h
     → role h ≡ holds → ⊥
 never_weak None h e r = none-some h e
 never_weak (Some o) h e r =
@@ -36,7 +36,7 @@ held_parts : (o : Option (Handle Id)) (x : Id) → held_by o ≡ Some x
 held_parts None x e = absurd (none-some x e)
 held_parts (Some h) x e = (h, (refl, holding_is (role h) h.target x e))
 
-held_from_parts : (h : Handle Id) (x : Id) → role h ≡ holds → h.target ≡ Some x → held_by (Some h) ≡ Some x
+pub held_from_parts : (h : Handle Id) (x : Id) → role h ≡ holds → h.target ≡ Some x → held_by (Some h) ≡ Some x
 held_from_parts h x r t = ap (λ b. cond b h.target None) (ap is_holding r) ∙ t
 
 -- what the handle in a slot holds is held

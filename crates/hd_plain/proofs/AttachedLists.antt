@@ -163,7 +163,7 @@ module _ (f : ℕ → Option (Handle Id)) where
       first (Some handle) e h =
           record { number = x; handle = handle; listed = first_in x xs; is = e; has = h }
 
-attaching_is : (r : Role) → is_attaching r ≡ true → r ≡ attaches
+pub attaching_is : (r : Role) → is_attaching r ≡ true → r ≡ attaches
 attaching_is holds e = absurd (false≢true e)
 attaching_is short e = absurd (false≢true e)
 attaching_is long e = absurd (false≢true e)
@@ -203,7 +203,7 @@ has_pair h x y p =
 
 -- ---- the rows of a state
 
-row_by_entry : (s : State) (slot : ℕ) (h : Handle Id) → get s.handles slot ≡ None
+pub row_by_entry : (s : State) (slot : ℕ) (h : Handle Id) → get s.handles slot ≡ None
     → option_map weak_handle (get s.weak slot) ≡ Some h → row_of s slot ≡ Some h
 row_by_entry s slot h none e = ap (λ o. option_or o (option_map weak_handle (get s.weak slot))) none ∙ e
 
@@ -218,14 +218,14 @@ row_is s slot h e = by (get s.handles slot) refl e
     by (Some g) was k = inl (was ∙ k)
 
 -- what an entry attaches is what its row does
-attaching_row : (o : Option (Option (WeakEntry Id))) (h : Handle Id)
+pub attaching_row : (o : Option (Option (WeakEntry Id))) (h : Handle Id)
     → option_map (λ (e : WeakEntry Id). weak_handle (Some e)) (unwrap_or o None) ≡ Some h
     → option_map weak_handle o ≡ Some h
 attaching_row None h e = absurd (none-some h e)
 attaching_row (Some None) h e = absurd (none-some h e)
 attaching_row (Some (Some x)) h e = e
 
-row_attaching : (o : Option (Option (WeakEntry Id))) (h : Handle Id) (x : Id)
+pub row_attaching : (o : Option (Option (WeakEntry Id))) (h : Handle Id) (x : Id)
     → option_map weak_handle o ≡ Some h → h.target ≡ Some x
     → (option_map (λ (e : WeakEntry Id). weak_handle (Some e)) (unwrap_or o None) ≡ Some h) × IsSome o
 row_attaching None h x e t = absurd (none-some h e)

@@ -11,6 +11,7 @@ pub mod RootWalk
 pub mod RootReplies
 pub mod CollectedState
 pub mod RootMarks
+pub mod RootLevels
 pub mod EntriesByWay
 pub mod Passes
 pub mod CollectionPasses

@@ -17,7 +17,7 @@ pub nothing_marked : (x : Id) → is_marked no_marks x ≡ true → ⊥
 nothing_marked x h = false≢true (sym (ap is_some (get-empty nat_cmp x.0)) ∙ h)
 
 -- what an option has where a test passes
-target_from : {A : Type 0} (b : Bool) (o : Option A) (x : A) → cond b o None ≡ Some x → (b ≡ true) ×
+pub target_from : {A : Type 0} (b : Bool) (o : Option A) (x : A) → cond b o None ≡ Some x → (b ≡ true) ×
     (o ≡ Some x)
 target_from true o x e = (refl, e)
 target_from false o x e = absurd (none-some x e)

@@ -9,3 +9,4 @@ pub mod Marked
 pub mod Edges
 pub mod Collecting
 pub mod Inside
+pub mod Levels

@@ -5,6 +5,7 @@
 mod choice;
 mod collecting;
 mod entries;
+mod levels;
 mod machine;
 mod making;
 mod marks;
@@ -17,4 +18,3 @@ pub use choice::{Choice, leading};
 pub use entries::add_entry;
 pub use machine::Machine;
 pub use making::{is_all_free, is_free, make_handle, may_give, reply_address, trim};
-pub use step::has_one_step;

@@ -6,6 +6,7 @@ ghost use Rattle.std.specs.FinMap.{get};
 ghost use Rattle.hd_model.specs.{Anchors.EdgeOf, Collect.is_lost, Scene.fields_in, WellFormed.IsWellFormed};
 ghost use Rattle.hd_plain.specs.Inside.{IsAnchorId, referenced, Adds, pair_in, pair_of, pairs_in, attaching_at, held_at, held_by, Gains, is_marked, with_mark, with_target, with_marks, with_targets, Awaits, Closes};
 ghost use Rattle.hd_model.specs.Handles.{handle_of};
+ghost use Rattle.hd_maps.specs.NextKeys.{IsLeastFrom};
 ghost use Rattle.hd_plain.specs.Attaching.{ListsAttached, secondaries};
 
 use crate::machine::Machine;
@@ -152,6 +153,13 @@ impl Marks {
             Some(id) => !self.has(id.0),
             None => false,
         }
+    }
+
+    /// The least object that is marked.
+    pub(crate) fn least(&self) -> Option<u64>
+        ensures { IsLeastFrom self.now.marked 0 result }
+    {
+        self.marked.least_from(0)
     }
 
     /// Marks an object.

@@ -1,6 +1,6 @@
-// The search for why an object lives: a walk breadth first from the anchors, which are taken by
-// identity. So an object is first found along a shortest chain, and along one from the least anchor
-// that has one.
+// The search for why an object lives: where no anchor is close to it, a walk breadth first from the
+// anchors, which are taken by identity. So an object is first found along a shortest chain, and
+// along one from the least anchor that has one.
 ghost use Rattle.std.specs.Prelude.{◌≡◌, ℕ, ◌+◌, ◌<◌, ◌↔◌, ◌^◌, ◌++◌, [], length, slice_get, None, Some, IfOk, IfSome, IsTrue, flat_map, MatchOption, AllPairs, Contains};
 ghost use Rattle.std.specs.FinMap.{get, len};
 ghost use Rattle.hd_model.specs.Scene.{fields_in};
@@ -15,6 +15,7 @@ ghost use Rattle.hd_walk.specs.{Trail.with_all, Walk.HasEnded};
 ghost use Rattle.hd_model.specs.Handles.{handle_of};
 ghost use Rattle.hd_maps.specs.TableViews.{Row};
 
+use crate::levels::{Origin, near};
 use crate::machine::Machine;
 use crate::marks::{Attached, Marks, held_by, mark_anchors};
 use hd_commands::{Done, Parts};
@@ -23,13 +24,6 @@ use hd_model::limits::REGISTERS;
 use hd_model::{Id, Memory, Refusal, Reply};
 use hd_walk::{Edges, Trail, read_back, walk};
 use std::alloc::{AllocError, Global};
-
-// Where a chain to an object begins, and its number of edges.
-#[derive(Clone, Copy)]
-struct Origin {
-    from: Id,
-    edges: u64,
-}
 
 // The edges of a state: what fields reference, and what is attached.
 #[derive(Drop)]
@@ -210,6 +204,9 @@ fn root_of(machine: &Machine, goal: Id) -> Result<Option<Origin>, Memory>
             from: goal,
             edges: 0,
         }));
+    }
+    if let Some(found) = near(machine, &handles, goal)? {
+        return Ok(Some(found));
     }
     searched(machine, goal)
 }

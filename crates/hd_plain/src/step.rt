@@ -36,8 +36,8 @@ impl Machine {
     }
 }
 
-/// Whether a command has one entry, which is found by making the step.
-pub fn has_one_step(cmd: Cmd) -> bool
+// Whether a command has one entry, which is found by making the step.
+fn has_one_step(cmd: Cmd) -> bool
     ensures { result ≡ has_one_step cmd }
 {
     !matches!(

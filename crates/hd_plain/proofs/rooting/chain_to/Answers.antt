@@ -1,4 +1,4 @@
-use Rattle.std.proofs.Common.{ap, arith, length, refl, subst, sym, ◌+◌, ◌∙◌, ◌≡◌}
+use Rattle.std.proofs.Common.{ap, arith, length, refl, subst, sym, ◌∙◌, ◌≡◌}
 use Rattle.std.specs.Prelude.{slice_get}
 use Rattle.hd_model.proofs.Basics.{same_Some}
 use Rattle.hd_model.specs.Anchors.{AnchorOf, EdgeOf, IsShortest}

@@ -1,4 +1,4 @@
-use Rattle.std.proofs.Common.{List, None, Some, [], refl, subst, ◌∙◌}
+use Rattle.std.proofs.Common.{List, None, Some, subst, ◌∙◌}
 use Rattle.std.specs.Prelude.{IfOk}
 use Rattle.hd_walk.specs.declared.trail.Found.{Found}
 use Rattle.hd_walk.specs.Trail.{with_all}

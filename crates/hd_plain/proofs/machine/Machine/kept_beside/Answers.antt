@@ -1,4 +1,4 @@
-use Rattle.std.proofs.Common.{ap, map, subst, sym, ◌∙◌}
+use Rattle.std.proofs.Common.{map, subst, sym, ◌∙◌}
 use Rattle.hd_model.specs.Anchors.{EdgeOf}
 use Rattle.hd_plain.specs.Inside.{Gains, is_marked, with_targets, resurrected_at}
 use Rattle.hd_plain.proofs.MarkedSets.{IsAmong, awaits_gains, gains_targets}
