@@ -1,6 +1,6 @@
 #!/usr/bin/env python3
 """Times how long `audit` takes for texts of 100,000 lines with a collection every 100, over 10,000 live objects; and for texts that
-do one command again and again once the objects are made, with the instructions of each (callgrind, where valgrind is there).
+do the same again and again once the objects are made, with the instructions of each time (callgrind, where valgrind is there).
 
     audit.py PROGRAM
 """
@@ -14,7 +14,7 @@ LINES = 100_000
 LIVE = 10_000
 EVERY = 100
 
-# For how many commands of a text of `AGAIN` the time is asked, how many are counted, and the most seconds.
+# For how often the commands of `AGAIN` the time is asked, how often they are counted, and the most seconds.
 OFTEN = 90_000
 COUNTED = 9
 SECONDS = 60
@@ -70,8 +70,25 @@ def anchored():
         yield from ("copy r1 r0", "new r0 2", "set r0 0 r1", "hnew h0 strong r0")
 
 
-# What is made, and the command that comes again and again.
-AGAIN = ((idle, "collect 0"), (anchored, "gcroot r0"))
+def one_edge():
+    """The same, and one more in a field of the last, without a handle."""
+    yield from anchored()
+    yield from ("new r1 0", "set r0 1 r1")
+
+
+def one_young():
+    """The same list with a strong handle each, and old."""
+    yield from anchored()
+    yield from ("collect 2", "collect 2")
+
+
+# What is made, and the commands that come again and again.
+AGAIN = (
+    (idle, ("collect 0",)),
+    (anchored, ("gcroot r0",)),
+    (one_edge, ("gcroot r1",)),
+    (one_young, ("new r2 0", "drop r2", "collect 0")),
+)
 
 
 def given_to_audit(program, commands):
@@ -87,18 +104,18 @@ def instructions(program, given):
     return int(re.search(r"Collected : (\d+)", ran.stderr).group(1))
 
 
-def again(program, make, command):
-    """A row: the processor's time of a text as long as it may be, what OFTEN commands would take, and the instructions of each."""
-    made = list(make())
-    often = LINES - len(made)
+def again(program, make, commands):
+    """A row: the processor's time of a text as long as it may be, what OFTEN times would take, and the instructions of each."""
+    made, row = list(make()), list(commands)
+    often = (LINES - len(made)) // len(row)
     before = seconds([program, "audit"], given_to_audit(program, made))[1]
-    verdict, audit = seconds([program, "audit"], given_to_audit(program, made + [command] * often))
-    row = f"{make.__name__}, {often:,} `{command}`: audit {audit:.2f} s, {verdict.strip()}"
-    row += f", so {(audit - before) * OFTEN / often:.1f} s of at most {SECONDS} for {OFTEN:,}"
+    verdict, audit = seconds([program, "audit"], given_to_audit(program, made + row * often))
+    said = f"{make.__name__}, {often:,} times `{'; '.join(row)}`: audit {audit:.2f} s, {verdict.strip()}"
+    said += f", so {(audit - before) * OFTEN / often:.1f} s of at most {SECONDS} for {OFTEN:,}"
     if shutil.which("valgrind"):
-        counts = [instructions(program, given_to_audit(program, made + [command] * count)) for count in (0, COUNTED)]
-        row += f", {(counts[1] - counts[0]) // COUNTED:,} instructions a command"
-    return row
+        counts = [instructions(program, given_to_audit(program, made + row * count)) for count in (0, COUNTED)]
+        said += f", {(counts[1] - counts[0]) // COUNTED:,} instructions each"
+    return said
 
 
 def seconds(words, given):
@@ -120,8 +137,8 @@ def main(words):
         verdict, audit = seconds([words[0], "audit"], lines + "=\n" + text)
         live = text.splitlines()[-1]
         print(f"{make.__name__}: solo {solo:.2f} s, audit {audit:.2f} s, {verdict.strip()}, {live}", flush=True)
-    for make, command in AGAIN:
-        print(again(words[0], make, command), flush=True)
+    for make, commands in AGAIN:
+        print(again(words[0], make, commands), flush=True)
 
 
 if __name__ == "__main__":
