@@ -41,7 +41,6 @@ impl Contents {
     }
 
     /// The value of the entry in a slot of the weak table.
-    #[inline(always)]
     pub(crate) fn entry_value(&self, slot: Slot) -> Option<Addr>
         requires { IsSome (get self.now.state.weak slot.0) }
         ensures value { named_in self.now.names result ≡ value_at self.now.state slot }
