@@ -101,6 +101,14 @@ impl Host {
         self.last.get()
     }
 
+    /// Has it return another `last`, until a call is done. An end of a shared host has its own.
+    #[inline(always)]
+    pub fn recall(&mut self, last: Change)
+        ensures { self.new ≡ record self.old { last = last } }
+    {
+        self.last = Last::Blocks(last);
+    }
+
     // The slot of a live handle.
     #[inline(always)]
     pub(crate) fn live_slot(&self, handle: Handle) -> Option<Slot>
