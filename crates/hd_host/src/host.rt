@@ -106,7 +106,7 @@ impl Host {
     pub fn recall(&mut self, last: Change)
         ensures { self.new ≡ record self.old { last = last } }
     {
-        self.last = Last::Blocks(last);
+        self.last.put(last);
     }
 
     // The slot of a live handle.
