@@ -1,0 +1,4 @@
+pub mod HostHistories
+pub mod SharerTurns
+pub mod EndLocals
+pub mod NewEnds

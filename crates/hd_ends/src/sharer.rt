@@ -1,0 +1,109 @@
+ghost use Rattle.std.specs.Prelude.{◌≡◌, ◌+◌, ◌<◌, ◌^◌, true, false, IfNone, IfSome};
+ghost use Rattle.hd_ends.specs.Ends.{MayLeave, Takes, first_of, gave_back, turn_of};
+ghost use Rattle.hd_ends.specs.Inside.{IsNewEnd, sharer_of};
+
+use crate::boxed::Boxed;
+use hd_host::{Change, Host};
+use std::boxed::Box;
+use std::marker::Model;
+
+/// An end of a shared host, which has its turn or has not. Contracts see what it knows, and whether
+/// it has the gate. An end that is dropped while it has its turn leaves the gate taken for ever.
+#[derive(Drop)]
+pub struct Sharer {
+    end: hd_turns::End<Boxed>,
+    // The first of the host's contexts that is its own, and how many are.
+    first: u32,
+    each: u32,
+    // What its own last call that was done did.
+    last: Change,
+}
+
+impl Model for Sharer {
+    ghost use Rattle.hd_ends.specs.{Ends.SharerView, Ends.sharer_view_code, Inside.IsSharer, Inside.sharer_of};
+
+    ghost Value = { SharerView };
+
+    ghost coded = { sharer_view_code };
+
+    ghost view = { λ s. sharer_of s.end s.each s.last };
+
+    ghost invariant = { λ s. IsSharer s.end s.first s.each };
+}
+
+impl Sharer {
+    // The end of a gate to which nothing was done.
+    pub(crate) fn of(end: hd_turns::End<Boxed>, each: u32, last: Change) -> Sharer
+        requires { IsNewEnd end each }
+        ensures { result ≡ sharer_of end each last }
+    {
+        let first = end.number() * each;
+        Sharer {
+            end,
+            first,
+            each,
+            last,
+        }
+    }
+
+    /// How many contexts it has, which are numbered from 0 there.
+    #[inline(always)]
+    pub fn contexts(&self) -> u32
+        ensures { result ≡ self.now.end.each }
+    {
+        self.each
+    }
+
+    /// Which of the host's contexts is the first of its own.
+    #[inline(always)]
+    pub fn first(&self) -> u32
+        ensures value { result ≡ first_of self.now.end }
+        ensures fits { result + self.now.end.each < 2 ^ 32 }
+    {
+        self.first
+    }
+
+    /// What its own last call that was done did to slots and blocks.
+    pub fn last(&self) -> Change
+        ensures { result ≡ self.now.end.last }
+    {
+        self.last
+    }
+
+    /// The number of its last turn, in one order for all ends, or 0 before the first.
+    pub fn turn(&self) -> u64
+        requires { self.now.has_gate ≡ false }
+        ensures { result ≡ turn_of self.now.end }
+    {
+        self.end.turn()
+    }
+
+    /// Takes the host as the last turn of all left it, but with the end's own `last`; or none, where
+    /// another end had its turn at each look, and after 2^64 - 2 turns. It makes no call of the
+    /// system. No end is promised a turn.
+    pub fn enter(&mut self) -> Option<Box<Host>>
+        requires { self.old.has_gate ≡ false }
+        ensures busy { IfNone result (self.new ≡ self.old) }
+        ensures taken { IfSome result (λ host. Takes self.old self.new host.value) }
+    {
+        let Some(boxed) = self.end.try_enter() else {
+            return None;
+        };
+        let mut host = boxed.into_host();
+        host.recall(self.last);
+        Some(host)
+    }
+
+    /// Gives the gate back with the host that its turn leaves.
+    pub fn leave(&mut self, host: Box<Host>)
+        requires gate { self.old.has_gate ≡ true }
+        requires turn { MayLeave self.old.end host.value }
+        ensures { self.new ≡ gave_back host.value self.old }
+    {
+        self.last = host.last();
+        self.end.leave(Boxed {
+            each: self.each,
+            host,
+        });
+    }
+}
