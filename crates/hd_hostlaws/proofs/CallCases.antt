@@ -6,6 +6,7 @@ use Rattle.hd_model.specs.Command.{load_reply}
 use Rattle.hd_model.specs.declared.command.Cmd.TheVariants as cmd
 use Rattle.hd_model.specs.declared.data.Reply.TheVariants as reply
 use Rattle.hd_store.specs.Replies.{found_reply, removed_reply, root_reply}
+use Rattle.hd_host.specs.declared.change.Change.{Change}
 use Rattle.hd_host.specs.declared.fault.Fault.{Fault}
 use Rattle.hd_host.specs.declared.handle.Handle.{Handle}
 use Rattle.hd_host.specs.Calls.{FreesHandle, HasDone, HasReplied, Tries, TriesOf}
@@ -15,7 +16,7 @@ use Rattle.hd_host.specs.View.{HostView, IsAsItWas}
 use Rattle.hd_host.proofs.CallTurns.{but_last}
 use Rattle.hd_host.proofs.SameHost.{unchanged}
 use Rattle.hd_host.proofs.SoundTurns.{stepped_known}
-use Rattle.hd_hostlaws.specs.Calls.{Call, Does, DoesOn, DoesPlainly, HandleCall, Looks, PlainCall, address, collect, count_down, count_up, field_get, field_set, final_next, free, generation, get, handle_new, info, kind, local_clear, local_copy, object_new, observes, on_handle, plain, reregister, root_of, secondary_get, secondary_set, set, static_get, static_set, strength_set, suppress, table_add, table_find, table_remove, trim, value_get, value_set}
+use Rattle.hd_hostlaws.specs.Calls.{Call, Does, DoesOn, DoesPlainly, HandleCall, Looks, PlainCall, address, collect, count_down, count_up, field_get, field_set, final_next, free, generation, get, handle_new, info, kind, local_clear, local_copy, object_new, observes, on_handle, plain, recall, reregister, root_of, secondary_get, secondary_set, set, static_get, static_set, strength_set, suppress, table_add, table_find, table_remove, trim, value_get, value_set}
 use Rattle.hd_hostlaws.specs.Laws.{EachCallIsATurn}
 
 -- which commands may take another target from a handle: 0 where none does
@@ -44,6 +45,16 @@ module _ {u w : HostView} where
 
   same : {call : Call} → w ≡ u → DoesOne u w call
   same is = refused (subst (IsAsItWas u) (sym is) (unchanged u))
+
+  recalled : {call : Call} (last : Change) → w ≡ record u { last = last } → DoesOne u w call
+  recalled last is = nothing (subst (IsAsItWasButLast u) (sym is) (record {
+    numbers = refl;
+    state = refl;
+    addresses = λ x a at. at;
+    ages = refl;
+    stamps = refl;
+    last = refl;
+  }))
 
   replied : {call : Call} (context : ℕ) (command : Cmd) {answer : Reply} → sort command ≡ 0
       → HasReplied u context None command answer w → DoesOne u w call
@@ -119,6 +130,7 @@ module _ {u w : HostView} where
   plain_one (final_next context dst result) did = replied context (cmd.Final dst) refl did
   plain_one (trim of given) did = replied 0 (cmd.Trim of) refl did.replied
   plain_one (root_of context object result) did = tries context (cmd.GcRoot object) root_reply result refl did
+  plain_one (recall last) did = recalled last did
   plain_one observes did = same did
 
   pub does_one : (call : Call) → Does call u w → DoesOne u w call

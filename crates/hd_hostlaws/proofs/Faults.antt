@@ -6,7 +6,7 @@ use Rattle.hd_host.specs.declared.fault.Fault.{Fault}
 use Rattle.hd_host.specs.declared.handle.Handle.{Handle}
 use Rattle.hd_host.specs.View.{HostView, IsAsItWas}
 use Rattle.hd_host.proofs.SameHost.{unchanged}
-use Rattle.hd_hostlaws.specs.Calls.{DoesOn, DoesPlainly, HandleCall, PlainCall, address, collect, count_down, count_up, fault_in, field_get, field_set, final_next, free, generation, get, handle_new, info, kind, local_clear, local_copy, object_new, observes, on_handle, plain, reregister, returned, returned_plainly, root_of, secondary_get, secondary_set, set, static_get, static_set, strength_set, suppress, table_add, table_find, table_remove, trim, value_get, value_set}
+use Rattle.hd_hostlaws.specs.Calls.{DoesOn, DoesPlainly, HandleCall, PlainCall, address, collect, count_down, count_up, fault_in, field_get, field_set, final_next, free, generation, get, handle_new, info, kind, local_clear, local_copy, object_new, observes, on_handle, plain, recall, reregister, returned, returned_plainly, root_of, secondary_get, secondary_set, set, static_get, static_set, strength_set, suppress, table_add, table_find, table_remove, trim, value_get, value_set}
 use Rattle.hd_hostlaws.specs.Laws.{FaultsChangeNothing}
 
 module _ {u w : HostView} (f : Fault) where
@@ -53,6 +53,7 @@ module _ {u w : HostView} (f : Fault) where
   plain_one (final_next context dst result) did is = absurd (none-some f is)
   plain_one (trim of given) did is = absurd (none-some f is)
   plain_one (root_of context object result) did is = kept _ _ result did is
+  plain_one (recall last) did is = absurd (none-some f is)
   plain_one observes did is = absurd (none-some f is)
 
 pub faults_change_nothing : FaultsChangeNothing

@@ -8,6 +8,7 @@ use Rattle.hd_commands.specs.Done.{queued_reply}
 use Rattle.hd_store.specs.Replies.{found_reply, removed_reply, root_reply}
 use Rattle.hd_store.specs.declared.collection_calls.Root.{Root}
 use Rattle.hd_store.specs.declared.entry_calls.Lookup.{Lookup}
+use Rattle.hd_host.specs.declared.change.Change.{Change}
 use Rattle.hd_host.specs.declared.fault.Fault.{Fault}
 use Rattle.hd_host.specs.declared.fault.Fault.TheVariants as fault
 use Rattle.hd_host.specs.declared.handle.Handle.{Handle}
@@ -53,6 +54,7 @@ pub data PlainCall : Type 0 where
   final_next : (context dst : ℕ) → Option Id → PlainCall
   trim : Kind → (given : ℕ) → PlainCall
   root_of : (context object : ℕ) → Result (Option Root) Fault → PlainCall
+  recall : Change → PlainCall
   -- `contexts`, `last`, `stats`, `local_id` and `next_handle`
   observes : PlainCall
 
@@ -130,6 +132,7 @@ DoesPlainly (final_next context dst result) old new =
 DoesPlainly (trim of given) old new = Trims old of given new
 DoesPlainly (root_of context object result) old new =
     Tries old context (cmd.GcRoot object) root_reply new result
+DoesPlainly (recall last) old new = new ≡ record old { last = last }
 DoesPlainly observes old new = new ≡ old
 
 abbrev pub Does : Call → HostView → HostView → Type 0
@@ -181,6 +184,7 @@ returned_plainly (collect n result) = fault_in result
 returned_plainly (final_next context dst result) = None
 returned_plainly (trim of given) = None
 returned_plainly (root_of context object result) = fault_in result
+returned_plainly (recall last) = None
 returned_plainly observes = None
 
 abbrev pub returned_by : Call → Option Fault

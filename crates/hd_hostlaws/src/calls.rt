@@ -6,7 +6,7 @@ ghost use Rattle.hd_model.specs.{Kinds.is_paired, Valid.IsValidMake};
 ghost use Rattle.hd_hostlaws.specs.Calls as call;
 ghost use Rattle.hd_hostlaws.specs.Calls.{DoesOn, DoesPlainly};
 
-use hd_host::{Fault, Handle, HandleInfo, Host, Lookup, Root};
+use hd_host::{Change, Fault, Handle, HandleInfo, Host, Lookup, Root};
 use hd_model::limits::{FIELDS, OLDEST, REGISTERS};
 use hd_model::{Id, Kind, Make, Report, Strength};
 
@@ -295,4 +295,11 @@ pub fn root_of(host: &mut Host, context: u32, object: u8) -> Result<Option<Root>
     ensures { DoesPlainly (call.root_of context object result) host.old host.new }
 {
     host.root_of(context, object)
+}
+
+/// `Host::recall`.
+pub fn recall(host: &mut Host, last: Change)
+    ensures { DoesPlainly (call.recall last) host.old host.new }
+{
+    host.recall(last);
 }
