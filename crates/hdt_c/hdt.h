@@ -17,21 +17,25 @@
  * WHAT IS PROVED of each function, given the duties below: it returns; it reads and writes no memory but the host's, its own and
  * the out parameters; and its effect and its status are exactly those of one step of the machine of docs/machine.md. Where the
  * status is not HDT_OK no out parameter is written, and the host is as it was, unless it is HDT_NONE: with that the call was
- * done, so hdt_last is of it, all 0, and the local of hdt_final_next and of hdt_table_find is null.
+ * done, so hdt_last is of it, all 0, and the local of hdt_final_next and of hdt_table_find is null. Of a host that ends share
+ * besides: each call finds the host that the last turn of all ends left, or it is HDT_BUSY and nothing is changed; and what an
+ * end's locals reference is what it left there, whatever other ends did, collections too.
  *
  * DUTIES of the caller, which nothing checks:
  *  1. `host` is not null, and points to an hdt_host that is HDT_CLOSED_HOST or that these functions wrote. It may be moved
- *     (copied, and the old one never used again), but not copied: one copy owns the memory, as with a pthread_mutex_t. Its
+ *     (copied, and the old one never used again), but not copied: one copy owns what it has, as with a pthread_mutex_t. Its
  *     field is private.
  *  2. Out parameters are not null, are aligned, and do not overlap the host or one another. An array has room for its count.
- *  3. Threads: there is no lock inside. Calls with one host may come from any thread, one at a time, each ordered after the one
- *     before by a lock, a join or a sequentially consistent atomic. Calls with two hosts are independent. No call from a signal
- *     handler, or from the forked child of a process with threads.
+ *  3. Threads: an hdt_host is one thread's at a time. Calls with one may come from any thread, one at a time, each ordered after
+ *     the one before by a lock, a join or a sequentially consistent atomic. Calls with two need no order, also where they are
+ *     ends of one host (hdt_open_shared). No thread ends, is cancelled or is left by longjmp inside a call: the gate of a shared
+ *     host would stay taken. No call from a signal handler, or from the forked child of a process with threads.
  *  4. malloc, realloc and free are of one allocator and align to 16.
  * Everything else is checked: numbers out of range, stale handles, wrong kinds, a closed host, and each failed allocation.
  */
 #ifndef HDT_H
 #define HDT_H
+#include <sched.h>
 #include <stdbool.h>
 #include <stddef.h>
 #include <stdint.h>
@@ -42,7 +46,8 @@ extern "C" {
 #define HDT_ABI 2 /* hdt_abi() returns it */
 #define HDT_VERSION "0.5.0" /* of the release that a program is compiled with; hdt_version says that of the one it runs with */
 
-/* A world of objects and handles. All bytes 0: closed. */
+/* One thread's end of a world of objects and handles: of a host of its own (hdt_open), or of one that up to 16 ends share
+ * (hdt_open_shared). Every function takes either. All bytes 0: closed. */
 typedef struct { void *hdt_private; } hdt_host;
 #define HDT_CLOSED_HOST { 0 }
 
@@ -56,7 +61,9 @@ typedef uint64_t hdt_handle;
 typedef uint64_t hdt_id;
 
 /* Local references: each context has 16, and what they reference is kept (JNI guarantees 16 too). A host gives each of its
- * threads, or each nested scope, a context. The functions that load say which local gets the result. */
+ * threads, or each nested scope, a context. An end of a shared host has contexts of its own, numbered from 0 there; what they
+ * reference is kept until the last end closes, so an end clears its locals before it does. The functions that load say which
+ * local gets the result. */
 typedef uint32_t hdt_context; /* 0 to 15 */
 typedef uint32_t hdt_local;   /* 0 to 15 */
 #define HDT_LOCAL(n) ((hdt_local)(n))
@@ -65,9 +72,9 @@ typedef uint32_t hdt_status;
 enum {
     HDT_OK = 0,
     HDT_CLOSED = 1,      /* the host is closed */
-    HDT_IS_OPEN = 2,     /* hdt_open: it is open already */
+    HDT_IS_OPEN = 2,     /* hdt_open, _open_shared: it is open already, or one of them */
     HDT_ARGUMENT = 3,    /* a context, local, kind, generation or limit out of range */
-    HDT_NO_MEMORY = 4,   /* of hdt_open, _object_new, _collect, _root_of, with nothing else wrong; in tests where malloc fails */
+    HDT_NO_MEMORY = 4,   /* of hdt_open, _open_shared, _object_new, _collect, _root_of, with nothing else wrong: malloc failed */
     HDT_EXHAUSTED = 5,   /* the context has made 2^32 - 1 objects; or the count, or the stamp of the slot, is at its end */
     /* the refusals of the machine, in the order in which they are found */
     HDT_STALE = 6,       /* no such handle: never made, or freed */
@@ -80,8 +87,8 @@ enum {
     HDT_TABLE_FULL = 13, /* hdt_trim, or free handles */
     /* answers that are no failures */
     HDT_NONE = 14,       /* hdt_final_next: the queue is empty; hdt_table_find, _remove: no entry; hdt_root_of: unrooted */
-    /* of no call with a host that is not shared */
-    HDT_BUSY = 15,       /* another's call with the shared host is under way, and nothing was done */
+    /* of an end of a shared host, after HDT_CLOSED and HDT_ARGUMENT and before all others */
+    HDT_BUSY = 15,       /* another end had its turn at each of 16 looks, with pauses in between: nothing was done, try again */
     HDT_ROOM = 16        /* the array is too short for what is there; no call returns it yet */
 };
 
@@ -91,6 +98,14 @@ static inline const char *hdt_status_name(hdt_status status) {
         "HDT_STALE", "HDT_WRONG_KIND", "HDT_COUNT_ZERO", "HDT_NULL", "HDT_NO_FIELD", "HDT_PRESENT", "HDT_HEAP_FULL",
         "HDT_TABLE_FULL", "HDT_NONE", "HDT_BUSY", "HDT_ROOM" };
     return status < sizeof names / sizeof *names ? names[status] : "HDT_?";
+}
+
+/* For a call that is to wait for its turn: whether it was busy, after the processor was given up to other threads. No end is
+ * promised a turn.       do status = hdt_collect(&end, 0, &report); while (hdt_retry(status)); */
+static inline bool hdt_retry(hdt_status status) {
+    if (status != HDT_BUSY) return false;
+    (void)sched_yield();
+    return true;
 }
 
 typedef uint32_t hdt_kind;
@@ -118,11 +133,16 @@ typedef struct { uint32_t major, minor, patch; } hdt_version_out;
 uint32_t hdt_abi(void);
 void hdt_version(hdt_version_out *out);
 hdt_status hdt_open(hdt_host *host, const hdt_limits *limits); /* takes that of the table; objects and collections take more */
-void hdt_close(hdt_host *host);                                /* frees all of it; a closed host stays closed */
+/* One host with n ends, 1 to 16, each closed before. limits->contexts is n times the number that each has: 16 in all at most. With
+ * any status but HDT_OK no end is opened. Each end may then be moved to its thread. Each call with one, but hdt_last and hdt_close,
+ * is a turn: no end waits for another and none has the host between two calls, so who finds it taken may try again at once. */
+hdt_status hdt_open_shared(hdt_host *ends, size_t n, const hdt_limits *limits);
+void hdt_close(hdt_host *host); /* frees all of it, of a shared host with the last end; never busy; a closed host stays closed */
 hdt_status hdt_stats(hdt_host *host, hdt_stats_out *out);
-/* Of the last call that was done and no observer: the slot that it gave or freed (the low 24 bits of its handle), the block by
- * which the table grew or the one that was given back, and the block for the extra data of either; `turn` is 0 unless the host
- * is shared. For those who judge a host. */
+/* Of this end's last call that was done and no observer: the slot that it gave or freed (the low 24 bits of its handle), the block
+ * by which the table grew or the one that was given back, and the block for the extra data of either. turn is the number of the
+ * end's last turn, from 1 on in one order for all ends of a shared host, 0 before the first and for a host of its own. It takes no
+ * turn and is never busy. For those who judge a host. */
 hdt_status hdt_last(hdt_host *host, hdt_change *out);
 
 /* ---- objects; fields are numbered from 0, at most 61; a new object has null fields, value 0 and generation 0 */
