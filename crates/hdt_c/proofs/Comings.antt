@@ -1,48 +1,128 @@
 -- The ways in which an export comes to its status.
-use Rattle.std.proofs.Common.{None, Option, Some, refl, subst, sym, ℕ, ◌≡◌}
+use Rattle.std.proofs.Common.{None, Option, Some, ap, arith, refl, subst, sym, ℕ, ◌+◌, ◌<◌, ◌∙◌, ◌≡◌}
 use Rattle.std.specs.Prelude.{Err, MatchResult, Ok, Result}
 use Rattle.hd_host.specs.declared.fault.Fault.{Fault}
+use Rattle.hd_host.specs.Turns.{HostTurn, IsContextOf}
 use Rattle.hd_host.specs.View.{HostView, IsAsItWas}
-use Rattle.hdt_c.specs.Exports.{Comes, closed, comes_on, Runs, fails, does}
+use Rattle.hd_host.proofs.CallTurns.{turn_as_it_was}
+use Rattle.hd_ends.specs.Ends.{EndView, MayLeave, SharerView, Takes, first_of, gave_back, with_last}
+use Rattle.hd_ends.specs.Opened.{contexts_of}
+use Rattle.hd_ends.specs.declared.end.End.{End}
+use Rattle.hd_ends.specs.declared.end.End.TheVariants.{Own, Shared}
+use Rattle.hd_ends.proofs.SharerTurns.{may_leave, took_turn}
+use Rattle.hdt_c.specs.Exports.{Comes, busy, closed, is_wrong, runs, turned, Runs, fails, does}
 use Rattle.hdt_c.specs.Outs.{IsOpened, Opens, Refuses, is_open, opens, refuses}
 use Rattle.hdt_c.specs.Status.{status_of}
 use Rattle.hdt_c.specs.declared.parts.Limits.{Limits}
-use Rattle.hdt_c.specs.declared.status.TheConstants.{CLOSED, IS_OPEN, OK}
+use Rattle.hdt_c.specs.declared.status.TheConstants.{ARGUMENT, BUSY, CLOSED, IS_OPEN, OK}
 
-module _ {Right : HostView → Type 0} {Fails : HostView → Fault → Type 0}
-    {Does : HostView → HostView → ℕ → Type 0} {Kept : Type 0} where
-  pub failed : {v w : HostView} {s : ℕ} (f : Fault) → Right v → Fails v f → IsAsItWas v w → Kept
-      → s ≡ status_of f → Runs Right Fails Does Kept v w s
-  failed {v} {w} f right why same kept is =
-      subst (λ n. Runs Right Fails Does Kept v w n) (sym is) (fails v w f right why same kept)
+-- ---- calls on a host
+
+module _ {Fails : HostView → Fault → Type 0} {Does : HostView → HostView → ℕ → Type 0} {Kept : Type 0} where
+  pub failed : {v w : HostView} {s : ℕ} (f : Fault) → Fails v f → IsAsItWas v w → Kept → s ≡ status_of f
+      → Runs Fails Does Kept v w s
+  failed {v} {w} f why same kept is =
+      subst (λ n. Runs Fails Does Kept v w n) (sym is) (fails v w f why same kept)
 
   -- a call with nothing to return, by the status of its result
-  pub by_status : {X D : Type 0} {v w : HostView} {s : ℕ} → Right v → Kept → (D → s ≡ OK → Does v w s)
+  pub by_status : {X D : Type 0} {v w : HostView} {s : ℕ} → Kept → (D → s ≡ OK → Does v w s)
       → (r : Result X Fault) → MatchResult r (λ _. s ≡ OK) (λ fault. s ≡ status_of fault)
-      → MatchResult r (λ _. D) (λ fault. Fails v fault × IsAsItWas v w) → Runs Right Fails Does Kept v w s
-  by_status {v = v} {w = w} {s = s} right kept made (Ok x) is done = does v w s right (made done is)
-  by_status right kept made (Err f) is why = failed f right why.0 why.1 kept is
+      → MatchResult r (λ _. D) (λ fault. Fails v fault × IsAsItWas v w) → Runs Fails Does Kept v w s
+  by_status {v = v} {w = w} {s = s} kept made (Ok x) is done = does v w s (made done is)
+  by_status kept made (Err f) is why = failed f why.0 why.1 kept is
 
   -- the same, where the fault is said in other words
-  pub by_fault : {X D : Type 0} {F : Fault → Type 0} {v w : HostView} {s : ℕ} → Right v → Kept
+  pub by_fault : {X D : Type 0} {F : Fault → Type 0} {v w : HostView} {s : ℕ} → Kept
       → (D → s ≡ OK → Does v w s) → ((f : Fault) → F f → Fails v f) → (r : Result X Fault)
       → MatchResult r (λ _. s ≡ OK) (λ fault. s ≡ status_of fault)
-      → MatchResult r (λ _. D) (λ fault. F fault × IsAsItWas v w) → Runs Right Fails Does Kept v w s
-  by_fault {v = v} {w = w} {s = s} right kept made why (Ok x) is done = does v w s right (made done is)
-  by_fault right kept made why (Err f) is fault = failed f right (why f fault.0) fault.1 kept is
+      → MatchResult r (λ _. D) (λ fault. F fault × IsAsItWas v w) → Runs Fails Does Kept v w s
+  by_fault {v = v} {w = w} {s = s} kept made why (Ok x) is done = does v w s (made done is)
+  by_fault kept made why (Err f) is fault = failed f (why f fault.0) fault.1 kept is
 
-  pub shut : {o n : Option HostView} {s : ℕ} → Kept → o ≡ None → n ≡ None → s ≡ CLOSED
+  -- a call is a turn of an end, if it is one where it is done
+  pub turn_by : {each number : ℕ} {v w : HostView} {s : ℕ} → (Does v w s → HostTurn each number v w)
+      → Runs Fails Does Kept v w s → HostTurn each number v w
+  turn_by {each} {number} made (fails v w f why same kept) = turn_as_it_was each number same
+  turn_by made (does v w s did) = made did
+
+-- ---- exports
+
+-- the end that was taken out was one of a shared host
+was_shared : {o : Option End} {e x : End} {u d : EndView} → Some e ≡ o → x ≡ e → x ≡ Shared d → u ≡ d
+    → o ≡ Some (Shared u)
+was_shared some at is view = sym some ∙ ap Some (sym at ∙ is) ∙ ap (λ (x : EndView). Some (Shared x)) (sym view)
+
+module _ {Right : ℕ → Type 0} {Fails : (ℕ → ℕ) → HostView → Fault → Type 0}
+    {Does : (ℕ → ℕ) → HostView → HostView → ℕ → Type 0} {Kept : Type 0} where
+  pub shut : {o n : Option End} {s : ℕ} → Kept → o ≡ None → n ≡ None → s ≡ CLOSED
       → Comes Right Fails Does Kept o n s
   shut {o} {n} {s} kept none now is =
       subst (λ x. Comes Right Fails Does Kept x n s) (sym none)
       (subst (λ x. Comes Right Fails Does Kept None x s) (sym now)
       (subst (λ x. Comes Right Fails Does Kept None None x) (sym is) (closed kept)))
 
-  pub ran : {o n : Option HostView} {v w : HostView} {s : ℕ} → o ≡ Some v → n ≡ Some w
-      → Runs Right Fails Does Kept v w s → Comes Right Fails Does Kept o n s
-  ran {o} {n} {v} {w} {s} some now runs =
-      subst (λ x. Comes Right Fails Does Kept x n s) (sym some)
-      (subst (λ x. Comes Right Fails Does Kept (Some v) x s) (sym now) (comes_on v w s runs))
+  pub wrong : {o n : Option End} {e : End} → o ≡ Some e → n ≡ Some e → (Right (contexts_of e) → ⊥) → Kept
+      → Comes Right Fails Does Kept o n ARGUMENT
+  wrong {o} {n} {e} was now not kept =
+      subst (λ x. Comes Right Fails Does Kept x n ARGUMENT) (sym was)
+      (subst (λ x. Comes Right Fails Does Kept (Some e) x ARGUMENT) (sym now) (is_wrong e not kept))
+
+  -- Each takes that an end was taken out, which it is, and what was put back.
+  pub wrong_own : {o n : Option End} {e x : End} {v : HostView} {count : ℕ} → Some e ≡ o → x ≡ e → x ≡ Own v
+      → n ≡ Some (Own v) → count ≡ v.machine.numbers.callers → (Right count → ⊥) → Kept
+      → Comes Right Fails Does Kept o n ARGUMENT
+  wrong_own {v = v} some at is now count not kept = wrong (sym some ∙ ap Some (sym at ∙ is)) now
+      (λ right. not (subst Right (sym count) right)) kept
+
+  pub wrong_shared : {o n : Option End} {e x : End} {u d : EndView} {count : ℕ} → Some e ≡ o → x ≡ e → x ≡ Shared d
+      → u ≡ d → n ≡ Some (Shared d) → count ≡ u.each → (Right count → ⊥) → Kept
+      → Comes Right Fails Does Kept o n ARGUMENT
+  wrong_shared some at is view now count not kept = wrong (sym some ∙ ap Some (sym at ∙ is)) now
+      (λ right. not (subst Right (sym (count ∙ ap (λ (x : EndView). x.each) view)) right)) kept
+
+  pub ran_own : {o n : Option End} {e x : End} {v w : HostView} {count s : ℕ} → Some e ≡ o → x ≡ e → x ≡ Own v
+      → n ≡ Some (Own w) → count ≡ v.machine.numbers.callers → Right count
+      → Runs (Fails (λ c. c)) (Does (λ c. c)) Kept v w s → Comes Right Fails Does Kept o n s
+  ran_own {o} {n} {v = v} {w = w} {s = s} some at is now count right did =
+      subst (λ x. Comes Right Fails Does Kept x n s) (ap Some (sym is ∙ at) ∙ some)
+      (subst (λ x. Comes Right Fails Does Kept (Some (Own v)) x s) (sym now)
+      (runs v w s (subst Right count right) did))
+
+  pub was_busy : {o n : Option End} {e x : End} {u t : SharerView} {d : EndView} {count : ℕ} → Some e ≡ o → x ≡ e
+      → x ≡ Shared d → u.end ≡ d → t ≡ u → n ≡ Some (Shared t.end) → count ≡ u.end.each → Right count → Kept
+      → Comes Right Fails Does Kept o n BUSY
+  was_busy {o} {n} {u = u} some at is view same now count right kept =
+      subst (λ x. Comes Right Fails Does Kept x n BUSY) (sym (was_shared some at is view))
+      (subst (λ x. Comes Right Fails Does Kept (Some (Shared u.end)) x BUSY)
+      (sym (now ∙ ap (λ (x : SharerView). Some (Shared x.end)) same))
+      (busy u.end (subst Right count right) kept))
+
+  -- it ran at the end's turn, in the host that it took
+  pub ran_shared : {o n : Option End} {e x : End} {u t r : SharerView} {d : EndView} {taken v leaves : HostView}
+      {count first s : ℕ} → Some e ≡ o → x ≡ e → x ≡ Shared d → u.end ≡ d → n ≡ Some (Shared r.end)
+      → count ≡ u.end.each → Right count → first ≡ first_of u.end → Takes u t taken → r ≡ gave_back leaves t
+      → v ≡ taken → Runs (Fails (λ c. first + c)) (Does (λ c. first + c)) Kept v leaves s
+      → HostTurn u.end.each u.end.number v leaves → Comes Right Fails Does Kept o n s
+  ran_shared {o} {n} {u = u} {r = r} {v = v} {leaves = leaves} {s = s} some at is view now count right first takes gave same
+      did turn =
+      subst (λ x. Comes Right Fails Does Kept x n s) (sym (was_shared some at is view))
+      (subst (λ x. Comes Right Fails Does Kept (Some (Shared u.end)) x s) (sym now)
+      (turned u.end r.end takes.found leaves s (subst Right count right)
+      (took_turn takes (subst (λ h. HostTurn u.end.each u.end.number h leaves) same turn) gave)
+      (subst (λ h. Runs (Fails (λ c. first_of u.end + c)) (Does (λ c. first_of u.end + c)) Kept h leaves s)
+      (same ∙ takes.taken_is)
+      (subst (λ f. Runs (Fails (λ c. f + c)) (Does (λ c. f + c)) Kept v leaves s) first did))))
+
+-- a turn of an end may be left
+pub leaves_by : {u t : SharerView} {taken v leaves : HostView} → Takes u t taken → v ≡ taken
+    → HostTurn u.end.each u.end.number v leaves → MayLeave t.end leaves
+leaves_by {u} {leaves = leaves} takes same turn =
+    may_leave takes (subst (λ h. HostTurn u.end.each u.end.number h leaves) same turn)
+
+-- a context of an end, in the host
+pub own_context : (e : EndView) {first c count : ℕ} → first ≡ first_of e → count ≡ e.each → c < count
+    → IsContextOf e.each e.number (first + c)
+own_context e is count low = (omega (arith, is), omega (arith, is, count, low))
 
 -- a host that nothing was done to is as it was
 pub as_it_was : (v : HostView) → IsAsItWas v v
@@ -55,18 +135,18 @@ as_it_was v = record {
   last = refl;
 }
 
-module _ {limits : Limits} {o n : Option HostView} where
-  pub already : {v : HostView} → o ≡ Some v → n ≡ Some v → Opens limits o n IS_OPEN
-  already {v} was now =
+module _ {limits : Limits} {o n : Option End} where
+  pub already : {e : End} → o ≡ Some e → n ≡ Some e → Opens limits o n IS_OPEN
+  already {e} was now =
       subst (λ x. Opens limits x n IS_OPEN) (sym was)
-      (subst (λ x. Opens limits (Some v) x IS_OPEN) (sym now) (is_open v))
+      (subst (λ x. Opens limits (Some e) x IS_OPEN) (sym now) (is_open e))
 
   pub refused : {s : ℕ} → o ≡ None → n ≡ None → Refuses limits s → Opens limits o n s
   refused {s} was now why =
       subst (λ x. Opens limits x n s) (sym was)
       (subst (λ x. Opens limits None x s) (sym now) (refuses s why))
 
-  pub opened : {v : HostView} → o ≡ None → n ≡ Some v → IsOpened limits v → Opens limits o n OK
+  pub opened : {v : HostView} → o ≡ None → n ≡ Some (Own v) → IsOpened limits v → Opens limits o n OK
   opened {v} was now is =
       subst (λ x. Opens limits x n OK) (sym was)
       (subst (λ x. Opens limits None x OK) (sym now) (opens v is))

@@ -26,8 +26,8 @@ use Rattle.std.proofs.alloc.Global.TheLaws as heap_laws
 use Rattle.std.specs.contracts.impls.GlobalAllocator.TheImpl.{ghosts}
 use Rattle.std.proofs.GlobalToken.{dealloc_token-Testable}
 use Rattle.std_alloc.specs.Box.Ownership.{box_owns}
-use Rattle.hd_host.specs.View.{HostView}
-use Rattle.hd_host.specs.contracts.host.Host as host
+use Rattle.hd_ends.specs.declared.end.End.{End}
+use Rattle.hd_ends.specs.contracts.end.End as host
 use Rattle.hdt_c.specs.Held.{owned_at}
 use Rattle.hdt_c.specs.contracts.held.Held as held
 use Rattle.hdt_c.proofs.LooseBoxes.{al, both, both_tt}
@@ -54,7 +54,7 @@ module _ {M : Type 1} {𝓤 : Ura M} {𝓛 : Logic 𝓤} {K : Type 0} {Γ : List
       (subst (λ (ws : List Val). vs ≡ vstruct (of_list (ptr_val d.at ∷ (ws ++ []))) ∷ []) ea
       (subst (λ (ps : List Val). vs ≡ vstruct (of_list (ps ++ (vss.1.0 ++ []))) ∷ []) ep ev)) fits))))
 
-  pub held_in : K → (p : Ptr) (h : Val) (a : Global) (x : Option HostView)
+  pub held_in : K → (p : Ptr) (h : Val) (a : Global) (x : Option End)
       → Step K 𝓛 (‵ (held.the_row.own_val (record { at = p; alloc = a; value = x })
       (both (ptr_val p) h ∷ [])) ∷ Γ) G
       (‵ (owned_at a p x) ∷ ‵ (heap.the_row.own_val a (h ∷ [])) ∷ Γ) G
@@ -78,8 +78,8 @@ module _ {M : Type 1} {𝓤 : Ura M} (𝓛 : Logic 𝓤) (R : RattleType) (a : G
 
 module _ {M : Type 1} {𝓤 : Ura M} {𝓛 : Logic 𝓤} {K : Type 0} {Γ : List (Item 𝓤)} {G : Goal 𝓤 𝓛.H} where
   -- it is closed, and its pointer null, or it is open, and its pointer not
-  pub either_held : K → (a : Global) (p : Ptr) (x : Option HostView) → (x ≡ None → p ≡ null_ptr → Seq K 𝓛 Γ G)
-      → ((b o : ℕ) (v : HostView) → x ≡ Some v → p ≡ block_ptr b o → Testable (block_ptr b o)
+  pub either_held : K → (a : Global) (p : Ptr) (x : Option End) → (x ≡ None → p ≡ null_ptr → Seq K 𝓛 Γ G)
+      → ((b o : ℕ) (v : End) → x ≡ Some v → p ≡ block_ptr b o → Testable (block_ptr b o)
       → Seq K 𝓛 (‵ (box_owns (ghosts.dealloc_token a) host.the_row (block_ptr b o) v) ∷ Γ) G)
       → Seq K 𝓛 (‵ (owned_at a p x) ∷ Γ) G
   either_held t a p None none one = feq_l t (λ e. none refl e)

@@ -4,3 +4,4 @@ pub mod Makes
 pub mod LooseBoxes
 pub mod HeldBoxes
 pub mod HeaderNumbers
+pub mod SharedOpenings

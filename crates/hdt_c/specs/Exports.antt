@@ -1,29 +1,40 @@
 -- What an export comes to, by its status.
-use Rattle.std.specs.Prelude.{◌≡◌, ℕ, ◌<◌, Option, Some, None}
-use Rattle.hd_model.specs.{declared.command.Cmd.Cmd, declared.data.Id.Id, declared.data.Reply.Reply, Command.load_reply}
+use Rattle.std.specs.Prelude.{◌≡◌, ℕ, ◌+◌, ◌<◌, ◌≤◌, false, Option, Some, None}
+use Rattle.hd_model.specs.{declared.command.Cmd.Cmd, declared.data.Id.Id, declared.data.Kind.Kind, declared.data.Make.Make, declared.data.Reply.Reply, declared.data.Strength.Strength, Command.load_reply, Kinds.is_paired, Kinds.kind_number}
 use Rattle.hd_host.specs.declared.fault.Fault.{Fault}
 use Rattle.hd_host.specs.Calls.{FailsBy, FailsOf, HasReplied, RepliesOf}
 use Rattle.hd_host.specs.View.{HostView, IsAsItWas}
-use Rattle.hdt_c.specs.{Arguments.number_of, Status.status_of}
-use Rattle.hdt_c.specs.declared.status.TheConstants.{OK, CLOSED, ARGUMENT}
+use Rattle.hd_ends.specs.{Ends.EndView, Ends.TookTurn, Ends.first_of, Ends.with_last, Opened.contexts_of}
+use Rattle.hd_ends.specs.declared.end.End.{End}
+use Rattle.hd_ends.specs.declared.end.End.TheVariants.{Own, Shared}
+use Rattle.hdt_c.specs.{Arguments.IsMake, Arguments.number_of, Arguments.strength_number, Status.status_of}
+use Rattle.hdt_c.specs.declared.status.TheConstants.{OK, CLOSED, ARGUMENT, BUSY}
 
--- from an open host to one after it, with a status. Right says that the arguments are in range, Fails with
--- which faults the call fails, Does what it comes to where it is done, with which status, and Kept that no
--- out parameter is written.
-pub data Runs (Right : HostView → Type 0) (Fails : HostView → Fault → Type 0)
-    (Does : HostView → HostView → ℕ → Type 0) (Kept : Type 0) : HostView → HostView → ℕ → Type 0 where
-  is_wrong : (v : HostView) → (Right v → ⊥) → Kept → Runs Right Fails Does Kept v v ARGUMENT
-  fails : (v w : HostView) (f : Fault) → Right v → Fails v f → IsAsItWas v w → Kept
-      → Runs Right Fails Does Kept v w (status_of f)
-  does : (v w : HostView) (status : ℕ) → Right v → Does v w status → Runs Right Fails Does Kept v w status
+-- From an open host to one after it, with a status. Fails says with which faults the call fails, Does what it comes
+-- to where it is done, with which status, and Kept that no out parameter is written.
+pub data Runs (Fails : HostView → Fault → Type 0) (Does : HostView → HostView → ℕ → Type 0) (Kept : Type 0)
+    : HostView → HostView → ℕ → Type 0 where
+  fails : (v w : HostView) (f : Fault) → Fails v f → IsAsItWas v w → Kept
+      → Runs Fails Does Kept v w (status_of f)
+  does : (v w : HostView) (status : ℕ) → Does v w status → Runs Fails Does Kept v w status
 
--- the same, where it may be closed
-pub data Comes (Right : HostView → Type 0) (Fails : HostView → Fault → Type 0)
-    (Does : HostView → HostView → ℕ → Type 0) (Kept : Type 0)
-    : Option HostView → Option HostView → ℕ → Type 0 where
-  closed : Kept → Comes Right Fails Does Kept None None CLOSED
-  comes_on : (v w : HostView) (status : ℕ) → Runs Right Fails Does Kept v w status
-      → Comes Right Fails Does Kept (Some v) (Some w) status
+-- What an export comes to, at an end of a host of its own and at one of a shared host. Right says, of how many
+-- contexts the end has, that the arguments are in range. Fails and Does are said by which context of the host each
+-- of the end's is: the same where the host is its own. An end of a shared host may be busy, with nothing done; or it
+-- has its turn, and the call runs in the host that the last turn of all left.
+module _ (Right : ℕ → Type 0) (Fails : (ℕ → ℕ) → HostView → Fault → Type 0)
+    (Does : (ℕ → ℕ) → HostView → HostView → ℕ → Type 0) (Kept : Type 0) where
+  pub data Comes : Option End → Option End → ℕ → Type 0 where
+    closed : Kept → Comes None None CLOSED
+    is_wrong : (e : End) → (Right (contexts_of e) → ⊥) → Kept → Comes (Some e) (Some e) ARGUMENT
+    runs : (v w : HostView) (status : ℕ) → Right v.machine.numbers.callers
+        → Runs (Fails (λ c. c)) (Does (λ c. c)) Kept v w status → Comes (Some (Own v)) (Some (Own w)) status
+    busy : (e : EndView) → Right e.each → Kept → Comes (Some (Shared e)) (Some (Shared e)) BUSY
+    turned : (old new : EndView) (found leaves : HostView) (status : ℕ) → Right old.each
+        → TookTurn old new found leaves
+        → Runs (Fails (λ c. first_of old + c)) (Does (λ c. first_of old + c)) Kept (with_last found old.last) leaves
+        status
+        → Comes (Some (Shared old)) (Some (Shared new)) status
 
 -- a call that has no out parameter, that cannot fail, or that takes no argument which may be out of range
 abbrev pub KeepsNothing : Type 0
@@ -32,22 +43,32 @@ KeepsNothing = Unit {0}
 abbrev pub NeverFails : HostView → Fault → Type 0
 NeverFails v f = ⊥
 
-abbrev pub AlwaysRight : HostView → Type 0
-AlwaysRight v = Unit {0}
+abbrev pub AlwaysRight : ℕ → Type 0
+AlwaysRight contexts = Unit {0}
 
--- a context of a host, and a local or a static of it
-abbrev pub InContext : HostView → ℕ → Type 0
-InContext v c = c < v.machine.numbers.callers
-
+-- a local or a static, and a context of so many with a local, and with two
 abbrev pub IsLocal : ℕ → Type 0
 IsLocal d = d < 16
 
--- a context with a local or a static, and with two
-abbrev pub HasLocal : ℕ → ℕ → HostView → Type 0
-HasLocal c d v = InContext v c × IsLocal d
+abbrev pub HasLocal : ℕ → ℕ → ℕ → Type 0
+HasLocal c d contexts = (c < contexts) × IsLocal d
 
-abbrev pub HasLocals : ℕ → ℕ → ℕ → HostView → Type 0
-HasLocals c d e v = InContext v c × IsLocal d × IsLocal e
+abbrev pub HasLocals : ℕ → ℕ → ℕ → ℕ → Type 0
+HasLocals c d e contexts = (c < contexts) × IsLocal d × IsLocal e
+
+-- the arguments of a new object and of a new handle, a strength, and a kind that has no extra block
+abbrev pub IsObject : ℕ → ℕ → ℕ → ℕ → ℕ → Type 0
+IsObject c dst fields flags contexts = HasLocal c dst contexts × (fields ≤ 61) × (flags < 2)
+
+abbrev pub IsNewHandle : ℕ → ℕ → ℕ → ℕ → ℕ → Type 0
+IsNewHandle c kind target extra contexts =
+    HasLocal c target contexts × ((made : Make) × IsMake made kind extra)
+
+abbrev pub IsStrength : ℕ → Type 0
+IsStrength number = (given : Strength) × (strength_number given ≡ number)
+
+abbrev pub IsUnpaired : ℕ → Type 0
+IsUnpaired number = (of : Kind) × (kind_number of ≡ number) × (is_paired of ≡ false)
 
 -- a command of a context fails, and one on a handle does
 abbrev pub FailsIn : ℕ → Cmd → HostView → Fault → Type 0

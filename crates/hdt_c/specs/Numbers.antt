@@ -8,7 +8,7 @@ use Rattle.hd_host.specs.declared.fault.Fault.TheVariants as fault
 use Rattle.hdt_c.specs.Arguments.{strength_number}
 use Rattle.hdt_c.specs.Status.{status_of}
 use Rattle.hdt_c.specs.declared.on_host.TheConstants.{ABI}
-use Rattle.hdt_c.specs.declared.on_objects.TheConstants.{FINALIZABLE}
+use Rattle.hdt_c.specs.declared.arguments.TheConstants.{FINALIZABLE}
 use Rattle.hdt_c.specs.declared.status.TheConstants.{OK, CLOSED, IS_OPEN, ARGUMENT, NO_MEMORY, EXHAUSTED, STALE, WRONG_KIND, COUNT_ZERO, NULL, NO_FIELD, PRESENT, HEAP_FULL, TABLE_FULL, NONE, BUSY, ROOM}
 
 -- whether no number comes twice

@@ -1,5 +1,7 @@
 -- What lies at out parameters after an export.
 use Rattle.std.specs.Prelude.{[], ◌∷◌, ◌≡◌, ℕ, ◌+◌, ◌*◌, ◌≤◌, ◌⊎◌, List, ◌++◌, drop, length, map, replicate, Option, Some, None, IsSome}
+use Rattle.std.specs.List.{Contains}
+use Rattle.atomic_table.specs.Seated.{TableId}
 use Rattle.std.specs.FinMap.{len}
 use Rattle.hd_model.specs.{Kinds.kind_number, declared.data.Id.Id, declared.data.Report.Report as Collected, declared.data.Slot.Slot}
 use Rattle.hd_model.specs.declared.limits.TheConstants.{CLUMPS, OLDEST, ROWS}
@@ -10,9 +12,13 @@ use Rattle.hd_store.specs.declared.collection_calls.Root.{Root as HostRoot}
 use Rattle.hd_host.specs.declared.observing.Listed.{Listed}
 use Rattle.hd_store.specs.declared.entry_calls.Lookup.{Lookup}
 use Rattle.hd_store.specs.declared.entry_calls.Lookup.TheVariants as found
-use Rattle.hdt_c.specs.Arguments.{extra_number, number_of}
-use Rattle.hdt_c.specs.declared.parts.{Info.Info, Limits.Limits, Report.Report, Root.Root, Stats.Stats}
-use Rattle.hdt_c.specs.declared.status.TheConstants.{OK, IS_OPEN, ARGUMENT, NO_MEMORY, NONE}
+use Rattle.hd_ends.specs.Ends.{EndView, ends_up, turn_of}
+use Rattle.hd_ends.specs.declared.end.End.{End}
+use Rattle.hd_ends.specs.declared.end.End.TheVariants.{Own, Shared}
+use Rattle.hdt_c.specs.Arguments.{change_out, extra_number, number_of}
+use Rattle.hdt_c.specs.declared.held.Held.{Held}
+use Rattle.hdt_c.specs.declared.parts.{Change.Change, Info.Info, Limits.Limits, Report.Report, Root.Root, Stats.Stats}
+use Rattle.hdt_c.specs.declared.status.TheConstants.{OK, CLOSED, IS_OPEN, ARGUMENT, NO_MEMORY, NONE}
 
 -- the limits of a host
 abbrev pub numbers_in : Limits → Numbers
@@ -33,11 +39,46 @@ Refuses limits status =
     ((HasLimits (numbers_in limits) → ⊥) × (status ≡ ARGUMENT))
     ⊎ (HasLimits (numbers_in limits) × (status ≡ NO_MEMORY))
 
--- a host is opened, or not: it is open, or none is opened
-pub data Opens (limits : Limits) : Option HostView → Option HostView → ℕ → Type 0 where
-  is_open : (v : HostView) → Opens limits (Some v) (Some v) IS_OPEN
+-- a host is opened with an end of its own, or not: the end is open, or none is opened
+pub data Opens (limits : Limits) : Option End → Option End → ℕ → Type 0 where
+  is_open : (e : End) → Opens limits (Some e) (Some e) IS_OPEN
   refuses : (status : ℕ) → Refuses limits status → Opens limits None None status
-  opens : (v : HostView) → IsOpened limits v → Opens limits None (Some v) OK
+  opens : (v : HostView) → IsOpened limits v → Opens limits None (Some (Own v)) OK
+
+-- what C holds
+abbrev pub values_of : List Held → List (Option End)
+values_of ends = map (λ (h : Held). h.value) ends
+
+-- limits are those of so many ends with so many contexts each
+abbrev pub AreOfEnds : Limits → ℕ → ℕ → Type 0
+AreOfEnds limits count each =
+    (1 ≤ count) × (count ≤ 16) × (limits.contexts ≡ count * each) × HasLimits (numbers_in limits)
+
+-- none is opened: a limit is out of range, or the contexts are not those of so many ends; or memory ran out
+abbrev pub RefusesShared : Limits → ℕ → ℕ → Type 0
+RefusesShared limits count status =
+    (((each : ℕ) → AreOfEnds limits count each → ⊥) × (status ≡ ARGUMENT))
+    ⊎ (((each : ℕ) × AreOfEnds limits count each) × (status ≡ NO_MEMORY))
+
+-- all ends of a host are opened, by their numbers from 0, or none is: one of them is open, or none is opened
+pub data OpensShared (limits : Limits) : List (Option End) → List (Option End) → ℕ → Type 0 where
+  one_is_open : (ends : List (Option End)) (e : End) → Contains ends (Some e)
+      → OpensShared limits ends ends IS_OPEN
+  refuses_all : (count status : ℕ) → RefusesShared limits count status
+      → OpensShared limits (replicate count None) (replicate count None) status
+  opens_all : (count each : ℕ) (table : TableId) (v : HostView) → AreOfEnds limits count each → IsOpened limits v
+      → OpensShared limits (replicate count None)
+      (map (λ (e : EndView). Some (Shared e)) (ends_up table each v count)) OK
+
+-- what the last call of an end that was done did, with the number of the end's last turn
+abbrev pub last_out : End → Change
+last_out (Own v) = change_out 0 v.last
+last_out (Shared e) = change_out (turn_of e) e.last
+
+-- it is told, or the end is closed. No turn is taken.
+pub data TellsLast (old new : Change) : Option End → Option End → ℕ → Type 0 where
+  closed : new ≡ old → TellsLast old new None None CLOSED
+  tells : (e : End) → new ≡ last_out e → TellsLast old new (Some e) (Some e) OK
 
 -- what is found in the weak table; where it has no entry, nothing is written
 abbrev pub IsFound : Lookup → (old new status : ℕ) → Type 0

@@ -1,17 +1,21 @@
 // What C passes, as a host takes it, and what a host returns, as C gets it.
 ghost use Rattle.std.specs.Prelude.{◌≡◌, ◌<◌, ◌≤◌, MatchOption, IfSome};
+ghost use Rattle.std.specs.Bool.{OnFalse, OnTrue};
 ghost use Rattle.hd_model.specs.declared.data.Make.{Make};
 ghost use Rattle.hd_model.specs.Kinds.{kind_number};
 ghost use Rattle.hd_model.specs.Valid.{IsValidMake};
-ghost use Rattle.hdt_c.specs.Exports.{HasLocal, HasLocals};
+ghost use Rattle.hdt_c.specs.Exports.{HasLocal, HasLocals, IsNewHandle, IsObject, IsStrength, IsUnpaired};
 ghost use Rattle.hdt_c.specs.Arguments.{IsMake, block_number, change_out, extra_number, field_number, number_of, strength_number};
 
 use crate::parts::Change;
-use hd_host::{ExtraInfo, Host};
+use hd_host::ExtraInfo;
 use hd_model::limits::{FIELDS, OLDEST, REGISTERS};
 use hd_model::{Id, Kind, Make, Strength};
 
-/// The number of a local, of a static, or of a register of a secondary.
+/// The flag of an object that is registered for finalization.
+pub(crate) const FINALIZABLE: u32 = 1;
+
+// The number of a register of a secondary.
 fn local(number: u32) -> Option<u8>
     ensures { MatchOption result (REGISTERS ≤ number) (λ d. (d ≡ number) × (d < REGISTERS)) }
 {
@@ -22,45 +26,38 @@ fn local(number: u32) -> Option<u8>
     }
 }
 
-/// The number of a local of a context, where both are in range.
+/// Whether a context of so many has a local.
 #[inline(always)]
-pub(crate) fn local_in(host: &Host, c: u32, number: u32) -> Option<u8>
-    ensures { MatchOption result (HasLocal c number host.now → ⊥)
-        (λ d. (d ≡ number) × HasLocal c number host.now) }
+pub(crate) fn has_local(contexts: u32, c: u32, number: u32) -> bool
+    ensures yes { OnTrue result (HasLocal c number contexts) }
+    ensures no { OnFalse result (HasLocal c number contexts → ⊥) }
 {
-    if c >= host.contexts() {
-        return None;
-    }
-    let Some(d) = local(number) else {
-        return None;
-    };
-    Some(d)
+    c < contexts && number < REGISTERS
 }
 
-/// The numbers of two locals, or of a local and a static.
+/// Whether it has two, or a local and there is a static.
 #[inline(always)]
-pub(crate) fn locals_in(host: &Host, c: u32, one: u32, other: u32) -> Option<(u8, u8)>
-    ensures { MatchOption result (HasLocals c one other host.now → ⊥)
-        (λ both. (both.0 ≡ one) × (both.1 ≡ other) × HasLocals c one other host.now) }
+pub(crate) fn has_locals(contexts: u32, c: u32, one: u32, other: u32) -> bool
+    ensures yes { OnTrue result (HasLocals c one other contexts) }
+    ensures no { OnFalse result (HasLocals c one other contexts → ⊥) }
 {
-    let Some(one) = local_in(host, c, one) else {
-        return None;
-    };
-    let Some(other) = local(other) else {
-        return None;
-    };
-    Some((one, other))
+    has_local(contexts, c, one) && other < REGISTERS
 }
 
-/// A number of fields.
-pub(crate) fn count_of_fields(number: u32) -> Option<u8>
-    ensures { MatchOption result (FIELDS < number) (λ d. (d ≡ number) × (d ≤ FIELDS)) }
+/// Whether an object may be made: a context has the local, and the numbers are in range.
+pub(crate) fn is_object(contexts: u32, c: u32, dst: u32, fields: u32, flags: u32) -> bool
+    ensures yes { OnTrue result (IsObject c dst fields flags contexts) }
+    ensures no { OnFalse result (IsObject c dst fields flags contexts → ⊥) }
 {
-    if number <= FIELDS {
-        Some(number as u8)
-    } else {
-        None
-    }
+    has_local(contexts, c, dst) && fields <= FIELDS && flags <= FINALIZABLE
+}
+
+/// Whether a handle may be made: a context has the local, and the kind takes the extra.
+pub(crate) fn is_new_handle(contexts: u32, c: u32, kind: u32, target: u32, extra: u32) -> bool
+    ensures yes { OnTrue result (IsNewHandle c kind target extra contexts) }
+    ensures no { OnFalse result (IsNewHandle c kind target extra contexts → ⊥) }
+{
+    has_local(contexts, c, target) && make(kind, extra).is_some()
 }
 
 /// The number of a field. No object has one of a number above 255, so each of these serves for all.
@@ -70,15 +67,12 @@ pub(crate) fn field(number: u32) -> u8
     if number < 256 { number as u8 } else { 255 }
 }
 
-/// A generation.
-pub(crate) fn generation_of(number: u32) -> Option<u8>
-    ensures { MatchOption result (OLDEST < number) (λ n. (n ≡ number) × (n ≤ OLDEST)) }
+/// Whether there is such a generation.
+pub(crate) fn is_generation(number: u32) -> bool
+    ensures yes { OnTrue result (number ≤ 2) }
+    ensures no { OnFalse result (number ≤ 2 → ⊥) }
 {
-    if number <= u32::from(OLDEST) {
-        Some(number as u8)
-    } else {
-        None
-    }
+    number <= u32::from(OLDEST)
 }
 
 /// A kind.
@@ -104,6 +98,17 @@ pub(crate) fn number_of_kind(kind: Kind) -> u32
     kind.number()
 }
 
+/// Whether it is the number of a kind that has no extra block.
+pub(crate) fn is_unpaired(number: u32) -> bool
+    ensures yes { OnTrue result (IsUnpaired number) }
+    ensures no { OnFalse result (IsUnpaired number → ⊥) }
+{
+    match kind_of(number) {
+        Some(kind) => !kind.paired(),
+        None => false,
+    }
+}
+
 /// A strength.
 pub(crate) fn strength_of(number: u32) -> Option<Strength>
     ensures { MatchOption result (3 < number) (λ s. strength_number s ≡ number) }
@@ -115,6 +120,14 @@ pub(crate) fn strength_of(number: u32) -> Option<Strength>
         3 => Some(Strength::Pinned),
         _ => None,
     }
+}
+
+/// Whether it is the number of a strength.
+pub(crate) fn is_strength(number: u32) -> bool
+    ensures yes { OnTrue result (IsStrength number) }
+    ensures no { OnFalse result (IsStrength number → ⊥) }
+{
+    strength_of(number).is_some()
 }
 
 // The number of a strength.

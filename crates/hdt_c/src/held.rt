@@ -1,32 +1,85 @@
-// A host as C holds it: a pointer, null where it is closed.
+// An end as C holds it: a pointer, null where it is closed.
 ghost use Rattle.std.specs.Prelude.{◌≡◌, None, Some, Option, option_map};
 ghost use Rattle.std.specs.Coded.{coded_option};
-ghost use Rattle.hd_host.specs.View.{HostView, host_view_code};
+ghost use Rattle.hd_ends.specs.declared.end.End.{End};
+ghost use Rattle.hd_ends.specs.contracts.end.End as end_contract;
 
 use crate::loose::Loose;
-use hd_host::Host;
+use hd_ends::End;
 use std::alloc::Global;
 use std::marker::Model;
 use std::mem::replace;
 use std::ptr::null_mut;
 
-/// `hdt_host`: a pointer to the host that it owns, null where it is closed.
+/// `hdt_host`: a pointer to the end that it owns, null where it is closed.
 #[repr(C)]
 pub struct Held {
     at: *mut u8,
     alloc: Global,
-    pub ghost value: { Option HostView } by { coded_option host_view_code },
+    pub ghost value: { Option End } by { coded_option end_contract.the_row.coded },
 }
 
-/// Calls a function on the host, unless that is closed, and returns its status.
+/// Calls a function on the host of an end at its turn, where the arguments are in range, and returns
+/// its status. With `in c` the function also takes a context, which is the end's own.
 macro_rules! on_open {
-    ($alloc:ident, $host:ident, $call:ident($($argument:ident),+)) => {{
-        let Some(mut inside) = $crate::held::take($alloc, $host) else {
+    ($alloc:ident, $held:ident, in $c:ident, $call:ident($($argument:ident),+)
+        if $check:ident($($asked:ident),+)) => {{
+        let Some(mut end) = $crate::held::take($alloc, $held) else {
             return $crate::status::CLOSED;
         };
-        let status = $call(&mut inside, $($argument),+);
-        $crate::held::put($host, inside);
-        status
+        match &mut *end {
+            hd_ends::End::Own(own) => {
+                if !$check(own.contexts(), $c, $($asked),+) {
+                    $crate::held::put($held, end);
+                    return $crate::status::ARGUMENT;
+                }
+                let status = $call(own, $c, $($argument),+);
+                $crate::held::put($held, end);
+                status
+            }
+            hd_ends::End::Shared(shared) => {
+                if !$check(shared.sharer.contexts(), $c, $($asked),+) {
+                    $crate::held::put($held, end);
+                    return $crate::status::ARGUMENT;
+                }
+                let at = shared.sharer.first() + $c;
+                let Some(mut taken) = shared.sharer.enter() else {
+                    $crate::held::put($held, end);
+                    return $crate::status::BUSY;
+                };
+                let status = $call(&mut taken, at, $($argument),+);
+                shared.sharer.leave(taken);
+                $crate::held::put($held, end);
+                status
+            }
+        }
+    }};
+    ($alloc:ident, $held:ident, $call:ident($($argument:ident),+)
+        $(if $check:ident($($asked:ident),+))?) => {{
+        let Some(mut end) = $crate::held::take($alloc, $held) else {
+            return $crate::status::CLOSED;
+        };
+        $(if !$check($($asked),+) {
+            $crate::held::put($held, end);
+            return $crate::status::ARGUMENT;
+        })?
+        match &mut *end {
+            hd_ends::End::Own(own) => {
+                let status = $call(own, $($argument),+);
+                $crate::held::put($held, end);
+                status
+            }
+            hd_ends::End::Shared(shared) => {
+                let Some(mut taken) = shared.sharer.enter() else {
+                    $crate::held::put($held, end);
+                    return $crate::status::BUSY;
+                };
+                let status = $call(&mut taken, $($argument),+);
+                shared.sharer.leave(taken);
+                $crate::held::put($held, end);
+                status
+            }
+        }
     }};
 }
 
@@ -50,21 +103,21 @@ impl Held {
         }
     }
 
-    // One that owns a host.
+    // One that owns an end.
     #[inline(always)]
-    fn seal(host: Loose<Host, Global>) -> Held
-        ensures { result.value ≡ Some host.value }
+    fn seal(end: Loose<End, Global>) -> Held
+        ensures { result.value ≡ Some end.value }
     {
-        let Loose { at, alloc } = host;
+        let Loose { at, alloc } = end;
         Held {
             at: at as *mut u8,
             alloc,
         }
     }
 
-    // The host that it owned, if it was open.
+    // The end that it owned, if it was open.
     #[inline(always)]
-    fn unseal(self) -> Option<Loose<Host, Global>>
+    fn unseal(self) -> Option<Loose<End, Global>>
         ensures { option_map (λ l. l.value) result ≡ self.value }
     {
         let Held { at, alloc } = self;
@@ -72,7 +125,7 @@ impl Held {
             None
         } else {
             Some(Loose {
-                at: at as *mut Host,
+                at: at as *mut End,
                 alloc,
             })
         }
@@ -87,34 +140,34 @@ impl Held {
     }
 }
 
-// The host as a box, if there is one.
+// The end as a box, if there is one.
 #[inline(always)]
-fn boxed(host: Option<Loose<Host, Global>>) -> Option<Box<Host>>
-    ensures { option_map (λ b. b.value) result ≡ option_map (λ l. l.value) host }
+fn boxed(end: Option<Loose<End, Global>>) -> Option<Box<End>>
+    ensures { option_map (λ b. b.value) result ≡ option_map (λ l. l.value) end }
 {
-    match host {
-        Some(host) => Some(host.into_box()),
+    match end {
+        Some(end) => Some(end.into_box()),
         None => None,
     }
 }
 
-/// Takes the host out, which is closed from then on.
+/// Takes the end out, which is closed from then on.
 #[inline(always)]
-pub(crate) fn take(alloc: Global, held: &mut Held) -> Option<Box<Host>>
+pub(crate) fn take(alloc: Global, held: &mut Held) -> Option<Box<End>>
     ensures value { option_map (λ b. b.value) result ≡ held.old.value }
     ensures closed { held.new.value ≡ None }
 {
     boxed(replace(held, Held::closed(alloc)).unseal())
 }
 
-/// Puts a host in, where it was closed.
+/// Puts an end in, where it was closed.
 #[inline(always)]
-pub(crate) fn put(held: &mut Held, host: Box<Host>)
+pub(crate) fn put(held: &mut Held, end: Box<End>)
     requires { held.old.value ≡ None }
-    ensures { held.new.value ≡ Some host.value }
+    ensures { held.new.value ≡ Some end.value }
 {
-    replace(held, Held::seal(Loose::of(host))).end();
+    replace(held, Held::seal(Loose::of(end))).end();
 }
 
-// What it owns is a host in a box, and no thread has a part of either: it may go to another thread.
+// What it owns is an end in a box, and no thread has a part of either: it may go to another thread.
 unsafe impl Send for Held {}

@@ -5,6 +5,7 @@ mod arguments;
 mod held;
 mod loose;
 mod numbers;
+mod on_ends;
 mod on_entries;
 mod on_handles;
 mod on_host;

@@ -7,46 +7,34 @@ ghost use Rattle.hdt_c.specs.Arguments.{number_of};
 ghost use Rattle.hdt_c.specs.Exports.{Comes, Runs, KeepsNothing, HasLocal, HasLocals, FailsIn, Returns};
 ghost use Rattle.hdt_c.specs.Outs.{IsFound};
 
-use crate::arguments::{local_in, locals_in, number_of};
+use crate::arguments::{has_local, has_locals, number_of};
 use crate::held::{Held, on_open};
-use crate::status::{ARGUMENT, NONE, OK, status, status_of};
+use crate::status::{NONE, OK, status, status_of};
 use hd_host::{Host, Lookup};
 use std::alloc::Global;
 
 // Adds an entry to the weak table.
 fn table_add(host: &mut Host, c: u32, key: u32, value: u32) -> u32
-    ensures { let command = cmd.CAdd key value in
-        Runs (HasLocals c key value) (FailsIn c command)
-        (λ v w s. AddsEntry v c key value w × (s ≡ OK)) KeepsNothing host.old host.new result }
+    requires { HasLocals c key value host.old.machine.numbers.callers }
+    ensures { let command = cmd.CAdd key value in Runs (FailsIn c command) (λ v w s. AddsEntry v c key value w × (s ≡ OK)) KeepsNothing host.old host.new result }
 {
-    let Some((key, value)) = locals_in(host, c, key, value) else {
-        return ARGUMENT;
-    };
-    status(host.table_add(c, key, value))
+    status(host.table_add(c, key as u8, value as u8))
 }
 
 /// `hdt_table_add`.
 #[unsafe(no_mangle)]
 pub extern "C" fn hdt_table_add(alloc: Global, host: &mut Held, c: u32, key: u32, value: u32) -> u32
-    ensures { let command = cmd.CAdd key value in
-        Comes (HasLocals c key value) (FailsIn c command)
-        (λ v w s. AddsEntry v c key value w × (s ≡ OK)) KeepsNothing host.old.value host.new.value
-        result }
+    ensures { let command = cmd.CAdd key value in Comes (HasLocals c key value) (λ at. FailsIn (at c) command) (λ at. λ v w s. AddsEntry v (at c) key value w × (s ≡ OK)) KeepsNothing host.old.value host.new.value result }
 {
-    on_open!(alloc, host, table_add(c, key, value))
+    on_open!(alloc, host, in c, table_add(key, value) if has_locals(key, value))
 }
 
 // Looks an entry up.
 fn table_find(host: &mut Host, c: u32, dst: u32, key: u32, id: &mut u64) -> u32
-    ensures { let command = cmd.CFind dst key in
-        Runs (HasLocals c dst key) (FailsIn c command)
-        (Returns c command found_reply (λ found. IsFound found id.old id.new))
-        (id.new ≡ id.old) host.old host.new result }
+    requires { HasLocals c dst key host.old.machine.numbers.callers }
+    ensures { let command = cmd.CFind dst key in Runs (FailsIn c command) (Returns c command found_reply (λ found. IsFound found id.old id.new)) (id.new ≡ id.old) host.old host.new result }
 {
-    let Some((dst, key)) = locals_in(host, c, dst, key) else {
-        return ARGUMENT;
-    };
-    match host.table_find(c, dst, key) {
+    match host.table_find(c, dst as u8, key as u8) {
         Ok(found) => write_found(found, id),
         Err(fault) => status_of(fault),
     }
@@ -67,33 +55,18 @@ fn write_found(found: Lookup, id: &mut u64) -> u32
 
 /// `hdt_table_find`.
 #[unsafe(no_mangle)]
-pub extern "C" fn hdt_table_find(
-    alloc: Global,
-    host: &mut Held,
-    c: u32,
-    dst: u32,
-    key: u32,
-    id: &mut u64,
-) -> u32
-    ensures { let command = cmd.CFind dst key in
-        Comes (HasLocals c dst key) (FailsIn c command)
-        (Returns c command found_reply (λ found. IsFound found id.old id.new))
-        (id.new ≡ id.old) host.old.value host.new.value result }
+pub extern "C" fn hdt_table_find(alloc: Global, host: &mut Held, c: u32, dst: u32, key: u32, id: &mut u64) -> u32
+    ensures { let command = cmd.CFind dst key in Comes (HasLocals c dst key) (λ at. FailsIn (at c) command) (λ at. Returns (at c) command found_reply (λ found. IsFound found id.old id.new)) (id.new ≡ id.old) host.old.value host.new.value result }
 {
-    on_open!(alloc, host, table_find(c, dst, key, id))
+    on_open!(alloc, host, in c, table_find(dst, key, id) if has_locals(dst, key))
 }
 
 // Takes an entry out.
 fn table_remove(host: &mut Host, c: u32, key: u32) -> u32
-    ensures { let command = cmd.CRemove key in
-        Runs (HasLocal c key) (FailsIn c command)
-        (Returns c command removed_reply (λ removed s. s ≡ (if removed then OK else NONE)))
-        KeepsNothing host.old host.new result }
+    requires { HasLocal c key host.old.machine.numbers.callers }
+    ensures { let command = cmd.CRemove key in Runs (FailsIn c command) (Returns c command removed_reply (λ removed s. s ≡ (if removed then OK else NONE))) KeepsNothing host.old host.new result }
 {
-    let Some(key) = local_in(host, c, key) else {
-        return ARGUMENT;
-    };
-    match host.table_remove(c, key) {
+    match host.table_remove(c, key as u8) {
         Ok(removed) => status_of_removed(removed),
         Err(fault) => status_of(fault),
     }
@@ -109,10 +82,7 @@ fn status_of_removed(removed: bool) -> u32
 /// `hdt_table_remove`.
 #[unsafe(no_mangle)]
 pub extern "C" fn hdt_table_remove(alloc: Global, host: &mut Held, c: u32, key: u32) -> u32
-    ensures { let command = cmd.CRemove key in
-        Comes (HasLocal c key) (FailsIn c command)
-        (Returns c command removed_reply (λ removed s. s ≡ (if removed then OK else NONE)))
-        KeepsNothing host.old.value host.new.value result }
+    ensures { let command = cmd.CRemove key in Comes (HasLocal c key) (λ at. FailsIn (at c) command) (λ at. Returns (at c) command removed_reply (λ removed s. s ≡ (if removed then OK else NONE))) KeepsNothing host.old.value host.new.value result }
 {
-    on_open!(alloc, host, table_remove(c, key))
+    on_open!(alloc, host, in c, table_remove(key) if has_local(key))
 }

@@ -8,31 +8,25 @@ ghost use Rattle.hd_host.specs.declared.fault.Fault.TheVariants.{Stale};
 ghost use Rattle.hd_host.specs.Handles.{IsOf, IsStale};
 ghost use Rattle.hd_host.specs.Calls.{FreesHandle, MakesHandle};
 ghost use Rattle.hdt_c.specs.Arguments.{IsMake, number_of, strength_number};
-ghost use Rattle.hdt_c.specs.Exports.{Comes, Runs, KeepsNothing, NeverFails, AlwaysRight, InContext, IsLocal, HasLocal, FailsIn, FailsAt, RepliesAt, LoadsAt};
+ghost use Rattle.hdt_c.specs.Exports.{Comes, Runs, KeepsNothing, NeverFails, AlwaysRight, IsNewHandle, IsStrength, HasLocal, FailsIn, FailsAt, RepliesAt, LoadsAt};
 ghost use Rattle.hdt_c.specs.Outs.{AreListed, ListsFrom};
 
-use crate::arguments::{local_in, make, number_of, number_of_extra, number_of_kind, strength_of};
+use crate::arguments::{has_local, is_new_handle, is_strength, make, number_of, number_of_extra, number_of_kind, strength_of};
 use crate::held::{Held, on_open};
 use crate::parts::Info;
-use crate::status::{ARGUMENT, OK, status, status_of};
+use crate::status::{OK, status, status_of};
 use hd_host::{Handle, Host};
 use std::alloc::Global;
 
 // Makes a handle.
 fn handle_new(host: &mut Host, c: u32, kind: u32, target: u32, extra: u32, out: &mut u64) -> u32
-    ensures { Runs (λ v. InContext v c × IsLocal target × ((made : Make) × IsMake made kind extra))
-        (λ v f. (made : Make) × IsMake made kind extra × FailsIn c (cmd.HNew 0 made target) v f)
-        (λ v w s. (made : Make) × IsMake made kind extra ×
-        MakesHandle v c made target w (record { 0 = out.new }) × (s ≡ OK))
-        (out.new ≡ out.old) host.old host.new result }
+    requires { IsNewHandle c kind target extra host.old.machine.numbers.callers }
+    ensures { Runs (λ v f. (made : Make) × IsMake made kind extra × FailsIn c (cmd.HNew 0 made target) v f) (λ v w s. (made : Make) × IsMake made kind extra × MakesHandle v c made target w (record { 0 = out.new }) × (s ≡ OK)) (out.new ≡ out.old) host.old host.new result }
 {
-    let Some(target) = local_in(host, c, target) else {
-        return ARGUMENT;
-    };
     let Some(made) = make(kind, extra) else {
-        return ARGUMENT;
+        unreachable!()
     };
-    match host.handle_new(c, made, target) {
+    match host.handle_new(c, made, target as u8) {
         Ok(handle) => {
             *out = handle.0;
             OK
@@ -43,30 +37,15 @@ fn handle_new(host: &mut Host, c: u32, kind: u32, target: u32, extra: u32, out: 
 
 /// `hdt_handle_new`.
 #[unsafe(no_mangle)]
-pub extern "C" fn hdt_handle_new(
-    alloc: Global,
-    host: &mut Held,
-    c: u32,
-    kind: u32,
-    target: u32,
-    extra: u32,
-    out: &mut u64,
-) -> u32
-    ensures { Comes (λ v. InContext v c × IsLocal target × ((made : Make) × IsMake made kind extra))
-        (λ v f. (made : Make) × IsMake made kind extra × FailsIn c (cmd.HNew 0 made target) v f)
-        (λ v w s. (made : Make) × IsMake made kind extra ×
-        MakesHandle v c made target w (record { 0 = out.new }) × (s ≡ OK))
-        (out.new ≡ out.old) host.old.value host.new.value result }
+pub extern "C" fn hdt_handle_new(alloc: Global, host: &mut Held, c: u32, kind: u32, target: u32, extra: u32, out: &mut u64) -> u32
+    ensures { Comes (IsNewHandle c kind target extra) (λ at. λ v f. (made : Make) × IsMake made kind extra × FailsIn (at c) (cmd.HNew 0 made target) v f) (λ at. λ v w s. (made : Make) × IsMake made kind extra × MakesHandle v (at c) made target w (record { 0 = out.new }) × (s ≡ OK)) (out.new ≡ out.old) host.old.value host.new.value result }
 {
-    on_open!(alloc, host, handle_new(c, kind, target, extra, out))
+    on_open!(alloc, host, in c, handle_new(kind, target, extra, out) if is_new_handle(kind, target, extra))
 }
 
 // Frees a handle.
 fn handle_free(host: &mut Host, handle: u64) -> u32
-    ensures { let command = cmd.HFree 0 in
-        Runs AlwaysRight (FailsAt 0 handle command)
-        (λ v w s. FreesHandle v (record { 0 = handle }) w × (s ≡ OK)) KeepsNothing host.old host.new
-        result }
+    ensures { let command = cmd.HFree 0 in Runs (FailsAt 0 handle command) (λ v w s. FreesHandle v (record { 0 = handle }) w × (s ≡ OK)) KeepsNothing host.old host.new result }
 {
     status(host.handle_free(Handle(handle)))
 }
@@ -74,24 +53,17 @@ fn handle_free(host: &mut Host, handle: u64) -> u32
 /// `hdt_handle_free`.
 #[unsafe(no_mangle)]
 pub extern "C" fn hdt_handle_free(alloc: Global, host: &mut Held, handle: u64) -> u32
-    ensures { let command = cmd.HFree 0 in
-        Comes AlwaysRight (FailsAt 0 handle command)
-        (λ v w s. FreesHandle v (record { 0 = handle }) w × (s ≡ OK)) KeepsNothing host.old.value
-        host.new.value result }
+    ensures { let command = cmd.HFree 0 in Comes AlwaysRight (λ at. FailsAt 0 handle command) (λ at. λ v w s. FreesHandle v (record { 0 = handle }) w × (s ≡ OK)) KeepsNothing host.old.value host.new.value result }
 {
     on_open!(alloc, host, handle_free(handle))
 }
 
 // Loads a target.
 fn handle_get(host: &mut Host, c: u32, handle: u64, dst: u32, id: &mut u64) -> u32
-    ensures { let command = cmd.HGet dst 0 in
-        Runs (HasLocal c dst) (FailsAt c handle command) (LoadsAt c handle command id.new)
-        (id.new ≡ id.old) host.old host.new result }
+    requires { HasLocal c dst host.old.machine.numbers.callers }
+    ensures { let command = cmd.HGet dst 0 in Runs (FailsAt c handle command) (LoadsAt c handle command id.new) (id.new ≡ id.old) host.old host.new result }
 {
-    let Some(dst) = local_in(host, c, dst) else {
-        return ARGUMENT;
-    };
-    match host.handle_get(c, Handle(handle), dst) {
+    match host.handle_get(c, Handle(handle), dst as u8) {
         Ok(load_reply) => {
             *id = number_of(load_reply);
             OK
@@ -102,57 +74,31 @@ fn handle_get(host: &mut Host, c: u32, handle: u64, dst: u32, id: &mut u64) -> u
 
 /// `hdt_handle_get`.
 #[unsafe(no_mangle)]
-pub extern "C" fn hdt_handle_get(
-    alloc: Global,
-    host: &mut Held,
-    c: u32,
-    handle: u64,
-    dst: u32,
-    id: &mut u64,
-) -> u32
-    ensures { let command = cmd.HGet dst 0 in
-        Comes (HasLocal c dst) (FailsAt c handle command) (LoadsAt c handle command id.new)
-        (id.new ≡ id.old) host.old.value host.new.value result }
+pub extern "C" fn hdt_handle_get(alloc: Global, host: &mut Held, c: u32, handle: u64, dst: u32, id: &mut u64) -> u32
+    ensures { let command = cmd.HGet dst 0 in Comes (HasLocal c dst) (λ at. FailsAt (at c) handle command) (λ at. LoadsAt (at c) handle command id.new) (id.new ≡ id.old) host.old.value host.new.value result }
 {
-    on_open!(alloc, host, handle_get(c, handle, dst, id))
+    on_open!(alloc, host, in c, handle_get(handle, dst, id) if has_local(dst))
 }
 
 // Stores a target.
 fn handle_set(host: &mut Host, c: u32, handle: u64, src: u32) -> u32
-    ensures { let command = cmd.HSet 0 src in
-        Runs (HasLocal c src) (FailsAt c handle command) (RepliesAt c handle command reply.Done)
-        KeepsNothing host.old host.new result }
+    requires { HasLocal c src host.old.machine.numbers.callers }
+    ensures { let command = cmd.HSet 0 src in Runs (FailsAt c handle command) (RepliesAt c handle command reply.Done) KeepsNothing host.old host.new result }
 {
-    let Some(src) = local_in(host, c, src) else {
-        return ARGUMENT;
-    };
-    status(host.handle_set(c, Handle(handle), src))
+    status(host.handle_set(c, Handle(handle), src as u8))
 }
 
 /// `hdt_handle_set`.
 #[unsafe(no_mangle)]
-pub extern "C" fn hdt_handle_set(
-    alloc: Global,
-    host: &mut Held,
-    c: u32,
-    handle: u64,
-    src: u32,
-) -> u32
-    ensures { let command = cmd.HSet 0 src in
-        Comes (HasLocal c src) (FailsAt c handle command) (RepliesAt c handle command reply.Done)
-        KeepsNothing host.old.value host.new.value result }
+pub extern "C" fn hdt_handle_set(alloc: Global, host: &mut Held, c: u32, handle: u64, src: u32) -> u32
+    ensures { let command = cmd.HSet 0 src in Comes (HasLocal c src) (λ at. FailsAt (at c) handle command) (λ at. RepliesAt (at c) handle command reply.Done) KeepsNothing host.old.value host.new.value result }
 {
-    on_open!(alloc, host, handle_set(c, handle, src))
+    on_open!(alloc, host, in c, handle_set(handle, src) if has_local(src))
 }
 
 // What kind a handle is of.
 fn handle_kind(host: &mut Host, handle: u64, kind: &mut u32) -> u32
-    ensures { Runs AlwaysRight
-        (λ v f. (f ≡ Stale) × IsStale v (record { 0 = handle }))
-        (λ v w s. (w ≡ v) × (s ≡ OK) × ((slot : Slot) ×
-        IsOf v (record { 0 = handle }) slot ×
-        (option_map (λ h. kind_number h.kind) (handle_at v.machine.state slot) ≡ Some kind.new)))
-        (kind.new ≡ kind.old) host.old host.new result }
+    ensures { Runs (λ v f. (f ≡ Stale) × IsStale v (record { 0 = handle })) (λ v w s. (w ≡ v) × (s ≡ OK) × ((slot : Slot) × IsOf v (record { 0 = handle }) slot × (option_map (λ h. kind_number h.kind) (handle_at v.machine.state slot) ≡ Some kind.new))) (kind.new ≡ kind.old) host.old host.new result }
 {
     match host.handle_kind(Handle(handle)) {
         Ok(found) => {
@@ -165,32 +111,18 @@ fn handle_kind(host: &mut Host, handle: u64, kind: &mut u32) -> u32
 
 /// `hdt_handle_kind`.
 #[unsafe(no_mangle)]
-pub extern "C" fn hdt_handle_kind(
-    alloc: Global,
-    host: &mut Held,
-    handle: u64,
-    kind: &mut u32,
-) -> u32
-    ensures { Comes AlwaysRight
-        (λ v f. (f ≡ Stale) × IsStale v (record { 0 = handle }))
-        (λ v w s. (w ≡ v) × (s ≡ OK) × ((slot : Slot) ×
-        IsOf v (record { 0 = handle }) slot ×
-        (option_map (λ h. kind_number h.kind) (handle_at v.machine.state slot) ≡ Some kind.new)))
-        (kind.new ≡ kind.old) host.old.value host.new.value result }
+pub extern "C" fn hdt_handle_kind(alloc: Global, host: &mut Held, handle: u64, kind: &mut u32) -> u32
+    ensures { Comes AlwaysRight (λ at. λ v f. (f ≡ Stale) × IsStale v (record { 0 = handle })) (λ at. λ v w s. (w ≡ v) × (s ≡ OK) × ((slot : Slot) × IsOf v (record { 0 = handle }) slot × (option_map (λ h. kind_number h.kind) (handle_at v.machine.state slot) ≡ Some kind.new))) (kind.new ≡ kind.old) host.old.value host.new.value result }
 {
     on_open!(alloc, host, handle_kind(handle, kind))
 }
 
 // Loads a secondary.
 fn secondary_get(host: &mut Host, c: u32, handle: u64, dst: u32, id: &mut u64) -> u32
-    ensures { let command = cmd.HDep dst 0 in
-        Runs (HasLocal c dst) (FailsAt c handle command) (LoadsAt c handle command id.new)
-        (id.new ≡ id.old) host.old host.new result }
+    requires { HasLocal c dst host.old.machine.numbers.callers }
+    ensures { let command = cmd.HDep dst 0 in Runs (FailsAt c handle command) (LoadsAt c handle command id.new) (id.new ≡ id.old) host.old host.new result }
 {
-    let Some(dst) = local_in(host, c, dst) else {
-        return ARGUMENT;
-    };
-    match host.secondary_get(c, Handle(handle), dst) {
+    match host.secondary_get(c, Handle(handle), dst as u8) {
         Ok(load_reply) => {
             *id = number_of(load_reply);
             OK
@@ -201,88 +133,50 @@ fn secondary_get(host: &mut Host, c: u32, handle: u64, dst: u32, id: &mut u64) -
 
 /// `hdt_secondary_get`.
 #[unsafe(no_mangle)]
-pub extern "C" fn hdt_secondary_get(
-    alloc: Global,
-    host: &mut Held,
-    c: u32,
-    handle: u64,
-    dst: u32,
-    id: &mut u64,
-) -> u32
-    ensures { let command = cmd.HDep dst 0 in
-        Comes (HasLocal c dst) (FailsAt c handle command) (LoadsAt c handle command id.new)
-        (id.new ≡ id.old) host.old.value host.new.value result }
+pub extern "C" fn hdt_secondary_get(alloc: Global, host: &mut Held, c: u32, handle: u64, dst: u32, id: &mut u64) -> u32
+    ensures { let command = cmd.HDep dst 0 in Comes (HasLocal c dst) (λ at. FailsAt (at c) handle command) (λ at. LoadsAt (at c) handle command id.new) (id.new ≡ id.old) host.old.value host.new.value result }
 {
-    on_open!(alloc, host, secondary_get(c, handle, dst, id))
+    on_open!(alloc, host, in c, secondary_get(handle, dst, id) if has_local(dst))
 }
 
 // Stores a secondary.
 fn secondary_set(host: &mut Host, c: u32, handle: u64, src: u32) -> u32
-    ensures { let command = cmd.HSec 0 src in
-        Runs (HasLocal c src) (FailsAt c handle command) (RepliesAt c handle command reply.Done)
-        KeepsNothing host.old host.new result }
+    requires { HasLocal c src host.old.machine.numbers.callers }
+    ensures { let command = cmd.HSec 0 src in Runs (FailsAt c handle command) (RepliesAt c handle command reply.Done) KeepsNothing host.old host.new result }
 {
-    let Some(src) = local_in(host, c, src) else {
-        return ARGUMENT;
-    };
-    status(host.secondary_set(c, Handle(handle), src))
+    status(host.secondary_set(c, Handle(handle), src as u8))
 }
 
 /// `hdt_secondary_set`.
 #[unsafe(no_mangle)]
-pub extern "C" fn hdt_secondary_set(
-    alloc: Global,
-    host: &mut Held,
-    c: u32,
-    handle: u64,
-    src: u32,
-) -> u32
-    ensures { let command = cmd.HSec 0 src in
-        Comes (HasLocal c src) (FailsAt c handle command) (RepliesAt c handle command reply.Done)
-        KeepsNothing host.old.value host.new.value result }
+pub extern "C" fn hdt_secondary_set(alloc: Global, host: &mut Held, c: u32, handle: u64, src: u32) -> u32
+    ensures { let command = cmd.HSec 0 src in Comes (HasLocal c src) (λ at. FailsAt (at c) handle command) (λ at. RepliesAt (at c) handle command reply.Done) KeepsNothing host.old.value host.new.value result }
 {
-    on_open!(alloc, host, secondary_set(c, handle, src))
+    on_open!(alloc, host, in c, secondary_set(handle, src) if has_local(src))
 }
 
 // Stores a strength.
 fn strength_set(host: &mut Host, handle: u64, strength: u32) -> u32
-    ensures { Runs (λ v. (given : Strength) × (strength_number given ≡ strength))
-        (λ v f. (given : Strength) × (strength_number given ≡ strength)
-        × FailsAt 0 handle (cmd.HVar 0 given) v f)
-        (λ v w s. (given : Strength) × (strength_number given ≡ strength)
-        × RepliesAt 0 handle (cmd.HVar 0 given) reply.Done v w s)
-        KeepsNothing host.old host.new result }
+    requires { IsStrength strength }
+    ensures { Runs (λ v f. (given : Strength) × (strength_number given ≡ strength) × FailsAt 0 handle (cmd.HVar 0 given) v f) (λ v w s. (given : Strength) × (strength_number given ≡ strength) × RepliesAt 0 handle (cmd.HVar 0 given) reply.Done v w s) KeepsNothing host.old host.new result }
 {
     let Some(given) = strength_of(strength) else {
-        return ARGUMENT;
+        unreachable!()
     };
     status(host.strength_set(Handle(handle), given))
 }
 
 /// `hdt_strength_set`.
 #[unsafe(no_mangle)]
-pub extern "C" fn hdt_strength_set(
-    alloc: Global,
-    host: &mut Held,
-    handle: u64,
-    strength: u32,
-) -> u32
-    ensures { Comes (λ v. (given : Strength) × (strength_number given ≡ strength))
-        (λ v f. (given : Strength) × (strength_number given ≡ strength)
-        × FailsAt 0 handle (cmd.HVar 0 given) v f)
-        (λ v w s. (given : Strength) × (strength_number given ≡ strength)
-        × RepliesAt 0 handle (cmd.HVar 0 given) reply.Done v w s)
-        KeepsNothing host.old.value host.new.value result }
+pub extern "C" fn hdt_strength_set(alloc: Global, host: &mut Held, handle: u64, strength: u32) -> u32
+    ensures { Comes (λ contexts. IsStrength strength) (λ at. λ v f. (given : Strength) × (strength_number given ≡ strength) × FailsAt 0 handle (cmd.HVar 0 given) v f) (λ at. λ v w s. (given : Strength) × (strength_number given ≡ strength) × RepliesAt 0 handle (cmd.HVar 0 given) reply.Done v w s) KeepsNothing host.old.value host.new.value result }
 {
-    on_open!(alloc, host, strength_set(handle, strength))
+    on_open!(alloc, host, strength_set(handle, strength) if is_strength(strength))
 }
 
 // Raises a count.
 fn count_up(host: &mut Host, handle: u64, count: &mut u64) -> u32
-    ensures { let command = cmd.HUp 0 in
-        Runs AlwaysRight (FailsAt 0 handle command)
-        (RepliesAt 0 handle command (reply.Value count.new)) (count.new ≡ count.old) host.old
-        host.new result }
+    ensures { let command = cmd.HUp 0 in Runs (FailsAt 0 handle command) (RepliesAt 0 handle command (reply.Value count.new)) (count.new ≡ count.old) host.old host.new result }
 {
     match host.count_up(Handle(handle)) {
         Ok(risen) => {
@@ -296,20 +190,14 @@ fn count_up(host: &mut Host, handle: u64, count: &mut u64) -> u32
 /// `hdt_count_up`.
 #[unsafe(no_mangle)]
 pub extern "C" fn hdt_count_up(alloc: Global, host: &mut Held, handle: u64, count: &mut u64) -> u32
-    ensures { let command = cmd.HUp 0 in
-        Comes AlwaysRight (FailsAt 0 handle command)
-        (RepliesAt 0 handle command (reply.Value count.new)) (count.new ≡ count.old) host.old.value
-        host.new.value result }
+    ensures { let command = cmd.HUp 0 in Comes AlwaysRight (λ at. FailsAt 0 handle command) (λ at. RepliesAt 0 handle command (reply.Value count.new)) (count.new ≡ count.old) host.old.value host.new.value result }
 {
     on_open!(alloc, host, count_up(handle, count))
 }
 
 // Lowers a count.
 fn count_down(host: &mut Host, handle: u64, count: &mut u64) -> u32
-    ensures { let command = cmd.HDown 0 in
-        Runs AlwaysRight (FailsAt 0 handle command)
-        (RepliesAt 0 handle command (reply.Value count.new)) (count.new ≡ count.old) host.old
-        host.new result }
+    ensures { let command = cmd.HDown 0 in Runs (FailsAt 0 handle command) (RepliesAt 0 handle command (reply.Value count.new)) (count.new ≡ count.old) host.old host.new result }
 {
     match host.count_down(Handle(handle)) {
         Ok(fallen) => {
@@ -322,26 +210,15 @@ fn count_down(host: &mut Host, handle: u64, count: &mut u64) -> u32
 
 /// `hdt_count_down`.
 #[unsafe(no_mangle)]
-pub extern "C" fn hdt_count_down(
-    alloc: Global,
-    host: &mut Held,
-    handle: u64,
-    count: &mut u64,
-) -> u32
-    ensures { let command = cmd.HDown 0 in
-        Comes AlwaysRight (FailsAt 0 handle command)
-        (RepliesAt 0 handle command (reply.Value count.new)) (count.new ≡ count.old) host.old.value
-        host.new.value result }
+pub extern "C" fn hdt_count_down(alloc: Global, host: &mut Held, handle: u64, count: &mut u64) -> u32
+    ensures { let command = cmd.HDown 0 in Comes AlwaysRight (λ at. FailsAt 0 handle command) (λ at. RepliesAt 0 handle command (reply.Value count.new)) (count.new ≡ count.old) host.old.value host.new.value result }
 {
     on_open!(alloc, host, count_down(handle, count))
 }
 
 // Where a pinned object is.
 fn address(host: &mut Host, handle: u64, cell: &mut u32) -> u32
-    ensures { let command = cmd.AddrOf 0 in
-        Runs AlwaysRight (FailsAt 0 handle command)
-        (RepliesAt 0 handle command (reply.Place cell.new)) (cell.new ≡ cell.old) host.old host.new
-        result }
+    ensures { let command = cmd.AddrOf 0 in Runs (FailsAt 0 handle command) (RepliesAt 0 handle command (reply.Place cell.new)) (cell.new ≡ cell.old) host.old host.new result }
 {
     match host.address(Handle(handle)) {
         Ok(address) => {
@@ -355,22 +232,14 @@ fn address(host: &mut Host, handle: u64, cell: &mut u32) -> u32
 /// `hdt_address`.
 #[unsafe(no_mangle)]
 pub extern "C" fn hdt_address(alloc: Global, host: &mut Held, handle: u64, cell: &mut u32) -> u32
-    ensures { let command = cmd.AddrOf 0 in
-        Comes AlwaysRight (FailsAt 0 handle command)
-        (RepliesAt 0 handle command (reply.Place cell.new)) (cell.new ≡ cell.old) host.old.value
-        host.new.value result }
+    ensures { let command = cmd.AddrOf 0 in Comes AlwaysRight (λ at. FailsAt 0 handle command) (λ at. RepliesAt 0 handle command (reply.Place cell.new)) (cell.new ≡ cell.old) host.old.value host.new.value result }
 {
     on_open!(alloc, host, address(handle, cell))
 }
 
 // Lists the live handles from a slot on.
 fn handles(host: &mut Host, from: u32, out: &mut [Info], count: &mut usize, next: &mut u32) -> u32
-    ensures { Runs AlwaysRight
-        NeverFails
-        (λ v w s. (w ≡ v) × (s ≡ OK)
-        × AreListed v from out.old out.new count.new next.new)
-        ((out.new ≡ out.old) × (count.new ≡ count.old) × (next.new ≡ next.old))
-        host.old host.new result }
+    ensures { Runs NeverFails (λ v w s. (w ≡ v) × (s ≡ OK) × AreListed v from out.old out.new count.new next.new) ((out.new ≡ out.old) × (count.new ≡ count.old) × (next.new ≡ next.old)) host.old host.new result }
 {
     let mut at = from;
     for i in 0..out.len() {
@@ -404,20 +273,8 @@ fn slot_after(host: &Host, at: u32) -> u32
 
 /// `hdt_handles`.
 #[unsafe(no_mangle)]
-pub extern "C" fn hdt_handles(
-    alloc: Global,
-    host: &mut Held,
-    from: u32,
-    out: &mut [Info],
-    count: &mut usize,
-    next: &mut u32,
-) -> u32
-    ensures { Comes AlwaysRight
-        NeverFails
-        (λ v w s. (w ≡ v) × (s ≡ OK)
-        × AreListed v from out.old out.new count.new next.new)
-        ((out.new ≡ out.old) × (count.new ≡ count.old) × (next.new ≡ next.old))
-        host.old.value host.new.value result }
+pub extern "C" fn hdt_handles(alloc: Global, host: &mut Held, from: u32, out: &mut [Info], count: &mut usize, next: &mut u32) -> u32
+    ensures { Comes AlwaysRight (λ at. NeverFails) (λ at. λ v w s. (w ≡ v) × (s ≡ OK) × AreListed v from out.old out.new count.new next.new) ((out.new ≡ out.old) × (count.new ≡ count.old) × (next.new ≡ next.old)) host.old.value host.new.value result }
 {
     on_open!(alloc, host, handles(from, out, count, next))
 }

@@ -1,18 +1,20 @@
 // The exports on a host as a whole: it is opened and closed, collected and trimmed.
-ghost use Rattle.std.specs.Prelude.{◌≡◌, ◌<◌, ◌≤◌, false, None, Some, MatchResult};
-ghost use Rattle.hd_model.specs.{declared.data.Kind.Kind, Kinds.is_paired, Kinds.kind_number};
+ghost use Rattle.std.specs.Prelude.{◌≡◌, ◌<◌, ◌≤◌, None, Some, IfOk, MatchResult};
+ghost use Rattle.hd_model.specs.{declared.data.Kind.Kind, Kinds.kind_number};
 ghost use Rattle.hd_model.specs.declared.command.Cmd.TheVariants as cmd;
 ghost use Rattle.hd_model.specs.declared.data.Reply.TheVariants as reply;
-ghost use Rattle.hd_host.specs.{Calls.Trims};
+ghost use Rattle.hd_host.specs.{Calls.Trims, View.HostView};
 ghost use Rattle.hd_commands.specs.Done.{queued_reply};
-ghost use Rattle.hdt_c.specs.Arguments.{change_out};
-ghost use Rattle.hdt_c.specs.Exports.{Comes, Runs, NeverFails, AlwaysRight, HasLocal, FailsIn, Replies, Returns};
-ghost use Rattle.hdt_c.specs.Outs.{IsFirst, IsOpened, Opens, Refuses, report_in, stats_of};
+ghost use Rattle.hd_store.specs.Offers.{HasLimits};
+ghost use Rattle.hd_ends.specs.declared.end.End.TheVariants.{Own as own};
+ghost use Rattle.hdt_c.specs.Exports.{Comes, Runs, NeverFails, AlwaysRight, HasLocal, IsUnpaired, FailsIn, Replies, Returns};
+ghost use Rattle.hdt_c.specs.Outs.{IsFirst, IsOpened, Opens, Refuses, TellsLast, last_out, numbers_in, report_in, stats_of};
 
-use crate::arguments::{change, generation_of, kind_of, local_in};
+use crate::arguments::{change, has_local, is_generation, is_unpaired, kind_of};
 use crate::held::{Held, on_open, put, take};
 use crate::parts::{Change, Limits, Report, Stats};
-use crate::status::{ARGUMENT, IS_OPEN, NO_MEMORY, NONE, OK, status_of};
+use crate::status::{ARGUMENT, CLOSED, IS_OPEN, NO_MEMORY, NONE, OK, status_of};
+use hd_ends::End;
 use hd_host::Host;
 use hd_model::limits::{BLOCKS, CALLERS, HEAP};
 use std::alloc::Global;
@@ -45,9 +47,23 @@ pub extern "C" fn hdt_open(alloc: Global, host: &mut Held, limits: &Limits) -> u
     OK
 }
 
-// A host in a box of its own.
-fn open(alloc: Global, limits: &Limits) -> Result<Box<Host>, u32>
-    ensures { MatchResult result (λ made. IsOpened limits.now made.value) (Refuses limits.now) }
+// The end of a host of its own, in a box.
+fn open(alloc: Global, limits: &Limits) -> Result<Box<End>, u32>
+    ensures { MatchResult result
+        (λ made. (v : HostView) × (made.value ≡ own v) × IsOpened limits.now v)
+        (Refuses limits.now) }
+{
+    let host = new_host(alloc, limits)?;
+    match Box::new(alloc, End::Own(host)) {
+        Ok(made) => Ok(made),
+        Err(_) => Err(NO_MEMORY),
+    }
+}
+
+/// A host with these limits.
+pub(crate) fn new_host(alloc: Global, limits: &Limits) -> Result<Host, u32>
+    ensures made { MatchResult result (IsOpened limits.now) (Refuses limits.now) }
+    ensures limits { IfOk result (λ _. HasLimits (numbers_in limits.now)) }
 {
     let Limits {
         cells,
@@ -65,11 +81,8 @@ fn open(alloc: Global, limits: &Limits) -> Result<Box<Host>, u32>
         blocks,
         contexts,
     };
-    let Ok(host) = Host::open(alloc, limits) else {
-        return Err(NO_MEMORY);
-    };
-    match Box::new(alloc, host) {
-        Ok(made) => Ok(made),
+    match Host::open(alloc, limits) {
+        Ok(host) => Ok(host),
         Err(_) => Err(NO_MEMORY),
     }
 }
@@ -84,10 +97,7 @@ pub extern "C" fn hdt_close(alloc: Global, host: &mut Held)
 
 // The numbers of a host.
 fn stats(host: &mut Host, out: &mut Stats) -> u32
-    ensures { Runs AlwaysRight
-        NeverFails
-        (λ v w s. (w ≡ v) × (s ≡ OK) × (out.new ≡ stats_of v))
-        (out.new ≡ out.old) host.old host.new result }
+    ensures { Runs NeverFails (λ v w s. (w ≡ v) × (s ≡ OK) × (out.new ≡ stats_of v)) (out.new ≡ out.old) host.old host.new result }
 {
     let stats = host.stats();
     *out = Stats {
@@ -103,47 +113,40 @@ fn stats(host: &mut Host, out: &mut Stats) -> u32
 /// `hdt_stats`.
 #[unsafe(no_mangle)]
 pub extern "C" fn hdt_stats(alloc: Global, host: &mut Held, out: &mut Stats) -> u32
-    ensures { Comes AlwaysRight
-        NeverFails
-        (λ v w s. (w ≡ v) × (s ≡ OK) × (out.new ≡ stats_of v))
-        (out.new ≡ out.old) host.old.value host.new.value result }
+    ensures { Comes AlwaysRight (λ at. NeverFails) (λ at. λ v w s. (w ≡ v) × (s ≡ OK) × (out.new ≡ stats_of v)) (out.new ≡ out.old) host.old.value host.new.value result }
 {
     on_open!(alloc, host, stats(out))
 }
 
-// What the last call that was done did to slots and blocks. A host of its own has no turns.
-fn last(host: &mut Host, out: &mut Change) -> u32
-    ensures { Runs AlwaysRight
-        NeverFails
-        (λ v w s. (w ≡ v) × (s ≡ OK) × (out.new ≡ change_out 0 v.last))
-        (out.new ≡ out.old) host.old host.new result }
+// What the end's own last call that was done did to slots and blocks, and the number of its turn.
+fn last_of(end: &End) -> Change
+    ensures { result ≡ last_out end.now }
 {
-    *out = change(host.last(), 0);
-    OK
+    match end {
+        End::Own(host) => change(host.last(), 0),
+        End::Shared(shared) => change(shared.sharer.last(), shared.sharer.turn()),
+    }
 }
 
-/// `hdt_last`.
+/// `hdt_last`. It takes no turn.
 #[unsafe(no_mangle)]
 pub extern "C" fn hdt_last(alloc: Global, host: &mut Held, out: &mut Change) -> u32
-    ensures { Comes AlwaysRight
-        NeverFails
-        (λ v w s. (w ≡ v) × (s ≡ OK) × (out.new ≡ change_out 0 v.last))
-        (out.new ≡ out.old) host.old.value host.new.value result }
+    ensures { TellsLast out.old out.new host.old.value host.new.value result }
 {
-    on_open!(alloc, host, last(out))
+    let Some(end) = take(alloc, host) else {
+        return CLOSED;
+    };
+    *out = last_of(&end);
+    put(host, end);
+    OK
 }
 
 // Collects.
 fn collect(host: &mut Host, generation: u32, report: &mut Report) -> u32
-    ensures { let command = cmd.Collect generation in
-        Runs (λ v. generation ≤ 2) (FailsIn 0 command)
-        (Replies 0 command (reply.Report (report_in report.new))) (report.new ≡ report.old) host.old
-        host.new result }
+    requires { generation ≤ 2 }
+    ensures { let command = cmd.Collect generation in Runs (FailsIn 0 command) (Replies 0 command (reply.Report (report_in report.new))) (report.new ≡ report.old) host.old host.new result }
 {
-    let Some(n) = generation_of(generation) else {
-        return ARGUMENT;
-    };
-    match host.collect(n) {
+    match host.collect(generation as u8) {
         Ok(made) => {
             *report = Report {
                 kept: made.kept,
@@ -161,31 +164,18 @@ fn collect(host: &mut Host, generation: u32, report: &mut Report) -> u32
 
 /// `hdt_collect`.
 #[unsafe(no_mangle)]
-pub extern "C" fn hdt_collect(
-    alloc: Global,
-    host: &mut Held,
-    generation: u32,
-    report: &mut Report,
-) -> u32
-    ensures { let command = cmd.Collect generation in
-        Comes (λ v. generation ≤ 2) (FailsIn 0 command)
-        (Replies 0 command (reply.Report (report_in report.new))) (report.new ≡ report.old)
-        host.old.value host.new.value result }
+pub extern "C" fn hdt_collect(alloc: Global, host: &mut Held, generation: u32, report: &mut Report) -> u32
+    ensures { let command = cmd.Collect generation in Comes (λ contexts. generation ≤ 2) (λ at. FailsIn 0 command) (λ at. Replies 0 command (reply.Report (report_in report.new))) (report.new ≡ report.old) host.old.value host.new.value result }
 {
-    on_open!(alloc, host, collect(generation, report))
+    on_open!(alloc, host, collect(generation, report) if is_generation(generation))
 }
 
 // Takes the first object off the finalization queue.
 fn final_next(host: &mut Host, c: u32, dst: u32, id: &mut u64) -> u32
-    ensures { let command = cmd.Final dst in
-        Runs (HasLocal c dst) NeverFails
-        (Returns c command queued_reply (λ first. IsFirst first id.old id.new))
-        (id.new ≡ id.old) host.old host.new result }
+    requires { HasLocal c dst host.old.machine.numbers.callers }
+    ensures { let command = cmd.Final dst in Runs NeverFails (Returns c command queued_reply (λ taken. IsFirst taken id.old id.new)) (id.new ≡ id.old) host.old host.new result }
 {
-    let Some(dst) = local_in(host, c, dst) else {
-        return ARGUMENT;
-    };
-    match host.final_next(c, dst) {
+    match host.final_next(c, dst as u8) {
         Some(first) => {
             *id = first.0;
             OK
@@ -196,35 +186,20 @@ fn final_next(host: &mut Host, c: u32, dst: u32, id: &mut u64) -> u32
 
 /// `hdt_final_next`.
 #[unsafe(no_mangle)]
-pub extern "C" fn hdt_final_next(
-    alloc: Global,
-    host: &mut Held,
-    c: u32,
-    dst: u32,
-    id: &mut u64,
-) -> u32
-    ensures { let command = cmd.Final dst in
-        Comes (HasLocal c dst) NeverFails
-        (Returns c command queued_reply (λ first. IsFirst first id.old id.new))
-        (id.new ≡ id.old) host.old.value host.new.value result }
+pub extern "C" fn hdt_final_next(alloc: Global, host: &mut Held, c: u32, dst: u32, id: &mut u64) -> u32
+    ensures { let command = cmd.Final dst in Comes (HasLocal c dst) (λ at. NeverFails) (λ at. Returns (at c) command queued_reply (λ taken. IsFirst taken id.old id.new)) (id.new ≡ id.old) host.old.value host.new.value result }
 {
-    on_open!(alloc, host, final_next(c, dst, id))
+    on_open!(alloc, host, in c, final_next(dst, id) if has_local(dst))
 }
 
 // Gives a block back.
 fn trim(host: &mut Host, kind: u32, given: &mut u32) -> u32
-    ensures { Runs (λ v. (of : Kind) × (kind_number of ≡ kind) × (is_paired of ≡ false))
-        NeverFails
-        (λ v w s. (of : Kind) × (kind_number of ≡ kind) × Trims v of given.new w
-        × (s ≡ OK))
-        (given.new ≡ given.old) host.old host.new result }
+    requires { IsUnpaired kind }
+    ensures { Runs NeverFails (λ v w s. (of : Kind) × (kind_number of ≡ kind) × Trims v of given.new w × (s ≡ OK)) (given.new ≡ given.old) host.old host.new result }
 {
     let Some(of) = kind_of(kind) else {
-        return ARGUMENT;
+        unreachable!()
     };
-    if of.paired() {
-        return ARGUMENT;
-    }
     *given = host.trim(of);
     OK
 }
@@ -232,11 +207,7 @@ fn trim(host: &mut Host, kind: u32, given: &mut u32) -> u32
 /// `hdt_trim`.
 #[unsafe(no_mangle)]
 pub extern "C" fn hdt_trim(alloc: Global, host: &mut Held, kind: u32, given: &mut u32) -> u32
-    ensures { Comes (λ v. (of : Kind) × (kind_number of ≡ kind) × (is_paired of ≡ false))
-        NeverFails
-        (λ v w s. (of : Kind) × (kind_number of ≡ kind) × Trims v of given.new w
-        × (s ≡ OK))
-        (given.new ≡ given.old) host.old.value host.new.value result }
+    ensures { Comes (λ contexts. IsUnpaired kind) (λ at. NeverFails) (λ at. λ v w s. (of : Kind) × (kind_number of ≡ kind) × Trims v of given.new w × (s ≡ OK)) (given.new ≡ given.old) host.old.value host.new.value result }
 {
-    on_open!(alloc, host, trim(kind, given))
+    on_open!(alloc, host, trim(kind, given) if is_unpaired(kind))
 }

@@ -1,16 +1,13 @@
-use Rattle.hdt_c.specs.Exports.{does, is_wrong}
+use Rattle.hdt_c.specs.Exports.{does}
 use Rattle.hdt_c.proofs.Comings.{failed}
 use Rattle.hdt_c.proofs.on_entries.table_remove.Goals as goal
 
-pub returns-in_default : goal.returns-in_default
-returns-in_default c = is_wrong _ c.in_default.ensures tt
-
 pub returns-in-Ok : goal.returns-in-Ok
 returns-in-Ok c =
-    does c.args.host.now _ _ c.in-Some.ensures.1
-    (c.in-Ok.removed, rw c.in-Some.ensures.0 at c.in-Ok.ensures.does, c.status_of_removed.ensures)
+    does c.args.host.now _ _
+    (c.in-Ok.removed, c.in-Ok.ensures.does, c.status_of_removed.ensures)
 
 pub returns-in-Err : goal.returns-in-Err
 returns-in-Err c =
-    failed c.in-Err.fault c.in-Some.ensures.1 (rw c.in-Some.ensures.0 at c.in-Err.ensures.does.0) c.in-Err.ensures.does.1
+    failed c.in-Err.fault c.in-Err.ensures.does.0 c.in-Err.ensures.does.1
     tt c.status_of.ensures

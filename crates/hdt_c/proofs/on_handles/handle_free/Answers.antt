@@ -2,5 +2,5 @@ use Rattle.hdt_c.proofs.Comings.{by_status}
 use Rattle.hdt_c.proofs.on_handles.handle_free.Goals as goal
 
 pub returns : goal.returns
-returns c = by_status tt tt (λ done ok. (done, ok)) c.handle_free.result c.status.ensures
+returns c = by_status tt (λ done ok. (done, ok)) c.handle_free.result c.status.ensures
     c.handle_free.ensures.does

@@ -10,7 +10,7 @@ pub returns-in_default : goal.returns-in_default
 returns-in_default c =
     let room : c.loop-i.i ≤ length c.args.out.now = omega
     (arith, c.loop-i-test.true, c.loop-i.auto.i-end, c.loop-i.invariant.same) in
-    does c.args.host.now _ _ tt (
+    does c.args.host.now _ _ (
       refl,
       refl,
       ends_none c.args.host.now c.args.from c.args.out.now c.loop-i.at c.loop-i.i c.loop-i.out
@@ -39,7 +39,7 @@ returns c =
     let all : c.loop-i.i ≡ length c.args.out.now = omega
     (arith, c.loop-i-test.false, c.loop-i.auto.i-end, c.loop-i.invariant.same) in
     let count : length c.loop-i.out ≡ c.loop-i.i = omega (arith, all, c.loop-i.invariant.same) in
-    does c.args.host.now _ _ tt (
+    does c.args.host.now _ _ (
       refl,
       refl,
       ends_full c.args.host.now c.args.from c.args.out.now c.loop-i.at c.loop-i.i (length c.loop-i.out)

@@ -1,17 +1,11 @@
-use Rattle.std.proofs.Common.{arith, refl}
-use Rattle.hdt_c.specs.Exports.{does, is_wrong}
+use Rattle.std.proofs.Common.{refl}
+use Rattle.hdt_c.specs.Exports.{does}
 use Rattle.hdt_c.proofs.Comings.{failed}
 use Rattle.hdt_c.proofs.on_host.collect.Goals as goal
 
-pub returns-in_default : goal.returns-in_default
-returns-in_default c = is_wrong _ (λ right. omega (arith, right, c.in_default.ensures)) refl
-
 pub returns-in-Ok : goal.returns-in-Ok
-returns-in-Ok c =
-    does c.args.host.now _ _ (omega (arith, c.in-Some.ensures))
-    (rw c.in-Some.ensures.0 at c.in-Ok.ensures.does, refl)
+returns-in-Ok c = does c.args.host.now _ _ (c.in-Ok.ensures.does, refl)
 
 pub returns-in-Err : goal.returns-in-Err
 returns-in-Err c =
-    failed c.in-Err.fault (omega (arith, c.in-Some.ensures))
-    (rw c.in-Some.ensures.0 at c.in-Err.ensures.does.0) c.in-Err.ensures.does.1 refl c.status_of.ensures
+    failed c.in-Err.fault c.in-Err.ensures.does.0 c.in-Err.ensures.does.1 refl c.status_of.ensures

@@ -4,7 +4,7 @@ use Rattle.hdt_c.proofs.on_host.stats.Goals as goal
 
 pub returns : goal.returns
 returns c =
-    does c.args.host.now _ _ tt (
+    does c.args.host.now _ _ (
       refl,
       refl,
       λ i. record {

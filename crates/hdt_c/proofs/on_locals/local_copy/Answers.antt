@@ -1,11 +1,8 @@
 use Rattle.std.proofs.Common.{refl}
-use Rattle.hdt_c.specs.Exports.{does, is_wrong}
+use Rattle.hdt_c.specs.Exports.{does}
 use Rattle.hdt_c.proofs.on_locals.local_copy.Goals as goal
-
-pub returns-in_default : goal.returns-in_default
-returns-in_default c = is_wrong _ c.in_default.ensures tt
 
 pub returns : goal.returns
 returns c =
-    does c.args.host.now _ _ c.in-Some.ensures.2
-    (rw (c.in-Some.ensures.0, c.in-Some.ensures.1) at c.local_copy.ensures.does, refl)
+    does c.args.host.now _ _
+    (c.local_copy.ensures.does, refl)

@@ -11,13 +11,13 @@ use Rattle.std.specs.declared.alloc.Global.{Global}
 use Rattle.std.proofs.Crossing as heap
 use Rattle.std_alloc.proofs.SendSync.{quiet, lies}
 use Rattle.std.proofs.alloc.Global.TheSendSync as handle
-use Rattle.hd_host.specs.View.{HostView}
-use Rattle.hd_host.specs.contracts.host.Host as host
-use Rattle.hd_host.proofs.host.Host.TheSendSync as host_sends
+use Rattle.hd_ends.specs.declared.end.End.{End}
+use Rattle.hd_ends.specs.contracts.end.End as host
+use Rattle.hd_ends.proofs.end.End.TheSendSync as host_sends
 use Rattle.hdt_c.specs.Held.{owned_at}
 use Rattle.hdt_c.specs.contracts.held.Held.{the_row, the_type}
 
-owned_keyless : (a : Global) (p : Ptr) (x : Option HostView) → Keyless (owned_at a p x)
+owned_keyless : (a : Global) (p : Ptr) (x : Option End) → Keyless (owned_at a p x)
 owned_keyless a p None = tt
 owned_keyless a p (Some x) = (lies host.the_row host_sends.the_send p x, heap.frees.frees a (raw (lone host.the_row.mir)) p)
 

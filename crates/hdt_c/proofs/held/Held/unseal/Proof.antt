@@ -29,8 +29,8 @@ use Rattle.std.specs.contracts.alloc.Global as heap
 use Rattle.std.proofs.alloc.Global.TheLaws as heap_laws
 use Rattle.std.specs.contracts.impls.GlobalAllocator.TheImpl.{ghosts}
 use Rattle.std_alloc.proofs.ResultValues.{and_tt}
-use Rattle.hd_host.specs.View.{HostView}
-use Rattle.hd_host.specs.contracts.host.Host as host
+use Rattle.hd_ends.specs.declared.end.End.{End}
+use Rattle.hd_ends.specs.contracts.end.End as host
 use Rattle.hdt_c.specs.contracts.held.Held as held
 use Rattle.hdt_c.proofs.LooseBoxes.{Loose, both, loose_good, loose_in}
 use Rattle.hdt_c.proofs.HeldBoxes.{either_held, held_good, held_out}
@@ -45,7 +45,7 @@ abbrev stayed : Stays f.ended.signature.params f.ended.kept
 stayed = (stay_dropped (plain (λ _. held.the_row)) yes, tt)
 
 -- what the `ensures` says
-abbrev says_value : Option Given.Denot → Option HostView → Type 0
+abbrev says_value : Option Given.Denot → Option End → Type 0
 says_value r x = option_map (λ (l : Given.Denot). l.value) r ≡ x
 
 pub unseal_spec : {M : Type 1} → statement M
