@@ -58,12 +58,3 @@ module _ (table : TableId) (each count : ℕ) {u v : HostView} (boxed : u ≡ v)
       ap (λ (l : Change). map (λ (k : Known SharedView). Shared (end_of k each l)) ks) is
       ∙ ap (map (λ (k : Known SharedView). Shared (end_of k each v.last))) opened_of
       ∙ as_ends table each v count
-
--- what is so of each of a list is so of the one in its midst
-pub all_mid : {X : Type 0} (P : X → Type 0) (xs : List X) (x : X) (ys : List X) → All P (xs ++ x ∷ ys) → P x
-all_mid P [] x ys all = all 0 x (omega arith)
-all_mid P (y ∷ xs) x ys all = all_mid P xs x ys (λ k d low. all (suc k) d (omega (arith, low)))
-
-pub nothing_left : {X : Type 0} (l : List X) → length l ≡ 0 → l ≡ []
-nothing_left [] none = refl
-nothing_left (x ∷ l) none = absurd (omega arith)
