@@ -356,6 +356,69 @@ static void statics(void) {
     root_of(0, 2);
 }
 
+/* ---- ends of a shared host, by one thread: each has contexts, a last call and turns of its own */
+
+static hdt_host ends[17]; /* all bytes 0: closed */
+
+static void open_ends(const char *what, size_t first, size_t n, uint32_t contexts) {
+    hdt_limits limits = { 1000, 8, contexts };
+    said(what, hdt_open_shared(&ends[first], n, &limits));
+}
+
+static void end_last(size_t end) {
+    hdt_change out = { 0, 0, 0, 0, 0 };
+    if (hdt_last(&ends[end], &out) != HDT_OK) said("last", HDT_CLOSED);
+    else printf("  last of end %u: slot %u block %u turn %u\n", (unsigned)end, (unsigned)out.slot, (unsigned)out.block,
+                (unsigned)out.turn);
+}
+
+static void end_new(size_t end, hdt_context c) {
+    hdt_id id = 0;
+    hdt_status status = hdt_object_new(&ends[end], c, 0, 0, 0, &id);
+    gave_id("object_new", status, id);
+}
+
+static void end_get(size_t end, hdt_handle handle) {
+    hdt_id id = 0;
+    hdt_status status = hdt_handle_get(&ends[end], 1, handle, 1, &id);
+    gave_id("handle_get", status, id);
+}
+
+static void shared_ends(void) {
+    hdt_handle strong = 0;
+    hdt_report report;
+    puts("ends of a shared host");
+    open_ends("no ends", 0, 0, 4);
+    open_ends("17 ends", 0, 17, 17);
+    open_ends("3 contexts for 2 ends", 0, 2, 3);
+    open_ends("no contexts", 0, 2, 0);
+    open_ends("2 ends", 0, 2, 4);
+    open_ends("one of them is open", 1, 2, 4);
+    end_last(0);
+    end_new(0, 0);
+    end_new(1, 1);
+    end_new(1, 2);
+    end_last(0);
+    end_last(1);
+    said("handle_new", hdt_handle_new(&ends[0], 0, HDT_STRONG, 0, 0, &strong));
+    end_get(1, strong);
+    end_last(0);
+    end_last(1);
+    said("handle_free", hdt_handle_free(&ends[1], strong));
+    end_get(0, strong);
+    end_last(0);
+    end_last(1);
+    said("local_clear", hdt_local_clear(&ends[1], 1, 0));
+    hdt_close(&ends[0]);
+    end_new(0, 0);
+    said("collect", hdt_collect(&ends[1], 2, &report));
+    printf("  what the closed end had is kept: %u, removed %u\n", (unsigned)report.kept, (unsigned)report.removed);
+    hdt_close(&ends[1]);
+    said("collect", hdt_collect(&ends[1], 2, &report));
+    open_ends("3 ends", 0, 3, 3);
+    for (int i = 0; i < 3; i++) hdt_close(&ends[i]);
+}
+
 int main(void) {
     printf("abi %u\n", (unsigned)hdt_abi());
     finalization();
@@ -368,6 +431,7 @@ int main(void) {
     table();
     pins();
     statics();
+    shared_ends();
     hdt_close(&host);
     hdt_close(&host);
     puts("closed");
