@@ -6,6 +6,9 @@
 //   frame.make(key, 2);
 //   hdt::Handle weak = frame.handle(hdt::Kind::weak_long, key);
 //
+// The ends of a host that threads share are hosts too (Host::open_shared): each, with its frames and handles, is one thread's
+// at a time, and a handle goes to another thread by release() and adopt(). Calls wait for their turn, by hdt_retry.
+//
 // A status that is no success is thrown as hdt::Error. With HDT_NO_EXCEPTIONS each call returns an hdt::Result, which must be
 // looked at; constructors are then replaced by Host::open. A call that has nothing to give (an empty queue, no entry, no root)
 // gives an empty std::optional.
@@ -18,6 +21,7 @@
 #include <memory>
 #include <optional>
 #include <utility>
+#include <vector>
 #ifndef HDT_NO_EXCEPTIONS
 #include <stdexcept>
 #endif
@@ -61,7 +65,7 @@ inline const char *name(Status status) noexcept {
     case Status::heap_full: return "the heap is full";
     case Status::table_full: return "the table is full";
     case Status::none: return "none";
-    case Status::busy: return "another call is under way";
+    case Status::busy: return "another end had its turn";
     case Status::room: return "the array is too short";
     }
     return "unknown status";
@@ -117,6 +121,14 @@ struct Place {
     Place &operator=(const Place &) = delete;
     ~Place() { hdt_close(&host); }
 };
+
+// A call, made again as long as other ends of the host have their turns.
+template <class Call, class... Of> hdt_status turn(Call call, Of... of) {
+    hdt_status status;
+    do status = call(of...);
+    while (hdt_retry(status));
+    return status;
+}
 } // namespace detail
 
 // A number from 0 to 15, of a context's local.
@@ -144,7 +156,7 @@ public:
     ~Handle() { reset(); }
 
     void reset() noexcept {
-        if (value_ != 0) (void)hdt_handle_free(&place_->host, std::exchange(value_, 0));
+        if (value_ != 0) (void)detail::turn(hdt_handle_free, &place_->host, std::exchange(value_, 0));
         place_.reset();
     }
     // The number, which the caller frees from now on.
@@ -154,29 +166,32 @@ public:
 
     Result<Kind> kind() const {
         hdt_kind kind = 0;
-        hdt_status status = hdt_handle_kind(&place_->host, value_, &kind);
+        hdt_status status = turn(hdt_handle_kind, &kind);
         return result_of(status, static_cast<Kind>(kind));
     }
     Done strength(Kind strength) {
-        return done_by(hdt_strength_set(&place_->host, value_, static_cast<hdt_kind>(strength)));
+        return done_by(turn(hdt_strength_set, static_cast<hdt_kind>(strength)));
     }
     Result<std::uint64_t> up() {
         std::uint64_t count = 0;
-        hdt_status status = hdt_count_up(&place_->host, value_, &count);
+        hdt_status status = turn(hdt_count_up, &count);
         return result_of(status, std::move(count));
     }
     Result<std::uint64_t> down() {
         std::uint64_t count = 0;
-        hdt_status status = hdt_count_down(&place_->host, value_, &count);
+        hdt_status status = turn(hdt_count_down, &count);
         return result_of(status, std::move(count));
     }
     Result<std::uint32_t> address() const {
         std::uint32_t cell = 0;
-        hdt_status status = hdt_address(&place_->host, value_, &cell);
+        hdt_status status = turn(hdt_address, &cell);
         return result_of(status, std::move(cell));
     }
 
 private:
+    template <class Call, class... Of> hdt_status turn(Call call, Of... of) const {
+        return detail::turn(call, &place_->host, value_, of...);
+    }
     std::shared_ptr<detail::Place> place_;
     hdt_handle value_ = 0;
 };
@@ -200,9 +215,10 @@ public:
         // At the end of the table, or where the host is closed, this is the end.
         void fetch() {
             at_ = count_ = 0;
-            bool more = !over_ && hdt_handles(&place_->host, next_, rows_.data(), rows_.size(), &count_, &next_) == HDT_OK;
+            hdt_status status = HDT_NONE;
+            if (!over_) status = detail::turn(hdt_handles, &place_->host, next_, rows_.data(), rows_.size(), &count_, &next_);
             over_ = next_ == 0;
-            if (!more || count_ == 0) place_.reset();
+            if (status != HDT_OK || count_ == 0) place_.reset();
         }
         std::shared_ptr<detail::Place> place_;
         std::array<HandleInfo, 32> rows_{};
@@ -229,6 +245,16 @@ public:
         hdt_status status = hdt_open(&host.place_->host, &limits);
         return result_of(status, std::move(host));
     }
+    // The ends of one host, 1 to 16; each has as many contexts, limits.contexts in all.
+    static Result<std::vector<Host>> open_shared(std::size_t ends, const Limits &limits) {
+        std::array<hdt_host, 16> opened{};
+        std::size_t count = ends <= opened.size() ? ends : 0; // which is refused
+        std::vector<Host> hosts;
+        for (std::size_t i = 0; i < count; i++) hosts.push_back(Host(std::make_shared<detail::Place>()));
+        hdt_status status = hdt_open_shared(opened.data(), count, &limits);
+        for (std::size_t i = 0; i < hosts.size(); i++) hosts[i].place_->host = opened[i];
+        return result_of(status, std::move(hosts));
+    }
     Host(Host &&) = default;
     Host &operator=(Host &&) = default;
     Host(const Host &) = delete;
@@ -240,26 +266,29 @@ public:
         if (place_) hdt_close(&place_->host);
     }
     hdt_host *get() const noexcept { return &place_->host; }
+    // A handle that was released, by this end or by another of the same host; this one frees it from now on.
+    Handle adopt(hdt_handle value) const { return Handle(place_, value); }
 
     Result<Report> collect(std::uint32_t generation) {
         Report report{};
-        hdt_status status = hdt_collect(get(), generation, &report);
+        hdt_status status = turn(hdt_collect, generation, &report);
         return result_of(status, std::move(report));
     }
     Result<std::uint32_t> trim(Kind kind) {
         std::uint32_t given = 0;
-        hdt_status status = hdt_trim(get(), static_cast<hdt_kind>(kind), &given);
+        hdt_status status = turn(hdt_trim, static_cast<hdt_kind>(kind), &given);
         return result_of(status, std::move(given));
     }
     Result<Stats> stats() const {
         Stats stats{};
-        hdt_status status = hdt_stats(get(), &stats);
+        hdt_status status = turn(hdt_stats, &stats);
         return result_of(status, std::move(stats));
     }
     Handles handles() const { return Handles(place_); }
 
 private:
     friend class Frame;
+    template <class Call, class... Of> hdt_status turn(Call call, Of... of) const { return detail::turn(call, get(), of...); }
     explicit Host(std::shared_ptr<detail::Place> place) : place_(std::move(place)) {}
     std::shared_ptr<detail::Place> place_;
 };
@@ -275,7 +304,7 @@ public:
     Frame(const Frame &) = delete;
     Frame &operator=(const Frame &) = delete;
     ~Frame() {
-        while (next_ > first_) (void)hdt_local_clear(host(), context_, --next_);
+        while (next_ > first_) (void)turn(hdt_local_clear, --next_);
     }
 
     // The next local of the context: 16 in all of its frames; calls with a further one are refused as Status::argument.
@@ -285,43 +314,43 @@ public:
 
     Result<Id> make(Local dst, std::uint32_t fields, bool finalizable = false) {
         Id id = 0;
-        hdt_status status = hdt_object_new(host(), context_, dst.number, fields, finalizable ? HDT_FINALIZABLE : 0, &id);
+        hdt_status status = turn(hdt_object_new, dst.number, fields, finalizable ? HDT_FINALIZABLE : 0, &id);
         return result_of(status, std::move(id));
     }
     Result<Id> get(Local dst, Local object, std::uint32_t field) {
         Id id = 0;
-        hdt_status status = hdt_field_get(host(), context_, dst.number, object.number, field, &id);
+        hdt_status status = turn(hdt_field_get, dst.number, object.number, field, &id);
         return result_of(status, std::move(id));
     }
     Done set(Local object, std::uint32_t field, Local src) {
-        return done_by(hdt_field_set(host(), context_, object.number, field, src.number));
+        return done_by(turn(hdt_field_set, object.number, field, src.number));
     }
     Result<std::uint64_t> value(Local object) const {
         std::uint64_t value = 0;
-        hdt_status status = hdt_value_get(host(), context_, object.number, &value);
+        hdt_status status = turn(hdt_value_get, object.number, &value);
         return result_of(status, std::move(value));
     }
-    Done set_value(Local object, std::uint64_t value) { return done_by(hdt_value_set(host(), context_, object.number, value)); }
+    Done set_value(Local object, std::uint64_t value) { return done_by(turn(hdt_value_set, object.number, value)); }
     Result<std::uint32_t> generation(Local object) const {
         std::uint32_t generation = 0;
-        hdt_status status = hdt_generation(host(), context_, object.number, &generation);
+        hdt_status status = turn(hdt_generation, object.number, &generation);
         return result_of(status, std::move(generation));
     }
-    Done suppress(Local object) { return done_by(hdt_suppress(host(), context_, object.number)); }
-    Done reregister(Local object) { return done_by(hdt_reregister(host(), context_, object.number)); }
+    Done suppress(Local object) { return done_by(turn(hdt_suppress, object.number)); }
+    Done reregister(Local object) { return done_by(turn(hdt_reregister, object.number)); }
     Result<Id> id(Local src) const {
         Id id = 0;
-        hdt_status status = hdt_local_id(host(), context_, src.number, &id);
+        hdt_status status = turn(hdt_local_id, src.number, &id);
         return result_of(status, std::move(id));
     }
-    Done copy(Local dst, Local src) { return done_by(hdt_local_copy(host(), context_, dst.number, src.number)); }
-    Done clear(Local dst) { return done_by(hdt_local_clear(host(), context_, dst.number)); }
+    Done copy(Local dst, Local src) { return done_by(turn(hdt_local_copy, dst.number, src.number)); }
+    Done clear(Local dst) { return done_by(turn(hdt_local_clear, dst.number)); }
     Result<Id> get_static(Local dst, std::uint32_t number) {
         Id id = 0;
-        hdt_status status = hdt_static_get(host(), context_, dst.number, number, &id);
+        hdt_status status = turn(hdt_static_get, dst.number, number, &id);
         return result_of(status, std::move(id));
     }
-    Done set_static(std::uint32_t number, Local src) { return done_by(hdt_static_set(host(), context_, number, src.number)); }
+    Done set_static(std::uint32_t number, Local src) { return done_by(turn(hdt_static_set, number, src.number)); }
 
     // A handle to what the local references; of a variable one with a strength, of a dependent one with a secondary.
     Result<Handle> handle(Kind kind, Local target) { return made(kind, target, 0); }
@@ -331,48 +360,51 @@ public:
     Result<Handle> dependent(Local target, Local secondary) { return made(Kind::dependent, target, secondary.number); }
     Result<Id> load(Local dst, const Handle &handle) {
         Id id = 0;
-        hdt_status status = hdt_handle_get(host(), context_, handle.value(), dst.number, &id);
+        hdt_status status = turn(hdt_handle_get, handle.value(), dst.number, &id);
         return result_of(status, std::move(id));
     }
-    Done store(const Handle &handle, Local src) { return done_by(hdt_handle_set(host(), context_, handle.value(), src.number)); }
+    Done store(const Handle &handle, Local src) { return done_by(turn(hdt_handle_set, handle.value(), src.number)); }
     Result<Id> load_secondary(Local dst, const Handle &handle) {
         Id id = 0;
-        hdt_status status = hdt_secondary_get(host(), context_, handle.value(), dst.number, &id);
+        hdt_status status = turn(hdt_secondary_get, handle.value(), dst.number, &id);
         return result_of(status, std::move(id));
     }
     Done store_secondary(const Handle &handle, Local src) {
-        return done_by(hdt_secondary_set(host(), context_, handle.value(), src.number));
+        return done_by(turn(hdt_secondary_set, handle.value(), src.number));
     }
 
-    Done add(Local key, Local value) { return done_by(hdt_table_add(host(), context_, key.number, value.number)); }
+    Done add(Local key, Local value) { return done_by(turn(hdt_table_add, key.number, value.number)); }
     Result<std::optional<Id>> find(Local dst, Local key) {
         Id id = 0;
-        return if_any(hdt_table_find(host(), context_, dst.number, key.number, &id), id);
+        return if_any(turn(hdt_table_find, dst.number, key.number, &id), id);
     }
     // Whether there was an entry.
     Result<bool> remove(Local key) {
-        hdt_status status = hdt_table_remove(host(), context_, key.number);
+        hdt_status status = turn(hdt_table_remove, key.number);
         return result_of(status == HDT_NONE ? static_cast<hdt_status>(HDT_OK) : status, status == HDT_OK);
     }
     Result<std::optional<Id>> final_next(Local dst) {
         Id id = 0;
-        return if_any(hdt_final_next(host(), context_, dst.number, &id), id);
+        return if_any(turn(hdt_final_next, dst.number, &id), id);
     }
     Finalized finalized(Local dst);
     Result<std::optional<Root>> root_of(Local object) {
         Root root{};
-        return if_any(hdt_root_of(host(), context_, object.number, &root), root);
+        return if_any(turn(hdt_root_of, object.number, &root), root);
     }
 
 private:
     friend class Finalized;
+    template <class Call, class... Of> hdt_status turn(Call call, Of... of) const {
+        return detail::turn(call, host(), context_, of...);
+    }
     template <class T> static Result<std::optional<T>> if_any(hdt_status status, const T &value) {
         if (status == HDT_NONE) return result_of(HDT_OK, std::optional<T>());
         return result_of(status, std::optional<T>(value));
     }
     Result<Handle> made(Kind kind, Local target, std::uint32_t extra) {
         hdt_handle value = 0;
-        hdt_status status = hdt_handle_new(host(), context_, static_cast<hdt_kind>(kind), target.number, extra, &value);
+        hdt_status status = turn(hdt_handle_new, static_cast<hdt_kind>(kind), target.number, extra, &value);
         return result_of(status, Handle(place_, value));
     }
     std::shared_ptr<detail::Place> place_;
@@ -388,7 +420,7 @@ public:
         Iterator(Frame &frame, Local dst) : frame_(&frame), dst_(dst) { ++*this; }
         Id operator*() const noexcept { return id_; }
         Iterator &operator++() noexcept {
-            if (hdt_final_next(frame_->host(), frame_->context(), dst_.number, &id_) != HDT_OK) frame_ = nullptr;
+            if (frame_->turn(hdt_final_next, dst_.number, &id_) != HDT_OK) frame_ = nullptr;
             return *this;
         }
         bool operator!=(const Iterator &other) const noexcept { return frame_ != other.frame_; }

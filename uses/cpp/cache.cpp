@@ -131,6 +131,22 @@ void use_table(hdt::Host &host) {
     std::printf("and one more: %d\n", got(frame.final_next(found)).has_value());
 }
 
+// Two ends of one host, as two threads have them. A handle goes from one to the other by its number.
+void use_ends() {
+    std::vector<hdt::Host> ends = got(hdt::Host::open_shared(2, hdt::Limits{1000, 8, 2}));
+    hdt::Frame mine(ends[0], 0), other(ends[1], 0);
+    hdt::Local object = mine.local(), found = other.local();
+    DO(mine.make(object, 0));
+    hdt::Handle handle = got(mine.handle(hdt::Kind::strong, object));
+    hdt::Handle given = ends[1].adopt(handle.release());
+    std::printf("the other end finds it: %d\n", got(other.load(found, given)) == got(mine.id(object)));
+    std::printf("an end has a context: %s\n", hdt::name(STATUS_OF(hdt::Frame(ends[1], 1).id(found))));
+    std::printf("handles: %u\n", got(ends[0].stats()).handles);
+    given.reset();
+    std::printf("handles: %u\n", got(ends[0].stats()).handles);
+    std::printf("no ends: %s\n", hdt::name(STATUS_OF(hdt::Host::open_shared(17, hdt::Limits{1000, 8, 17}))));
+}
+
 } // namespace
 
 int main() {
@@ -150,5 +166,6 @@ int main() {
         std::printf("handles: %u\n", got(elsewhere.stats()).handles);
     }
     std::printf("after the end: %s\n", hdt::name(STATUS_OF(kept.kind())));
+    use_ends();
     return 0;
 }
