@@ -53,7 +53,7 @@ def row(call, threads, of):
     own = f"{of['own', 1][0] / 1e6:.1f}" if threads == 1 else ""
     mutex, shared = of["mutex", threads], of["shared", threads]
     shown = [f"`{call}`", str(threads), own, *(f"{it / 1e6:.2f}" for it in (mutex[0], shared[0], mutex[1], shared[1]))]
-    return f"| {' | '.join([*shown, f'{shared[2] / shared[0]:.3f}'])} |"
+    return f"| {' | '.join([*shown, f'{1000 * shared[2] / shared[0]:.2f}'])} |"
 
 
 def main(options):
@@ -62,7 +62,7 @@ def main(options):
         words = ["cc", "-O2", "-std=c11", "-Wall", "-Wextra", "-Werror", "-pthread", f"-I{HERE}/../crates/hdt_c"]
         subprocess.run([*words, f"{HERE}/threads.c", *options.libraries, "-o", program], check=True)
         faults = []
-        titles = ["millions of calls a second", "threads", "own", "mutex", "shared", "mutex, least", "shared, least", "busy a call"]
+        titles = ["millions of calls a second", "threads", "own", "mutex", "shared", "mutex, least", "shared, least", "busy of 1,000"]
         print(f"| {' | '.join(titles)} |\n|{'---|' * len(titles)}")
         for call in CALLS:
             of = medians(program, call, options)
