@@ -2,7 +2,7 @@
 use Rattle.std.proofs.Common.{◌≡◌, ℕ, List, [], ◌∷◌, ◌++◌, ◌∙◌, ap, length, refl, subst, suc, sym}
 use Rattle.hd_turns.specs.Views.{AreOthers, AreTurns, GoesOn}
 use Rattle.hd_ends.specs.Ends.{EndTurn}
-use Rattle.hd_ends.specs.Inside.{SharedTurn, SharedView, hosts_of}
+use Rattle.hd_ends.specs.Views.{SharedTurn, SharedView, hosts_of}
 
 hosts_append : (xs ys : List (ℕ × SharedView)) → hosts_of (xs ++ ys) ≡ hosts_of xs ++ hosts_of ys
 hosts_append [] ys = refl

@@ -10,7 +10,7 @@ use Rattle.hd_host.specs.View.{HostView}
 use Rattle.hd_ends.specs.declared.end.End.{End}
 use Rattle.hd_ends.specs.declared.end.End.TheVariants.{Shared}
 use Rattle.hd_ends.specs.Ends.{EndView, ends_up, new_end}
-use Rattle.hd_ends.specs.Inside.{IsNewEnd, SharedView, end_of}
+use Rattle.hd_ends.specs.Views.{IsNewEnd, SharedView, end_of}
 
 module _ (table : TableId) (each : ℕ) (v : HostView) where
   abbrev behind : SharedView

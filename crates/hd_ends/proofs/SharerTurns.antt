@@ -10,7 +10,7 @@ use Rattle.hd_host.specs.Turns.{HostTurn}
 use Rattle.hd_host.specs.View.{HostView}
 use Rattle.hd_host.proofs.SoundTurns.{turn_numbers}
 use Rattle.hd_ends.specs.Ends.{EndView, MayLeave, SharerView, Takes, TookTurn, first_of, gave_back, with_last}
-use Rattle.hd_ends.specs.Inside.{IsNewEnd, IsSharer, SharedTurn, SharedView, end_of, hosts_of, sharer_of}
+use Rattle.hd_ends.specs.Views.{IsNewEnd, IsSharer, SharedTurn, SharedView, end_of, hosts_of, sharer_of}
 use Rattle.hd_ends.proofs.HostHistories.{hosts_go_on, length_hosts, turns_of_hosts}
 
 abbrev host_or : HostView → List (ℕ × HostView) → HostView

@@ -13,7 +13,7 @@ pub(crate) struct Boxed {
 }
 
 impl Model for Boxed {
-    ghost use Rattle.hd_ends.specs.Inside.{SharedView, shared_view_code};
+    ghost use Rattle.hd_ends.specs.Views.{SharedView, shared_view_code};
 
     ghost Value = { SharedView };
 
@@ -23,7 +23,7 @@ impl Model for Boxed {
 }
 
 impl Turn for Boxed {
-    ghost use Rattle.hd_ends.specs.Inside.{SharedTurn};
+    ghost use Rattle.hd_ends.specs.Views.{SharedTurn};
 
     ghost turn = { SharedTurn };
 }

@@ -3,7 +3,7 @@ ghost use Rattle.std.specs.Prelude.{◌≡◌, ◌*◌, ◌<◌, ◌^◌, map, I
 ghost use Rattle.std.specs.List.{All};
 ghost use Rattle.atomic_table.specs.Seated.{TableId};
 ghost use Rattle.hd_ends.specs.declared.end.End.TheVariants.{Shared as shared};
-ghost use Rattle.hd_ends.specs.{Ends.ends_up, Inside.IsNewEnd, Inside.end_of};
+ghost use Rattle.hd_ends.specs.{Ends.ends_up, Views.IsNewEnd, Views.end_of};
 
 use crate::boxed::Boxed;
 use crate::end::{End, Shared};

@@ -1,6 +1,6 @@
 ghost use Rattle.std.specs.Prelude.{◌≡◌, ◌+◌, ◌<◌, ◌^◌, true, false, IfNone, IfSome};
 ghost use Rattle.hd_ends.specs.Ends.{MayLeave, Takes, first_of, gave_back, turn_of};
-ghost use Rattle.hd_ends.specs.Inside.{IsNewEnd, sharer_of};
+ghost use Rattle.hd_ends.specs.Views.{IsNewEnd, sharer_of};
 
 use crate::boxed::Boxed;
 use hd_host::{Change, Host};
@@ -20,7 +20,7 @@ pub struct Sharer {
 }
 
 impl Model for Sharer {
-    ghost use Rattle.hd_ends.specs.{Ends.SharerView, Ends.sharer_view_code, Inside.IsSharer, Inside.sharer_of};
+    ghost use Rattle.hd_ends.specs.{Ends.SharerView, Ends.sharer_view_code, Views.IsSharer, Views.sharer_of};
 
     ghost Value = { SharerView };
 

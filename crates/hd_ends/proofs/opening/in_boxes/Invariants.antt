@@ -1,7 +1,7 @@
 use Rattle.std.proofs.Common.{◌≡◌, ◌++◌, length, map}
 use Rattle.std.specs.Vec.Iter.{into_iter_items, into_iter_len}
 use Rattle.hd_ends.specs.declared.end.End.TheVariants.{Shared}
-use Rattle.hd_ends.specs.Inside.{end_of}
+use Rattle.hd_ends.specs.Views.{end_of}
 use Rattle.hd_ends.proofs.opening.in_boxes.Given as goal
 
 abbrev pub invariant-loop-end : goal.invariant-loop-end

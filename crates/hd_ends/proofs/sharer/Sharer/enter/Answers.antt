@@ -3,7 +3,7 @@ use Rattle.hd_turns.specs.Views.{Known}
 use Rattle.hd_turns.specs.declared.gate.TheConstants.{LOOKS}
 use Rattle.hd_host.specs.View.{HostView}
 use Rattle.hd_ends.specs.Ends.{SharerView, Takes, with_last}
-use Rattle.hd_ends.specs.Inside.{SharedView, sharer_of}
+use Rattle.hd_ends.specs.Views.{SharedView, sharer_of}
 use Rattle.hd_ends.proofs.SharerTurns.{sharer_enters, sharer_looks, takes}
 use Rattle.hd_ends.proofs.sharer.Sharer.enter.Goals as goal
 

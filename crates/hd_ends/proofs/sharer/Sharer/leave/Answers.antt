@@ -3,7 +3,7 @@ use Rattle.hd_turns.specs.Views.{Known, gave_back as gate_given}
 use Rattle.hd_host.specs.declared.change.Change.{Change}
 use Rattle.hd_host.specs.View.{HostView}
 use Rattle.hd_ends.specs.Ends.{MayLeave, SharerView, gave_back}
-use Rattle.hd_ends.specs.Inside.{SharedView, sharer_of}
+use Rattle.hd_ends.specs.Views.{SharedView, sharer_of}
 use Rattle.hd_ends.proofs.SharerTurns.{may_leave_gate, sharer_leaves}
 use Rattle.hd_ends.proofs.sharer.Sharer.leave.Goals as goal
 

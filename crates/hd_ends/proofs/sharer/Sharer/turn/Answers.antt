@@ -1,7 +1,7 @@
 use Rattle.std.proofs.Common.{◌≡◌, ap, arith, length, sym, ◌+◌, ◌∙◌}
 use Rattle.hd_turns.specs.Views.{entries}
 use Rattle.hd_ends.specs.Ends.{SharerView, before_last, turn_of}
-use Rattle.hd_ends.specs.Inside.{hosts_of}
+use Rattle.hd_ends.specs.Views.{hosts_of}
 use Rattle.hd_ends.proofs.HostHistories.{length_hosts}
 use Rattle.hd_ends.proofs.sharer.Sharer.turn.Goals as goal
 
