@@ -1,9 +1,8 @@
 -- What the locals of an end reference when it finds the host is what it left there.
-use Rattle.std.proofs.Common.{◌≡◌, ◌≢◌, ℕ, List, ◌∷◌, ◌∙◌, refl, subst}
+use Rattle.std.proofs.Common.{◌∷◌, ◌∙◌, refl, subst}
 use Rattle.hd_turns.specs.Views.{GoesOn}
 use Rattle.hd_turns.proofs.Histories.{kept_by_others}
 use Rattle.hd_host.specs.Turns.{LocalsStay}
-use Rattle.hd_host.specs.View.{HostView}
 use Rattle.hd_host.proofs.OtherCallers.{others_keep_locals}
 use Rattle.hd_ends.specs.Ends.{EndTurn, EndsKeepLocals, with_last}
 

@@ -1,5 +1,5 @@
 -- The ends of a gate when it is opened, as ends of the host behind it.
-use Rattle.std.proofs.Common.{◌≡◌, ℕ, zero, suc, List, [], ◌∷◌, ◌++◌, ◌+◌, ◌*◌, ◌<◌, ◌≤◌, ◌^◌, ◌∙◌, ap, arith, false, length, map, refl, subst, sym}
+use Rattle.std.proofs.Common.{◌≡◌, ℕ, zero, suc, List, [], ◌∷◌, ◌++◌, ◌+◌, ◌*◌, ◌<◌, ◌≤◌, ◌^◌, ◌∙◌, ap, arith, false, map, refl, subst, sym}
 use Rattle.std.proofs.lemmas.List.{map-append}
 use Rattle.std.proofs.lemmas.List.Elements.{All-push}
 use Rattle.std.specs.List.{All}
@@ -9,7 +9,7 @@ use Rattle.hd_host.specs.declared.change.Change.{Change}
 use Rattle.hd_host.specs.View.{HostView}
 use Rattle.hd_ends.specs.declared.end.End.{End}
 use Rattle.hd_ends.specs.declared.end.End.TheVariants.{Shared}
-use Rattle.hd_ends.specs.Ends.{EndView, ends_up, new_end}
+use Rattle.hd_ends.specs.Ends.{ends_up, new_end}
 use Rattle.hd_ends.specs.Views.{IsNewEnd, SharedView, end_of}
 
 module _ (table : TableId) (each : ℕ) (v : HostView) where

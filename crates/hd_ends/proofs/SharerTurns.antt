@@ -1,7 +1,7 @@
 -- What an end of a shared host knows before, in and after its turn.
-use Rattle.std.proofs.Common.{◌≡◌, ℕ, List, [], ◌∷◌, ◌+◌, ◌*◌, ◌<◌, ◌≤◌, ◌∙◌, ap, arith, refl, subst, sym, true}
+use Rattle.std.proofs.Common.{◌≡◌, ℕ, List, [], ◌∷◌, ◌+◌, ◌*◌, ◌<◌, ◌≤◌, ◌∙◌, ap, arith, refl, subst, sym}
 use Rattle.hd_model.specs.State.{Numbers}
-use Rattle.hd_turns.specs.Views.{AreTurns, Enters, GoesOn, Known, entries, gave_back as gate_given, looked}
+use Rattle.hd_turns.specs.Views.{AreTurns, Enters, GoesOn, Known, gave_back as gate_given, looked}
 use Rattle.hd_turns.specs.Views.{MayLeave as MayLeaveGate}
 use Rattle.hd_turns.specs.declared.rule.View.{View}
 use Rattle.hd_turns.proofs.Histories.{kept_by_others}
@@ -9,9 +9,9 @@ use Rattle.hd_host.specs.declared.change.Change.{Change}
 use Rattle.hd_host.specs.Turns.{HostTurn}
 use Rattle.hd_host.specs.View.{HostView}
 use Rattle.hd_host.proofs.SoundTurns.{turn_numbers}
-use Rattle.hd_ends.specs.Ends.{EndView, MayLeave, SharerView, Takes, TookTurn, first_of, gave_back, with_last}
+use Rattle.hd_ends.specs.Ends.{Leaves, MayLeave, SharerView, Takes, TookTurn, first_of, gave_back, with_last}
 use Rattle.hd_ends.specs.Views.{IsNewEnd, IsSharer, SharedTurn, SharedView, end_of, hosts_of, sharer_of}
-use Rattle.hd_ends.proofs.HostHistories.{hosts_go_on, length_hosts, turns_of_hosts}
+use Rattle.hd_ends.proofs.HostHistories.{hosts_go_on, turns_of_hosts}
 
 abbrev host_or : HostView → List (ℕ × HostView) → HostView
 host_or v [] = v
@@ -150,15 +150,23 @@ module _ {s t : SharerView} {taken : HostView} (takes : Takes s t taken) where
           (subst (λ v. HostTurn s.end.each s.end.number v leaves) takes.taken_is turn);
     }
 
-    pub took_turn : {r : SharerView} → r ≡ gave_back leaves t → TookTurn s.end r.end takes.found leaves
-    took_turn is = record {
-      by = takes.by;
-      past = takes.past;
-      goes_on = takes.goes_on;
-      turns = takes.turns;
-      turn = subst (λ v. HostTurn s.end.each s.end.number v leaves) takes.taken_is turn;
-      new_is = ap (λ (x : SharerView). x.end) is ∙ ap (λ (x : SharerView). (gave_back leaves x).end) takes.new_is;
-    }
+  -- so a turn that was left is one
+  pub took_turn : {r : SharerView} {leaves : HostView} → Leaves t r leaves
+      → TookTurn s.end r.end takes.found leaves
+  took_turn {leaves = leaves} left =
+      let same : left.may.found ≡ takes.found =
+      ap (host_or leaves) (sym left.may.seen ∙ ap (λ (x : SharerView). x.end.seen) takes.new_is) in
+      record {
+        by = takes.by;
+        past = takes.past;
+        goes_on = takes.goes_on;
+        turns = takes.turns;
+        turn = subst (λ (x : SharerView). HostTurn x.end.each x.end.number (with_last takes.found x.end.last) leaves)
+            takes.new_is
+            (subst (λ v. HostTurn t.end.each t.end.number (with_last v t.end.last) leaves) same left.may.turn);
+        new_is = ap (λ (x : SharerView). x.end) left.new_is
+            ∙ ap (λ (x : SharerView). (gave_back leaves x).end) takes.new_is;
+      }
 
   -- the host has the contexts of an end
   pub context_there : {first c : ℕ} → first ≡ first_of s.end → c < s.end.each

@@ -111,6 +111,11 @@ gave_back v s = record {
   has_gate = false;
 }
 
+-- an end left its turn
+pub record Leaves (old new : SharerView) (leaves : HostView) : Type 0 where
+  pub may : MayLeave old.end leaves
+  pub new_is : new ≡ gave_back leaves old
+
 -- ---- how ends are opened
 
 -- the end with a number of a host to which nothing was done

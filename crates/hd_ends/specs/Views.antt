@@ -1,4 +1,4 @@
--- What ends of a gate take in turn, and an end of a gate as an end of a host.
+-- What is behind the gate of a shared host, and what is always so of an end.
 use Rattle.std.specs.Prelude.{◌≡◌, ℕ, ◌+◌, ◌*◌, ◌<◌, ◌≤◌, ◌^◌, false, List, [], ◌∷◌, refl}
 use Rattle.std.specs.Coded.{Coded, code_by, coded×, coded_ℕ}
 use Rattle.atomic_table.specs.Seated.{TableId}

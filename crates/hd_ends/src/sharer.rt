@@ -1,5 +1,5 @@
 ghost use Rattle.std.specs.Prelude.{◌≡◌, ◌+◌, ◌<◌, ◌^◌, true, false, IfNone, IfSome};
-ghost use Rattle.hd_ends.specs.Ends.{MayLeave, Takes, first_of, gave_back, turn_of};
+ghost use Rattle.hd_ends.specs.Ends.{Leaves, MayLeave, Takes, first_of, turn_of};
 ghost use Rattle.hd_ends.specs.Views.{IsNewEnd, sharer_of};
 
 use crate::boxed::Boxed;
@@ -98,7 +98,7 @@ impl Sharer {
     pub fn leave(&mut self, host: Box<Host>)
         requires gate { self.old.has_gate ≡ true }
         requires turn { MayLeave self.old.end host.value }
-        ensures { self.new ≡ gave_back host.value self.old }
+        ensures { Leaves self.old self.new host.value }
     {
         self.last = host.last();
         self.end.leave(Boxed {

@@ -1,35 +1,35 @@
 -- The ways in which an export comes to its status.
-use Rattle.std.proofs.Common.{None, Option, Some, ap, arith, refl, subst, sym, ℕ, ◌+◌, ◌<◌, ◌∙◌, ◌≡◌}
+use Rattle.std.proofs.Common.{None, Option, Some, ap, arith, subst, sym, ℕ, ◌*◌, ◌+◌, ◌<◌, ◌∙◌, ◌≡◌}
 use Rattle.std.specs.Prelude.{Err, MatchResult, Ok, Result}
 use Rattle.hd_host.specs.declared.fault.Fault.{Fault}
 use Rattle.hd_host.specs.Turns.{HostTurn, IsContextOf}
 use Rattle.hd_host.specs.View.{HostView, IsAsItWas}
 use Rattle.hd_host.proofs.CallTurns.{turn_as_it_was}
-use Rattle.hd_ends.specs.Ends.{EndView, MayLeave, SharerView, Takes, first_of, gave_back, with_last}
+use Rattle.hd_ends.specs.Ends.{EndView, Leaves, MayLeave, SharerView, Takes, first_of}
 use Rattle.hd_ends.specs.Opened.{contexts_of}
 use Rattle.hd_ends.specs.declared.end.End.{End}
 use Rattle.hd_ends.specs.declared.end.End.TheVariants.{Own, Shared}
 use Rattle.hd_ends.proofs.SharerTurns.{may_leave, took_turn}
 use Rattle.hdt_c.specs.Exports.{Comes, busy, closed, is_wrong, runs, turned, Runs, fails, does}
-use Rattle.hdt_c.specs.Outs.{IsOpened, Opens, Refuses, is_open, opens, refuses}
+use Rattle.hdt_c.specs.Outs.{IsOpened, Opens, Refuses, TellsLast, is_open, last_out, opens, refuses, shut_last, tells}
 use Rattle.hdt_c.specs.Status.{status_of}
-use Rattle.hdt_c.specs.declared.parts.Limits.{Limits}
+use Rattle.hdt_c.specs.declared.parts.{Change.Change, Limits.Limits}
 use Rattle.hdt_c.specs.declared.status.TheConstants.{ARGUMENT, BUSY, CLOSED, IS_OPEN, OK}
 
 -- ---- calls on a host
 
 module _ {Fails : HostView → Fault → Type 0} {Does : HostView → HostView → ℕ → Type 0} {Kept : Type 0} where
-  pub failed : {v w : HostView} {s : ℕ} (f : Fault) → Fails v f → IsAsItWas v w → Kept → s ≡ status_of f
+  pub failed : {v w : HostView} {s : ℕ} (f : Fault) → Fails v f × IsAsItWas v w → Kept → s ≡ status_of f
       → Runs Fails Does Kept v w s
-  failed {v} {w} f why same kept is =
-      subst (λ n. Runs Fails Does Kept v w n) (sym is) (fails v w f why same kept)
+  failed {v} {w} f why kept is =
+      subst (λ n. Runs Fails Does Kept v w n) (sym is) (fails v w f why.0 why.1 kept)
 
   -- a call with nothing to return, by the status of its result
   pub by_status : {X D : Type 0} {v w : HostView} {s : ℕ} → Kept → (D → s ≡ OK → Does v w s)
       → (r : Result X Fault) → MatchResult r (λ _. s ≡ OK) (λ fault. s ≡ status_of fault)
       → MatchResult r (λ _. D) (λ fault. Fails v fault × IsAsItWas v w) → Runs Fails Does Kept v w s
   by_status {v = v} {w = w} {s = s} kept made (Ok x) is done = does v w s (made done is)
-  by_status kept made (Err f) is why = failed f why.0 why.1 kept is
+  by_status kept made (Err f) is why = failed f why kept is
 
   -- the same, where the fault is said in other words
   pub by_fault : {X D : Type 0} {F : Fault → Type 0} {v w : HostView} {s : ℕ} → Kept
@@ -37,7 +37,7 @@ module _ {Fails : HostView → Fault → Type 0} {Does : HostView → HostView �
       → MatchResult r (λ _. s ≡ OK) (λ fault. s ≡ status_of fault)
       → MatchResult r (λ _. D) (λ fault. F fault × IsAsItWas v w) → Runs Fails Does Kept v w s
   by_fault {v = v} {w = w} {s = s} kept made why (Ok x) is done = does v w s (made done is)
-  by_fault kept made why (Err f) is fault = failed f (why f fault.0) fault.1 kept is
+  by_fault kept made why (Err f) is fault = failed f (why f fault.0, fault.1) kept is
 
   -- a call is a turn of an end, if it is one where it is done
   pub turn_by : {each number : ℕ} {v w : HostView} {s : ℕ} → (Does v w s → HostTurn each number v w)
@@ -100,18 +100,22 @@ module _ {Right : ℕ → Type 0} {Fails : (ℕ → ℕ) → HostView → Fault 
   -- it ran at the end's turn, in the host that it took
   pub ran_shared : {o n : Option End} {e x : End} {u t r : SharerView} {d : EndView} {taken v leaves : HostView}
       {count first s : ℕ} → Some e ≡ o → x ≡ e → x ≡ Shared d → u.end ≡ d → n ≡ Some (Shared r.end)
-      → count ≡ u.end.each → Right count → first ≡ first_of u.end → Takes u t taken → r ≡ gave_back leaves t
+      → count ≡ u.end.each → Right count → first ≡ first_of u.end → Takes u t taken → Leaves t r leaves
       → v ≡ taken → Runs (Fails (λ c. first + c)) (Does (λ c. first + c)) Kept v leaves s
-      → HostTurn u.end.each u.end.number v leaves → Comes Right Fails Does Kept o n s
-  ran_shared {o} {n} {u = u} {r = r} {v = v} {leaves = leaves} {s = s} some at is view now count right first takes gave same
-      did turn =
+      → Comes Right Fails Does Kept o n s
+  ran_shared {o} {n} {u = u} {r = r} {v = v} {leaves = leaves} {s = s} some at is view now count right first takes
+      left same did =
       subst (λ x. Comes Right Fails Does Kept x n s) (sym (was_shared some at is view))
       (subst (λ x. Comes Right Fails Does Kept (Some (Shared u.end)) x s) (sym now)
-      (turned u.end r.end takes.found leaves s (subst Right count right)
-      (took_turn takes (subst (λ h. HostTurn u.end.each u.end.number h leaves) same turn) gave)
+      (turned u.end r.end takes.found leaves s (subst Right count right) (took_turn takes left)
       (subst (λ h. Runs (Fails (λ c. first_of u.end + c)) (Does (λ c. first_of u.end + c)) Kept h leaves s)
       (same ∙ takes.taken_is)
       (subst (λ f. Runs (Fails (λ c. f + c)) (Does (λ c. f + c)) Kept v leaves s) first did))))
+
+  -- an end that was put back went to another function
+  pub went_on : {m o n : Option End} {e : End} {s : ℕ} → m ≡ Some e → Some e ≡ o → Comes Right Fails Does Kept m n s
+      → Comes Right Fails Does Kept o n s
+  went_on {n = n} {s = s} put some did = subst (λ x. Comes Right Fails Does Kept x n s) (put ∙ some) did
 
 -- a turn of an end may be left
 pub leaves_by : {u t : SharerView} {taken v leaves : HostView} → Takes u t taken → v ≡ taken
@@ -120,20 +124,9 @@ leaves_by {u} {leaves = leaves} takes same turn =
     may_leave takes (subst (λ h. HostTurn u.end.each u.end.number h leaves) same turn)
 
 -- a context of an end, in the host
-pub own_context : (e : EndView) {first c count : ℕ} → first ≡ first_of e → count ≡ e.each → c < count
-    → IsContextOf e.each e.number (first + c)
-own_context e is count low = (omega (arith, is), omega (arith, is, count, low))
-
--- a host that nothing was done to is as it was
-pub as_it_was : (v : HostView) → IsAsItWas v v
-as_it_was v = record {
-  numbers = refl;
-  state = refl;
-  addresses = λ x a is. is;
-  ages = refl;
-  stamps = refl;
-  last = refl;
-}
+pub own_context : (each number : ℕ) {first c count : ℕ} → first ≡ number * each → count ≡ each → c < count
+    → IsContextOf each number (first + c)
+own_context each number is count low = (omega (arith, is), omega (arith, is, count, low))
 
 module _ {limits : Limits} {o n : Option End} where
   pub already : {e : End} → o ≡ Some e → n ≡ Some e → Opens limits o n IS_OPEN
@@ -150,3 +143,14 @@ module _ {limits : Limits} {o n : Option End} where
   opened {v} was now is =
       subst (λ x. Opens limits x n OK) (sym was)
       (subst (λ x. Opens limits None x OK) (sym now) (opens v is))
+
+module _ {out out' : Change} {o n : Option End} where
+  pub untold : o ≡ None → n ≡ None → out' ≡ out → TellsLast out out' o n CLOSED
+  untold was now same =
+      subst (λ x. TellsLast out out' x n CLOSED) (sym was)
+      (subst (λ x. TellsLast out out' None x CLOSED) (sym now) (shut_last same))
+
+  pub told : {e : End} → Some e ≡ o → n ≡ Some e → out' ≡ last_out e → TellsLast out out' o n OK
+  told {e} was now is =
+      subst (λ x. TellsLast out out' x n OK) was
+      (subst (λ x. TellsLast out out' (Some e) x OK) (sym now) (tells e is))

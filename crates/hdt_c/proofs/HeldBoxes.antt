@@ -30,7 +30,7 @@ use Rattle.hd_ends.specs.declared.end.End.{End}
 use Rattle.hd_ends.specs.contracts.end.End as host
 use Rattle.hdt_c.specs.Held.{owned_at}
 use Rattle.hdt_c.specs.contracts.held.Held as held
-use Rattle.hdt_c.proofs.LooseBoxes.{al, both, both_tt}
+use Rattle.hd_loose.proofs.LooseBoxes.{al, both, both_tt}
 
 -- its machine value is well formed
 pub held_good : (p : Ptr) (h : Val) → Good (layout heap.the_row) h

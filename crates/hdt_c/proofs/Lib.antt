@@ -1,7 +1,6 @@
 pub mod Comings
 pub mod Listings
 pub mod Makes
-pub mod LooseBoxes
 pub mod HeldBoxes
 pub mod HeaderNumbers
 pub mod SharedOpenings

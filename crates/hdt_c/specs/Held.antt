@@ -1,18 +1,12 @@
 -- What an end that C holds owns.
 use Rattle.std.specs.Prelude.{Option, Some, None}
-use mir.Syntax.{Ty}
 use base.Fml.{Fml, feq}
-use denote.RattleType.{RattleType}
 use denote.RawPtr.{Ptr, null_ptr}
 use Rattle.std.specs.declared.alloc.Global.{Global}
 use Rattle.std.specs.contracts.impls.GlobalAllocator.TheImpl.{ghosts}
 use Rattle.std_alloc.specs.Box.Ownership.{box_owns}
 use Rattle.hd_ends.specs.declared.end.End.{End}
 use Rattle.hd_ends.specs.contracts.end.End.{the_row}
-
--- a value on the heap, and the right to free its block
-abbrev pub boxed_at : (Ty → Ptr → Fml) → (R : RattleType) → Ptr → R.Denot → Fml
-boxed_at = box_owns
 
 -- nothing, where it is closed; else the box of the end
 abbrev pub owned_at : Global → Ptr → Option End → Fml

@@ -77,7 +77,7 @@ last_out (Shared e) = change_out (turn_of e) e.last
 
 -- it is told, or the end is closed. No turn is taken.
 pub data TellsLast (old new : Change) : Option End → Option End → ℕ → Type 0 where
-  closed : new ≡ old → TellsLast old new None None CLOSED
+  shut_last : new ≡ old → TellsLast old new None None CLOSED
   tells : (e : End) → new ≡ last_out e → TellsLast old new (Some e) (Some e) OK
 
 -- what is found in the weak table; where it has no entry, nothing is written

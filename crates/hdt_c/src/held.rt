@@ -4,8 +4,8 @@ ghost use Rattle.std.specs.Coded.{coded_option};
 ghost use Rattle.hd_ends.specs.declared.end.End.{End};
 ghost use Rattle.hd_ends.specs.contracts.end.End as end_contract;
 
-use crate::loose::Loose;
 use hd_ends::End;
+use hd_loose::Loose;
 use std::alloc::Global;
 use std::marker::Model;
 use std::mem::replace;
@@ -140,24 +140,16 @@ impl Held {
     }
 }
 
-// The end as a box, if there is one.
-#[inline(always)]
-fn boxed(end: Option<Loose<End, Global>>) -> Option<Box<End>>
-    ensures { option_map (λ b. b.value) result ≡ option_map (λ l. l.value) end }
-{
-    match end {
-        Some(end) => Some(end.into_box()),
-        None => None,
-    }
-}
-
 /// Takes the end out, which is closed from then on.
 #[inline(always)]
 pub(crate) fn take(alloc: Global, held: &mut Held) -> Option<Box<End>>
     ensures value { option_map (λ b. b.value) result ≡ held.old.value }
     ensures closed { held.new.value ≡ None }
 {
-    boxed(replace(held, Held::closed(alloc)).unseal())
+    match replace(held, Held::closed(alloc)).unseal() {
+        Some(end) => Some(end.into_box()),
+        None => None,
+    }
 }
 
 /// Puts an end in, where it was closed.

@@ -3,7 +3,6 @@
 
 mod arguments;
 mod held;
-mod loose;
 mod numbers;
 mod on_ends;
 mod on_entries;
@@ -11,6 +10,7 @@ mod on_handles;
 mod on_host;
 mod on_locals;
 mod on_objects;
+mod own;
 mod parts;
 mod status;
 mod version;

@@ -13,10 +13,11 @@ use crate::status::{NONE, OK, status, status_of};
 use hd_host::{Host, Lookup};
 use std::alloc::Global;
 
-// Adds an entry to the weak table.
 fn table_add(host: &mut Host, c: u32, key: u32, value: u32) -> u32
     requires { HasLocals c key value host.old.machine.numbers.callers }
-    ensures { let command = cmd.CAdd key value in Runs (FailsIn c command) (λ v w s. AddsEntry v c key value w × (s ≡ OK)) KeepsNothing host.old host.new result }
+    ensures { let command = cmd.CAdd key value in
+        Runs (FailsIn c command) (λ v w s. AddsEntry v c key value w × (s ≡ OK)) KeepsNothing
+        host.old host.new result }
 {
     status(host.table_add(c, key as u8, value as u8))
 }
@@ -24,15 +25,20 @@ fn table_add(host: &mut Host, c: u32, key: u32, value: u32) -> u32
 /// `hdt_table_add`.
 #[unsafe(no_mangle)]
 pub extern "C" fn hdt_table_add(alloc: Global, host: &mut Held, c: u32, key: u32, value: u32) -> u32
-    ensures { let command = cmd.CAdd key value in Comes (HasLocals c key value) (λ at. FailsIn (at c) command) (λ at. λ v w s. AddsEntry v (at c) key value w × (s ≡ OK)) KeepsNothing host.old.value host.new.value result }
+    ensures { let command = cmd.CAdd key value in
+        Comes (HasLocals c key value) (λ at. FailsIn (at c) command)
+        (λ at v w s. AddsEntry v (at c) key value w × (s ≡ OK)) KeepsNothing host.old.value
+        host.new.value result }
 {
     on_open!(alloc, host, in c, table_add(key, value) if has_locals(key, value))
 }
 
-// Looks an entry up.
 fn table_find(host: &mut Host, c: u32, dst: u32, key: u32, id: &mut u64) -> u32
     requires { HasLocals c dst key host.old.machine.numbers.callers }
-    ensures { let command = cmd.CFind dst key in Runs (FailsIn c command) (Returns c command found_reply (λ found. IsFound found id.old id.new)) (id.new ≡ id.old) host.old host.new result }
+    ensures { let command = cmd.CFind dst key in
+        Runs (FailsIn c command)
+        (Returns c command found_reply (λ found. IsFound found id.old id.new)) (id.new ≡ id.old)
+        host.old host.new result }
 {
     match host.table_find(c, dst as u8, key as u8) {
         Ok(found) => write_found(found, id),
@@ -55,16 +61,28 @@ fn write_found(found: Lookup, id: &mut u64) -> u32
 
 /// `hdt_table_find`.
 #[unsafe(no_mangle)]
-pub extern "C" fn hdt_table_find(alloc: Global, host: &mut Held, c: u32, dst: u32, key: u32, id: &mut u64) -> u32
-    ensures { let command = cmd.CFind dst key in Comes (HasLocals c dst key) (λ at. FailsIn (at c) command) (λ at. Returns (at c) command found_reply (λ found. IsFound found id.old id.new)) (id.new ≡ id.old) host.old.value host.new.value result }
+pub extern "C" fn hdt_table_find(
+    alloc: Global,
+    host: &mut Held,
+    c: u32,
+    dst: u32,
+    key: u32,
+    id: &mut u64,
+) -> u32
+    ensures { let command = cmd.CFind dst key in
+        Comes (HasLocals c dst key) (λ at. FailsIn (at c) command)
+        (λ at. Returns (at c) command found_reply (λ found. IsFound found id.old id.new))
+        (id.new ≡ id.old) host.old.value host.new.value result }
 {
     on_open!(alloc, host, in c, table_find(dst, key, id) if has_locals(dst, key))
 }
 
-// Takes an entry out.
 fn table_remove(host: &mut Host, c: u32, key: u32) -> u32
     requires { HasLocal c key host.old.machine.numbers.callers }
-    ensures { let command = cmd.CRemove key in Runs (FailsIn c command) (Returns c command removed_reply (λ removed s. s ≡ (if removed then OK else NONE))) KeepsNothing host.old host.new result }
+    ensures { let command = cmd.CRemove key in
+        Runs (FailsIn c command)
+        (Returns c command removed_reply (λ removed s. s ≡ (if removed then OK else NONE)))
+        KeepsNothing host.old host.new result }
 {
     match host.table_remove(c, key as u8) {
         Ok(removed) => status_of_removed(removed),
@@ -82,7 +100,10 @@ fn status_of_removed(removed: bool) -> u32
 /// `hdt_table_remove`.
 #[unsafe(no_mangle)]
 pub extern "C" fn hdt_table_remove(alloc: Global, host: &mut Held, c: u32, key: u32) -> u32
-    ensures { let command = cmd.CRemove key in Comes (HasLocal c key) (λ at. FailsIn (at c) command) (λ at. Returns (at c) command removed_reply (λ removed s. s ≡ (if removed then OK else NONE))) KeepsNothing host.old.value host.new.value result }
+    ensures { let command = cmd.CRemove key in
+        Comes (HasLocal c key) (λ at. FailsIn (at c) command)
+        (λ at. Returns (at c) command removed_reply (λ removed s. s ≡ (if removed then OK else NONE)))
+        KeepsNothing host.old.value host.new.value result }
 {
     on_open!(alloc, host, in c, table_remove(key) if has_local(key))
 }

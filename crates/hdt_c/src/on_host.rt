@@ -97,7 +97,8 @@ pub extern "C" fn hdt_close(alloc: Global, host: &mut Held)
 
 // The numbers of a host.
 fn stats(host: &mut Host, out: &mut Stats) -> u32
-    ensures { Runs NeverFails (λ v w s. (w ≡ v) × (s ≡ OK) × (out.new ≡ stats_of v)) (out.new ≡ out.old) host.old host.new result }
+    ensures { Runs NeverFails (λ v w s. (w ≡ v) × (s ≡ OK) × (out.new ≡ stats_of v))
+        (out.new ≡ out.old) host.old host.new result }
 {
     let stats = host.stats();
     *out = Stats {
@@ -113,7 +114,9 @@ fn stats(host: &mut Host, out: &mut Stats) -> u32
 /// `hdt_stats`.
 #[unsafe(no_mangle)]
 pub extern "C" fn hdt_stats(alloc: Global, host: &mut Held, out: &mut Stats) -> u32
-    ensures { Comes AlwaysRight (λ at. NeverFails) (λ at. λ v w s. (w ≡ v) × (s ≡ OK) × (out.new ≡ stats_of v)) (out.new ≡ out.old) host.old.value host.new.value result }
+    ensures { Comes AlwaysRight (λ at. NeverFails)
+        (λ at v w s. (w ≡ v) × (s ≡ OK) × (out.new ≡ stats_of v)) (out.new ≡ out.old) host.old.value
+        host.new.value result }
 {
     on_open!(alloc, host, stats(out))
 }
@@ -141,10 +144,11 @@ pub extern "C" fn hdt_last(alloc: Global, host: &mut Held, out: &mut Change) -> 
     OK
 }
 
-// Collects.
 fn collect(host: &mut Host, generation: u32, report: &mut Report) -> u32
     requires { generation ≤ 2 }
-    ensures { let command = cmd.Collect generation in Runs (FailsIn 0 command) (Replies 0 command (reply.Report (report_in report.new))) (report.new ≡ report.old) host.old host.new result }
+    ensures { let command = cmd.Collect generation in
+        Runs (FailsIn 0 command) (Replies 0 command (reply.Report (report_in report.new)))
+        (report.new ≡ report.old) host.old host.new result }
 {
     match host.collect(generation as u8) {
         Ok(made) => {
@@ -164,8 +168,16 @@ fn collect(host: &mut Host, generation: u32, report: &mut Report) -> u32
 
 /// `hdt_collect`.
 #[unsafe(no_mangle)]
-pub extern "C" fn hdt_collect(alloc: Global, host: &mut Held, generation: u32, report: &mut Report) -> u32
-    ensures { let command = cmd.Collect generation in Comes (λ contexts. generation ≤ 2) (λ at. FailsIn 0 command) (λ at. Replies 0 command (reply.Report (report_in report.new))) (report.new ≡ report.old) host.old.value host.new.value result }
+pub extern "C" fn hdt_collect(
+    alloc: Global,
+    host: &mut Held,
+    generation: u32,
+    report: &mut Report,
+) -> u32
+    ensures { let command = cmd.Collect generation in
+        Comes (λ contexts. generation ≤ 2) (λ at. FailsIn 0 command)
+        (λ at. Replies 0 command (reply.Report (report_in report.new))) (report.new ≡ report.old)
+        host.old.value host.new.value result }
 {
     on_open!(alloc, host, collect(generation, report) if is_generation(generation))
 }
@@ -173,7 +185,9 @@ pub extern "C" fn hdt_collect(alloc: Global, host: &mut Held, generation: u32, r
 // Takes the first object off the finalization queue.
 fn final_next(host: &mut Host, c: u32, dst: u32, id: &mut u64) -> u32
     requires { HasLocal c dst host.old.machine.numbers.callers }
-    ensures { let command = cmd.Final dst in Runs NeverFails (Returns c command queued_reply (λ taken. IsFirst taken id.old id.new)) (id.new ≡ id.old) host.old host.new result }
+    ensures { let command = cmd.Final dst in
+        Runs NeverFails (Returns c command queued_reply (λ taken. IsFirst taken id.old id.new))
+        (id.new ≡ id.old) host.old host.new result }
 {
     match host.final_next(c, dst as u8) {
         Some(first) => {
@@ -186,16 +200,25 @@ fn final_next(host: &mut Host, c: u32, dst: u32, id: &mut u64) -> u32
 
 /// `hdt_final_next`.
 #[unsafe(no_mangle)]
-pub extern "C" fn hdt_final_next(alloc: Global, host: &mut Held, c: u32, dst: u32, id: &mut u64) -> u32
-    ensures { let command = cmd.Final dst in Comes (HasLocal c dst) (λ at. NeverFails) (λ at. Returns (at c) command queued_reply (λ taken. IsFirst taken id.old id.new)) (id.new ≡ id.old) host.old.value host.new.value result }
+pub extern "C" fn hdt_final_next(
+    alloc: Global,
+    host: &mut Held,
+    c: u32,
+    dst: u32,
+    id: &mut u64,
+) -> u32
+    ensures { let command = cmd.Final dst in
+        Comes (HasLocal c dst) (λ at. NeverFails)
+        (λ at. Returns (at c) command queued_reply (λ taken. IsFirst taken id.old id.new))
+        (id.new ≡ id.old) host.old.value host.new.value result }
 {
     on_open!(alloc, host, in c, final_next(dst, id) if has_local(dst))
 }
 
-// Gives a block back.
 fn trim(host: &mut Host, kind: u32, given: &mut u32) -> u32
     requires { IsUnpaired kind }
-    ensures { Runs NeverFails (λ v w s. (of : Kind) × (kind_number of ≡ kind) × Trims v of given.new w × (s ≡ OK)) (given.new ≡ given.old) host.old host.new result }
+    ensures { Runs NeverFails (λ v w s. (of : Kind) × (kind_number of ≡ kind) ×
+        Trims v of given.new w × (s ≡ OK)) (given.new ≡ given.old) host.old host.new result }
 {
     let Some(of) = kind_of(kind) else {
         unreachable!()
@@ -207,7 +230,9 @@ fn trim(host: &mut Host, kind: u32, given: &mut u32) -> u32
 /// `hdt_trim`.
 #[unsafe(no_mangle)]
 pub extern "C" fn hdt_trim(alloc: Global, host: &mut Held, kind: u32, given: &mut u32) -> u32
-    ensures { Comes (λ contexts. IsUnpaired kind) (λ at. NeverFails) (λ at. λ v w s. (of : Kind) × (kind_number of ≡ kind) × Trims v of given.new w × (s ≡ OK)) (given.new ≡ given.old) host.old.value host.new.value result }
+    ensures { Comes (λ contexts. IsUnpaired kind) (λ at. NeverFails) (λ at v w s. (of : Kind) ×
+        (kind_number of ≡ kind) × Trims v of given.new w × (s ≡ OK)) (given.new ≡ given.old)
+        host.old.value host.new.value result }
 {
     on_open!(alloc, host, trim(kind, given) if is_unpaired(kind))
 }

@@ -15,7 +15,9 @@ use std::alloc::Global;
 // What a local references.
 fn local_id(host: &mut Host, c: u32, src: u32, id: &mut u64) -> u32
     requires { HasLocal c src host.old.machine.numbers.callers }
-    ensures { Runs NeverFails (λ v w s. (w ≡ v) × (id.new ≡ number_of (register_of v.machine.state c src)) × (s ≡ OK)) (id.new ≡ id.old) host.old host.new result }
+    ensures { Runs NeverFails (λ v w s. (w ≡ v) ×
+        (id.new ≡ number_of (register_of v.machine.state c src)) × (s ≡ OK)) (id.new ≡ id.old)
+        host.old host.new result }
 {
     *id = number_of(host.local_id(c, src as u8));
     OK
@@ -23,16 +25,24 @@ fn local_id(host: &mut Host, c: u32, src: u32, id: &mut u64) -> u32
 
 /// `hdt_local_id`.
 #[unsafe(no_mangle)]
-pub extern "C" fn hdt_local_id(alloc: Global, host: &mut Held, c: u32, src: u32, id: &mut u64) -> u32
-    ensures { Comes (HasLocal c src) (λ at. NeverFails) (λ at. λ v w s. (w ≡ v) × (id.new ≡ number_of (register_of v.machine.state (at c) src)) × (s ≡ OK)) (id.new ≡ id.old) host.old.value host.new.value result }
+pub extern "C" fn hdt_local_id(
+    alloc: Global,
+    host: &mut Held,
+    c: u32,
+    src: u32,
+    id: &mut u64,
+) -> u32
+    ensures { Comes (HasLocal c src) (λ at. NeverFails) (λ at v w s. (w ≡ v) ×
+        (id.new ≡ number_of (register_of v.machine.state (at c) src)) × (s ≡ OK)) (id.new ≡ id.old)
+        host.old.value host.new.value result }
 {
     on_open!(alloc, host, in c, local_id(src, id) if has_local(src))
 }
 
-// Copies a local.
 fn local_copy(host: &mut Host, c: u32, dst: u32, src: u32) -> u32
     requires { HasLocals c dst src host.old.machine.numbers.callers }
-    ensures { let command = cmd.Copy dst src in Runs NeverFails (Replies c command reply.Done) KeepsNothing host.old host.new result }
+    ensures { let command = cmd.Copy dst src in
+        Runs NeverFails (Replies c command reply.Done) KeepsNothing host.old host.new result }
 {
     host.local_copy(c, dst as u8, src as u8);
     OK
@@ -41,15 +51,17 @@ fn local_copy(host: &mut Host, c: u32, dst: u32, src: u32) -> u32
 /// `hdt_local_copy`.
 #[unsafe(no_mangle)]
 pub extern "C" fn hdt_local_copy(alloc: Global, host: &mut Held, c: u32, dst: u32, src: u32) -> u32
-    ensures { let command = cmd.Copy dst src in Comes (HasLocals c dst src) (λ at. NeverFails) (λ at. Replies (at c) command reply.Done) KeepsNothing host.old.value host.new.value result }
+    ensures { let command = cmd.Copy dst src in
+        Comes (HasLocals c dst src) (λ at. NeverFails) (λ at. Replies (at c) command reply.Done)
+        KeepsNothing host.old.value host.new.value result }
 {
     on_open!(alloc, host, in c, local_copy(dst, src) if has_locals(dst, src))
 }
 
-// Clears a local.
 fn local_clear(host: &mut Host, c: u32, dst: u32) -> u32
     requires { HasLocal c dst host.old.machine.numbers.callers }
-    ensures { let command = cmd.Clear dst in Runs NeverFails (Replies c command reply.Done) KeepsNothing host.old host.new result }
+    ensures { let command = cmd.Clear dst in
+        Runs NeverFails (Replies c command reply.Done) KeepsNothing host.old host.new result }
 {
     host.local_clear(c, dst as u8);
     OK
@@ -58,15 +70,17 @@ fn local_clear(host: &mut Host, c: u32, dst: u32) -> u32
 /// `hdt_local_clear`.
 #[unsafe(no_mangle)]
 pub extern "C" fn hdt_local_clear(alloc: Global, host: &mut Held, c: u32, dst: u32) -> u32
-    ensures { let command = cmd.Clear dst in Comes (HasLocal c dst) (λ at. NeverFails) (λ at. Replies (at c) command reply.Done) KeepsNothing host.old.value host.new.value result }
+    ensures { let command = cmd.Clear dst in
+        Comes (HasLocal c dst) (λ at. NeverFails) (λ at. Replies (at c) command reply.Done)
+        KeepsNothing host.old.value host.new.value result }
 {
     on_open!(alloc, host, in c, local_clear(dst) if has_local(dst))
 }
 
-// Loads a static.
 fn static_get(host: &mut Host, c: u32, dst: u32, k: u32, id: &mut u64) -> u32
     requires { HasLocals c dst k host.old.machine.numbers.callers }
-    ensures { let command = cmd.SGet dst k in Runs NeverFails (Loads c command id.new) (id.new ≡ id.old) host.old host.new result }
+    ensures { let command = cmd.SGet dst k in
+        Runs NeverFails (Loads c command id.new) (id.new ≡ id.old) host.old host.new result }
 {
     *id = number_of(host.static_get(c, dst as u8, k as u8));
     OK
@@ -74,16 +88,25 @@ fn static_get(host: &mut Host, c: u32, dst: u32, k: u32, id: &mut u64) -> u32
 
 /// `hdt_static_get`.
 #[unsafe(no_mangle)]
-pub extern "C" fn hdt_static_get(alloc: Global, host: &mut Held, c: u32, dst: u32, k: u32, id: &mut u64) -> u32
-    ensures { let command = cmd.SGet dst k in Comes (HasLocals c dst k) (λ at. NeverFails) (λ at. Loads (at c) command id.new) (id.new ≡ id.old) host.old.value host.new.value result }
+pub extern "C" fn hdt_static_get(
+    alloc: Global,
+    host: &mut Held,
+    c: u32,
+    dst: u32,
+    k: u32,
+    id: &mut u64,
+) -> u32
+    ensures { let command = cmd.SGet dst k in
+        Comes (HasLocals c dst k) (λ at. NeverFails) (λ at. Loads (at c) command id.new)
+        (id.new ≡ id.old) host.old.value host.new.value result }
 {
     on_open!(alloc, host, in c, static_get(dst, k, id) if has_locals(dst, k))
 }
 
-// Stores a static.
 fn static_set(host: &mut Host, c: u32, k: u32, src: u32) -> u32
     requires { HasLocals c k src host.old.machine.numbers.callers }
-    ensures { let command = cmd.SPut k src in Runs NeverFails (Replies c command reply.Done) KeepsNothing host.old host.new result }
+    ensures { let command = cmd.SPut k src in
+        Runs NeverFails (Replies c command reply.Done) KeepsNothing host.old host.new result }
 {
     host.static_set(c, k as u8, src as u8);
     OK
@@ -92,7 +115,9 @@ fn static_set(host: &mut Host, c: u32, k: u32, src: u32) -> u32
 /// `hdt_static_set`.
 #[unsafe(no_mangle)]
 pub extern "C" fn hdt_static_set(alloc: Global, host: &mut Held, c: u32, k: u32, src: u32) -> u32
-    ensures { let command = cmd.SPut k src in Comes (HasLocals c k src) (λ at. NeverFails) (λ at. Replies (at c) command reply.Done) KeepsNothing host.old.value host.new.value result }
+    ensures { let command = cmd.SPut k src in
+        Comes (HasLocals c k src) (λ at. NeverFails) (λ at. Replies (at c) command reply.Done)
+        KeepsNothing host.old.value host.new.value result }
 {
     on_open!(alloc, host, in c, static_set(k, src) if has_locals(k, src))
 }

@@ -1,6 +1,5 @@
 // The exports on objects.
-ghost use Rattle.std.specs.Prelude.{◌≡◌, ◌==◌, ◌<◌, ◌≤◌, None, Option};
-ghost use Rattle.hd_model.specs.{Command.load_reply};
+ghost use Rattle.std.specs.Prelude.{◌≡◌, ◌==◌, ◌<◌, None, Option};
 ghost use Rattle.hd_model.specs.declared.command.Cmd.TheVariants as cmd;
 ghost use Rattle.hd_model.specs.declared.data.Reply.TheVariants as reply;
 ghost use Rattle.hd_store.specs.Replies.{root_reply};
@@ -15,10 +14,12 @@ use crate::status::{NONE, OK, status, status_of};
 use hd_host::Host;
 use std::alloc::Global;
 
-// Makes an object.
 fn object_new(host: &mut Host, c: u32, dst: u32, fields: u32, flags: u32, id: &mut u64) -> u32
     requires { IsObject c dst fields flags host.old.machine.numbers.callers }
-    ensures { let command = cmd.New dst fields (flags == 1) in Runs (FailsIn c command) (Returns c command reply.Object (λ made s. (id.new ≡ made.0) × (s ≡ OK))) (id.new ≡ id.old) host.old host.new result }
+    ensures { let command = cmd.New dst fields (flags == 1) in
+        Runs (FailsIn c command)
+        (Returns c command reply.Object (λ made s. (id.new ≡ made.0) × (s ≡ OK))) (id.new ≡ id.old)
+        host.old host.new result }
 {
     match host.object_new(c, dst as u8, fields as u8, flags == FINALIZABLE) {
         Ok(made) => {
@@ -31,16 +32,28 @@ fn object_new(host: &mut Host, c: u32, dst: u32, fields: u32, flags: u32, id: &m
 
 /// `hdt_object_new`.
 #[unsafe(no_mangle)]
-pub extern "C" fn hdt_object_new(alloc: Global, host: &mut Held, c: u32, dst: u32, fields: u32, flags: u32, id: &mut u64) -> u32
-    ensures { let command = cmd.New dst fields (flags == 1) in Comes (IsObject c dst fields flags) (λ at. FailsIn (at c) command) (λ at. Returns (at c) command reply.Object (λ made s. (id.new ≡ made.0) × (s ≡ OK))) (id.new ≡ id.old) host.old.value host.new.value result }
+pub extern "C" fn hdt_object_new(
+    alloc: Global,
+    host: &mut Held,
+    c: u32,
+    dst: u32,
+    fields: u32,
+    flags: u32,
+    id: &mut u64,
+) -> u32
+    ensures { let command = cmd.New dst fields (flags == 1) in
+        Comes (IsObject c dst fields flags) (λ at. FailsIn (at c) command)
+        (λ at. Returns (at c) command reply.Object (λ made s. (id.new ≡ made.0) × (s ≡ OK)))
+        (id.new ≡ id.old) host.old.value host.new.value result }
 {
     on_open!(alloc, host, in c, object_new(dst, fields, flags, id) if is_object(dst, fields, flags))
 }
 
-// Loads a field.
 fn field_get(host: &mut Host, c: u32, dst: u32, object: u32, i: u32, id: &mut u64) -> u32
     requires { HasLocals c dst object host.old.machine.numbers.callers }
-    ensures { let command = cmd.Get dst object (field_number i) in Runs (FailsIn c command) (Loads c command id.new) (id.new ≡ id.old) host.old host.new result }
+    ensures { let command = cmd.Get dst object (field_number i) in
+        Runs (FailsIn c command) (Loads c command id.new) (id.new ≡ id.old) host.old host.new
+        result }
 {
     match host.field_get(c, dst as u8, object as u8, field(i)) {
         Ok(load_reply) => {
@@ -53,32 +66,54 @@ fn field_get(host: &mut Host, c: u32, dst: u32, object: u32, i: u32, id: &mut u6
 
 /// `hdt_field_get`.
 #[unsafe(no_mangle)]
-pub extern "C" fn hdt_field_get(alloc: Global, host: &mut Held, c: u32, dst: u32, object: u32, i: u32, id: &mut u64) -> u32
-    ensures { let command = cmd.Get dst object (field_number i) in Comes (HasLocals c dst object) (λ at. FailsIn (at c) command) (λ at. Loads (at c) command id.new) (id.new ≡ id.old) host.old.value host.new.value result }
+pub extern "C" fn hdt_field_get(
+    alloc: Global,
+    host: &mut Held,
+    c: u32,
+    dst: u32,
+    object: u32,
+    i: u32,
+    id: &mut u64,
+) -> u32
+    ensures { let command = cmd.Get dst object (field_number i) in
+        Comes (HasLocals c dst object) (λ at. FailsIn (at c) command)
+        (λ at. Loads (at c) command id.new) (id.new ≡ id.old) host.old.value host.new.value result }
 {
     on_open!(alloc, host, in c, field_get(dst, object, i, id) if has_locals(dst, object))
 }
 
-// Stores a field.
 fn field_set(host: &mut Host, c: u32, object: u32, i: u32, src: u32) -> u32
     requires { HasLocals c object src host.old.machine.numbers.callers }
-    ensures { let command = cmd.Set object (field_number i) src in Runs (FailsIn c command) (Replies c command reply.Done) KeepsNothing host.old host.new result }
+    ensures { let command = cmd.Set object (field_number i) src in
+        Runs (FailsIn c command) (Replies c command reply.Done) KeepsNothing host.old host.new
+        result }
 {
     status(host.field_set(c, object as u8, field(i), src as u8))
 }
 
 /// `hdt_field_set`.
 #[unsafe(no_mangle)]
-pub extern "C" fn hdt_field_set(alloc: Global, host: &mut Held, c: u32, object: u32, i: u32, src: u32) -> u32
-    ensures { let command = cmd.Set object (field_number i) src in Comes (HasLocals c object src) (λ at. FailsIn (at c) command) (λ at. Replies (at c) command reply.Done) KeepsNothing host.old.value host.new.value result }
+pub extern "C" fn hdt_field_set(
+    alloc: Global,
+    host: &mut Held,
+    c: u32,
+    object: u32,
+    i: u32,
+    src: u32,
+) -> u32
+    ensures { let command = cmd.Set object (field_number i) src in
+        Comes (HasLocals c object src) (λ at. FailsIn (at c) command)
+        (λ at. Replies (at c) command reply.Done) KeepsNothing host.old.value host.new.value
+        result }
 {
     on_open!(alloc, host, in c, field_set(object, i, src) if has_locals(object, src))
 }
 
-// Reads a value.
 fn value_get(host: &mut Host, c: u32, object: u32, value: &mut u64) -> u32
     requires { HasLocal c object host.old.machine.numbers.callers }
-    ensures { let command = cmd.Read object in Runs (FailsIn c command) (Replies c command (reply.Value value.new)) (value.new ≡ value.old) host.old host.new result }
+    ensures { let command = cmd.Read object in
+        Runs (FailsIn c command) (Replies c command (reply.Value value.new)) (value.new ≡ value.old)
+        host.old host.new result }
 {
     match host.value_get(c, object as u8) {
         Ok(read) => {
@@ -91,32 +126,52 @@ fn value_get(host: &mut Host, c: u32, object: u32, value: &mut u64) -> u32
 
 /// `hdt_value_get`.
 #[unsafe(no_mangle)]
-pub extern "C" fn hdt_value_get(alloc: Global, host: &mut Held, c: u32, object: u32, value: &mut u64) -> u32
-    ensures { let command = cmd.Read object in Comes (HasLocal c object) (λ at. FailsIn (at c) command) (λ at. Replies (at c) command (reply.Value value.new)) (value.new ≡ value.old) host.old.value host.new.value result }
+pub extern "C" fn hdt_value_get(
+    alloc: Global,
+    host: &mut Held,
+    c: u32,
+    object: u32,
+    value: &mut u64,
+) -> u32
+    ensures { let command = cmd.Read object in
+        Comes (HasLocal c object) (λ at. FailsIn (at c) command)
+        (λ at. Replies (at c) command (reply.Value value.new)) (value.new ≡ value.old)
+        host.old.value host.new.value result }
 {
     on_open!(alloc, host, in c, value_get(object, value) if has_local(object))
 }
 
-// Writes a value.
 fn value_set(host: &mut Host, c: u32, object: u32, value: u64) -> u32
     requires { HasLocal c object host.old.machine.numbers.callers }
-    ensures { let command = cmd.Val object value in Runs (FailsIn c command) (Replies c command reply.Done) KeepsNothing host.old host.new result }
+    ensures { let command = cmd.Val object value in
+        Runs (FailsIn c command) (Replies c command reply.Done) KeepsNothing host.old host.new
+        result }
 {
     status(host.value_set(c, object as u8, value))
 }
 
 /// `hdt_value_set`.
 #[unsafe(no_mangle)]
-pub extern "C" fn hdt_value_set(alloc: Global, host: &mut Held, c: u32, object: u32, value: u64) -> u32
-    ensures { let command = cmd.Val object value in Comes (HasLocal c object) (λ at. FailsIn (at c) command) (λ at. Replies (at c) command reply.Done) KeepsNothing host.old.value host.new.value result }
+pub extern "C" fn hdt_value_set(
+    alloc: Global,
+    host: &mut Held,
+    c: u32,
+    object: u32,
+    value: u64,
+) -> u32
+    ensures { let command = cmd.Val object value in
+        Comes (HasLocal c object) (λ at. FailsIn (at c) command)
+        (λ at. Replies (at c) command reply.Done) KeepsNothing host.old.value host.new.value
+        result }
 {
     on_open!(alloc, host, in c, value_set(object, value) if has_local(object))
 }
 
-// Reads a generation.
 fn read_generation(host: &mut Host, c: u32, object: u32, generation: &mut u32) -> u32
     requires { HasLocal c object host.old.machine.numbers.callers }
-    ensures { let command = cmd.Gen object in Runs (FailsIn c command) (Replies c command (reply.Generation generation.new)) (generation.new ≡ generation.old) host.old host.new result }
+    ensures { let command = cmd.Gen object in
+        Runs (FailsIn c command) (Replies c command (reply.Generation generation.new))
+        (generation.new ≡ generation.old) host.old host.new result }
 {
     match host.generation(c, object as u8) {
         Ok(read) => {
@@ -129,16 +184,26 @@ fn read_generation(host: &mut Host, c: u32, object: u32, generation: &mut u32) -
 
 /// `hdt_generation`.
 #[unsafe(no_mangle)]
-pub extern "C" fn hdt_generation(alloc: Global, host: &mut Held, c: u32, object: u32, generation: &mut u32) -> u32
-    ensures { let command = cmd.Gen object in Comes (HasLocal c object) (λ at. FailsIn (at c) command) (λ at. Replies (at c) command (reply.Generation generation.new)) (generation.new ≡ generation.old) host.old.value host.new.value result }
+pub extern "C" fn hdt_generation(
+    alloc: Global,
+    host: &mut Held,
+    c: u32,
+    object: u32,
+    generation: &mut u32,
+) -> u32
+    ensures { let command = cmd.Gen object in
+        Comes (HasLocal c object) (λ at. FailsIn (at c) command)
+        (λ at. Replies (at c) command (reply.Generation generation.new))
+        (generation.new ≡ generation.old) host.old.value host.new.value result }
 {
     on_open!(alloc, host, in c, read_generation(object, generation) if has_local(object))
 }
 
-// Unregisters an object.
 fn suppress(host: &mut Host, c: u32, object: u32) -> u32
     requires { HasLocal c object host.old.machine.numbers.callers }
-    ensures { let command = cmd.Suppress object in Runs (FailsIn c command) (Replies c command reply.Done) KeepsNothing host.old host.new result }
+    ensures { let command = cmd.Suppress object in
+        Runs (FailsIn c command) (Replies c command reply.Done) KeepsNothing host.old host.new
+        result }
 {
     status(host.suppress(c, object as u8))
 }
@@ -146,15 +211,19 @@ fn suppress(host: &mut Host, c: u32, object: u32) -> u32
 /// `hdt_suppress`.
 #[unsafe(no_mangle)]
 pub extern "C" fn hdt_suppress(alloc: Global, host: &mut Held, c: u32, object: u32) -> u32
-    ensures { let command = cmd.Suppress object in Comes (HasLocal c object) (λ at. FailsIn (at c) command) (λ at. Replies (at c) command reply.Done) KeepsNothing host.old.value host.new.value result }
+    ensures { let command = cmd.Suppress object in
+        Comes (HasLocal c object) (λ at. FailsIn (at c) command)
+        (λ at. Replies (at c) command reply.Done) KeepsNothing host.old.value host.new.value
+        result }
 {
     on_open!(alloc, host, in c, suppress(object) if has_local(object))
 }
 
-// Registers an object.
 fn reregister(host: &mut Host, c: u32, object: u32) -> u32
     requires { HasLocal c object host.old.machine.numbers.callers }
-    ensures { let command = cmd.Reregister object in Runs (FailsIn c command) (Replies c command reply.Done) KeepsNothing host.old host.new result }
+    ensures { let command = cmd.Reregister object in
+        Runs (FailsIn c command) (Replies c command reply.Done) KeepsNothing host.old host.new
+        result }
 {
     status(host.reregister(c, object as u8))
 }
@@ -162,7 +231,10 @@ fn reregister(host: &mut Host, c: u32, object: u32) -> u32
 /// `hdt_reregister`.
 #[unsafe(no_mangle)]
 pub extern "C" fn hdt_reregister(alloc: Global, host: &mut Held, c: u32, object: u32) -> u32
-    ensures { let command = cmd.Reregister object in Comes (HasLocal c object) (λ at. FailsIn (at c) command) (λ at. Replies (at c) command reply.Done) KeepsNothing host.old.value host.new.value result }
+    ensures { let command = cmd.Reregister object in
+        Comes (HasLocal c object) (λ at. FailsIn (at c) command)
+        (λ at. Replies (at c) command reply.Done) KeepsNothing host.old.value host.new.value
+        result }
 {
     on_open!(alloc, host, in c, reregister(object) if has_local(object))
 }
@@ -170,7 +242,10 @@ pub extern "C" fn hdt_reregister(alloc: Global, host: &mut Held, c: u32, object:
 // Where a shortest chain to an object begins.
 fn root_of(host: &mut Host, c: u32, object: u32, root: &mut Root) -> u32
     requires { HasLocal c object host.old.machine.numbers.callers }
-    ensures { let command = cmd.GcRoot object in Runs (FailsIn c command) (Returns c command root_reply (λ found. IsRoot found root.old root.new)) (root.new ≡ root.old) host.old host.new result }
+    ensures { let command = cmd.GcRoot object in
+        Runs (FailsIn c command)
+        (Returns c command root_reply (λ found. IsRoot found root.old root.new))
+        (root.new ≡ root.old) host.old host.new result }
 {
     match host.root_of(c, object as u8) {
         Ok(found) => write_root(found, root),
@@ -196,8 +271,17 @@ fn write_root(found: Option<hd_host::Root>, root: &mut Root) -> u32
 
 /// `hdt_root_of`.
 #[unsafe(no_mangle)]
-pub extern "C" fn hdt_root_of(alloc: Global, host: &mut Held, c: u32, object: u32, root: &mut Root) -> u32
-    ensures { let command = cmd.GcRoot object in Comes (HasLocal c object) (λ at. FailsIn (at c) command) (λ at. Returns (at c) command root_reply (λ found. IsRoot found root.old root.new)) (root.new ≡ root.old) host.old.value host.new.value result }
+pub extern "C" fn hdt_root_of(
+    alloc: Global,
+    host: &mut Held,
+    c: u32,
+    object: u32,
+    root: &mut Root,
+) -> u32
+    ensures { let command = cmd.GcRoot object in
+        Comes (HasLocal c object) (λ at. FailsIn (at c) command)
+        (λ at. Returns (at c) command root_reply (λ found. IsRoot found root.old root.new))
+        (root.new ≡ root.old) host.old.value host.new.value result }
 {
     on_open!(alloc, host, in c, root_of(object, root) if has_local(object))
 }

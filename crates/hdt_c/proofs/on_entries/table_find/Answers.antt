@@ -4,11 +4,7 @@ use Rattle.hdt_c.proofs.Comings.{failed}
 use Rattle.hdt_c.proofs.on_entries.table_find.Goals as goal
 
 pub returns-in-Ok : goal.returns-in-Ok
-returns-in-Ok c =
-    does c.args.host.now _ _
-    (c.in-Ok.found, c.in-Ok.ensures.does, c.write_found.ensures)
+returns-in-Ok c = does c.args.host.now _ _ (c.in-Ok.found, c.in-Ok.ensures.does, c.write_found.ensures)
 
 pub returns-in-Err : goal.returns-in-Err
-returns-in-Err c =
-    failed c.in-Err.fault c.in-Err.ensures.does.0 c.in-Err.ensures.does.1
-    refl c.status_of.ensures
+returns-in-Err c = failed c.in-Err.fault c.in-Err.ensures.does refl c.status_of.ensures

@@ -4,10 +4,7 @@ use Rattle.hdt_c.proofs.on_entries.table_remove.Goals as goal
 
 pub returns-in-Ok : goal.returns-in-Ok
 returns-in-Ok c =
-    does c.args.host.now _ _
-    (c.in-Ok.removed, c.in-Ok.ensures.does, c.status_of_removed.ensures)
+    does c.args.host.now _ _ (c.in-Ok.removed, c.in-Ok.ensures.does, c.status_of_removed.ensures)
 
 pub returns-in-Err : goal.returns-in-Err
-returns-in-Err c =
-    failed c.in-Err.fault c.in-Err.ensures.does.0 c.in-Err.ensures.does.1
-    tt c.status_of.ensures
+returns-in-Err c = failed c.in-Err.fault c.in-Err.ensures.does tt c.status_of.ensures

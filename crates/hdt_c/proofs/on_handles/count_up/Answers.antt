@@ -7,5 +7,5 @@ pub returns-in-Ok : goal.returns-in-Ok
 returns-in-Ok c = does c.args.host.now _ _ (c.in-Ok.ensures.does, refl)
 
 pub returns-in-Err : goal.returns-in-Err
-returns-in-Err c = failed c.in-Err.fault c.in-Err.ensures.does.0 c.in-Err.ensures.does.1 refl
+returns-in-Err c = failed c.in-Err.fault c.in-Err.ensures.does refl
     c.status_of.ensures

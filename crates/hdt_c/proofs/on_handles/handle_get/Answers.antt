@@ -5,10 +5,7 @@ use Rattle.hdt_c.proofs.on_handles.handle_get.Goals as goal
 
 pub returns-in-Ok : goal.returns-in-Ok
 returns-in-Ok c =
-    does c.args.host.now _ _
-    (c.in-Ok.load_reply, c.in-Ok.ensures.does, c.number_of.ensures, refl)
+    does c.args.host.now _ _ (c.in-Ok.load_reply, c.in-Ok.ensures.does, c.number_of.ensures, refl)
 
 pub returns-in-Err : goal.returns-in-Err
-returns-in-Err c =
-    failed c.in-Err.fault c.in-Err.ensures.does.0 c.in-Err.ensures.does.1
-    refl c.status_of.ensures
+returns-in-Err c = failed c.in-Err.fault c.in-Err.ensures.does refl c.status_of.ensures

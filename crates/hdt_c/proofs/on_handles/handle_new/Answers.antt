@@ -9,5 +9,6 @@ returns-in-Ok c =
 
 pub returns-in-Err : goal.returns-in-Err
 returns-in-Err c =
-    failed c.in-Err.fault (c.in-Some.made, c.in-Some.ensures.made, c.in-Err.ensures.does.0)
-    c.in-Err.ensures.does.1 refl c.status_of.ensures
+    failed c.in-Err.fault
+    ((c.in-Some.made, c.in-Some.ensures.made, c.in-Err.ensures.does.0), c.in-Err.ensures.does.1) refl
+    c.status_of.ensures

@@ -13,9 +13,8 @@ returns-in_default-enter c =
 
 pub leave-requires-clause-turn : goal.leave-requires-clause-turn
 leave-requires-clause-turn c =
-    leaves_by c.in-Some-enter.ensures.taken c.deref_mut-in-Shared.ensures.value
-    (turn_by (λ did. turn_unchanged _ _ did.0)
-    c.handles-status-in-Shared.ensures)
+    leaves_by c.in-Some-enter.ensures.taken c.deref_mut-in-Shared.ensures.value (turn_by (λ did.
+    turn_unchanged _ _ did.0) c.handles-status-in-Shared.ensures)
 
 pub returns-in-Own : goal.returns-in-Own
 returns-in-Own c =
@@ -25,7 +24,5 @@ returns-in-Own c =
 pub returns-in-Some-enter : goal.returns-in-Some-enter
 returns-in-Some-enter c =
     ran_shared c.in-Some.ensures.value c.deref_mut.ensures.value c.in-Shared.is c.shared.view_is
-    c.put-in-Shared.ensures refl tt refl c.in-Some-enter.ensures.taken
-    c.leave.ensures c.deref_mut-in-Shared.ensures.value c.handles-status-in-Shared.ensures
-    (turn_by (λ did. turn_unchanged _ _ did.0)
-    c.handles-status-in-Shared.ensures)
+    c.put-in-Shared.ensures refl tt refl c.in-Some-enter.ensures.taken c.leave.ensures
+    c.deref_mut-in-Shared.ensures.value c.handles-status-in-Shared.ensures

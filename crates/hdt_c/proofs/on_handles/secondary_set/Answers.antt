@@ -3,5 +3,4 @@ use Rattle.hdt_c.proofs.on_handles.secondary_set.Goals as goal
 
 pub returns : goal.returns
 returns c =
-    by_status tt (λ done ok. (done, ok)) c.secondary_set.result c.status.ensures
-    c.secondary_set.ensures.does
+    by_status tt (λ done ok. (done, ok)) c.secondary_set.result c.status.ensures c.secondary_set.ensures.does

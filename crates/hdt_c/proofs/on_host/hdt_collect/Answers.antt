@@ -13,23 +13,21 @@ returns-then-not-is_generation c =
 pub returns-in_default-enter : goal.returns-in_default-enter
 returns-in_default-enter c =
     was_busy c.in-Some.ensures.value c.deref_mut.ensures.value c.in-Shared.is c.shared.view_is
-    c.in_default-enter.ensures.busy c.put-in_default-enter.ensures refl c.if-not-is_generation.ensures.yes refl
+    c.in_default-enter.ensures.busy c.put-in_default-enter.ensures refl c.if-not-is_generation.ensures.yes
+    refl
 
 pub leave-requires-clause-turn : goal.leave-requires-clause-turn
 leave-requires-clause-turn c =
-    leaves_by c.in-Some-enter.ensures.taken c.deref_mut-in-Shared.ensures.value
-    (turn_by (λ did. turn_replied _ _ (inr refl) did.0)
-    c.collect-status-in-Shared.ensures)
+    leaves_by c.in-Some-enter.ensures.taken c.deref_mut-in-Shared.ensures.value (turn_by (λ did. turn_replied
+    _ _ (inr refl) did.0) c.collect-status-in-Shared.ensures)
 
 pub returns-in-Own : goal.returns-in-Own
 returns-in-Own c =
-    ran_own c.in-Some.ensures.value c.deref_mut.ensures.value c.in-Own.is c.put-in-Own.ensures refl c.if-not-is_generation.ensures.yes
-    c.collect-status.ensures
+    ran_own c.in-Some.ensures.value c.deref_mut.ensures.value c.in-Own.is c.put-in-Own.ensures refl
+    c.if-not-is_generation.ensures.yes c.collect-status.ensures
 
 pub returns-in-Some-enter : goal.returns-in-Some-enter
 returns-in-Some-enter c =
     ran_shared c.in-Some.ensures.value c.deref_mut.ensures.value c.in-Shared.is c.shared.view_is
     c.put-in-Shared.ensures refl c.if-not-is_generation.ensures.yes refl c.in-Some-enter.ensures.taken
     c.leave.ensures c.deref_mut-in-Shared.ensures.value c.collect-status-in-Shared.ensures
-    (turn_by (λ did. turn_replied _ _ (inr refl) did.0)
-    c.collect-status-in-Shared.ensures)

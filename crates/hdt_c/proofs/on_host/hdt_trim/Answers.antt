@@ -17,19 +17,16 @@ returns-in_default-enter c =
 
 pub leave-requires-clause-turn : goal.leave-requires-clause-turn
 leave-requires-clause-turn c =
-    leaves_by c.in-Some-enter.ensures.taken c.deref_mut-in-Shared.ensures.value
-    (turn_by (λ did. turn_trimmed _ _ did.2)
-    c.trim-status-in-Shared.ensures)
+    leaves_by c.in-Some-enter.ensures.taken c.deref_mut-in-Shared.ensures.value (turn_by (λ did. turn_trimmed
+    _ _ did.2) c.trim-status-in-Shared.ensures)
 
 pub returns-in-Own : goal.returns-in-Own
 returns-in-Own c =
-    ran_own c.in-Some.ensures.value c.deref_mut.ensures.value c.in-Own.is c.put-in-Own.ensures refl c.if-not-is_unpaired.ensures.yes
-    c.trim-status.ensures
+    ran_own c.in-Some.ensures.value c.deref_mut.ensures.value c.in-Own.is c.put-in-Own.ensures refl
+    c.if-not-is_unpaired.ensures.yes c.trim-status.ensures
 
 pub returns-in-Some-enter : goal.returns-in-Some-enter
 returns-in-Some-enter c =
     ran_shared c.in-Some.ensures.value c.deref_mut.ensures.value c.in-Shared.is c.shared.view_is
     c.put-in-Shared.ensures refl c.if-not-is_unpaired.ensures.yes refl c.in-Some-enter.ensures.taken
     c.leave.ensures c.deref_mut-in-Shared.ensures.value c.trim-status-in-Shared.ensures
-    (turn_by (λ did. turn_trimmed _ _ did.2)
-    c.trim-status-in-Shared.ensures)

@@ -3,6 +3,4 @@ use Rattle.hdt_c.specs.Exports.{does}
 use Rattle.hdt_c.proofs.on_locals.local_clear.Goals as goal
 
 pub returns : goal.returns
-returns c =
-    does c.args.host.now _ _
-    (c.local_clear.ensures.does, refl)
+returns c = does c.args.host.now _ _ (c.local_clear.ensures.does, refl)

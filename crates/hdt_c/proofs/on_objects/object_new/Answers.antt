@@ -7,5 +7,4 @@ pub returns-in-Ok : goal.returns-in-Ok
 returns-in-Ok c = does c.args.host.now _ _ (c.in-Ok.made, c.in-Ok.ensures.does, (refl, refl))
 
 pub returns-in-Err : goal.returns-in-Err
-returns-in-Err c =
-    failed c.in-Err.fault c.in-Err.ensures.does.0 c.in-Err.ensures.does.1 refl c.status_of.ensures
+returns-in-Err c = failed c.in-Err.fault c.in-Err.ensures.does refl c.status_of.ensures

@@ -1,4 +1,4 @@
-use Rattle.std.proofs.Common.{ap, subst, sym, ◌∙◌}
+use Rattle.std.proofs.Common.{ap, subst, ◌∙◌}
 use Rattle.hd_turns.specs.Views.{Known}
 use Rattle.hd_turns.specs.declared.gate.TheConstants.{LOOKS}
 use Rattle.hd_host.specs.View.{HostView}

@@ -26,7 +26,10 @@ returns c =
     let left = record c.self.inside.end {
       view = gate_given (record { each = c.self.inside.each; host = c.args.host.value }) c.self.inside.end.view;
     } in
-    ap (λ (k : Known SharedView). sharer_of k c.self.inside.each c.last-self-inside.result) c.leave.ensures
-    ∙ ap (λ (l : Change). sharer_of left c.self.inside.each l)
-    (c.last-self-inside.ensures ∙ ap (λ (v : HostView). v.last) c.deref.ensures)
-    ∙ ap (gave_back c.args.host.value) c.self.view_is
+    record {
+      may = c.requires.turn;
+      new_is = ap (λ (k : Known SharedView). sharer_of k c.self.inside.each c.last-self-inside.result) c.leave.ensures
+          ∙ ap (λ (l : Change). sharer_of left c.self.inside.each l)
+          (c.last-self-inside.ensures ∙ ap (λ (v : HostView). v.last) c.deref.ensures)
+          ∙ ap (gave_back c.args.host.value) c.self.view_is;
+    }

@@ -1,4 +1,4 @@
-use Rattle.std.proofs.Common.{◌≡◌, ap, arith, sym, ◌*◌, ◌∙◌}
+use Rattle.std.proofs.Common.{◌≡◌, ap, arith, ◌*◌, ◌∙◌}
 use Rattle.hd_turns.specs.Views.{Known}
 use Rattle.hd_ends.proofs.SharerTurns.{sharer_opens}
 use Rattle.hd_ends.proofs.sharer.Sharer.of.Goals as goal

@@ -23,7 +23,7 @@ use Rattle.std.specs.contracts.alloc.Global as heap
 use Rattle.std.proofs.alloc.Global.TheLaws as heap_laws
 use Rattle.std.specs.contracts.impls.GlobalAllocator.TheImpl.{ghosts}
 use Rattle.hd_ends.specs.contracts.end.End as host
-use Rattle.hdt_c.proofs.LooseBoxes.{al, both}
+use Rattle.hd_loose.proofs.LooseBoxes.{al, both}
 use Rattle.hdt_c.proofs.HeldBoxes.{held_good, held_in}
 use Rattle.hdt_c.specs.contracts.held.Held.closed as f
 use Rattle.hdt_c.proofs.held.Held.closed.Statement.{statement}

@@ -17,7 +17,7 @@ use denote.Triple.Walked.{Stays, stay_dropped, walk_of}
 use Rattle.core.proofs.alloc.Calls.{Goes-blank}
 use Rattle.std.proofs.raw_atomic.Walks.{proved_at, leaves}
 use Rattle.hdt_c.specs.contracts.held.Held as held
-use Rattle.hdt_c.proofs.LooseBoxes.{both}
+use Rattle.hd_loose.proofs.LooseBoxes.{both}
 use Rattle.hdt_c.proofs.HeldBoxes.{held_good, held_out}
 use Rattle.hdt_c.specs.contracts.held.Held.end as f
 use Rattle.hdt_c.proofs.held.Held.end.Statement.{statement}

@@ -32,7 +32,7 @@ use Rattle.std_alloc.proofs.ResultValues.{and_tt}
 use Rattle.hd_ends.specs.declared.end.End.{End}
 use Rattle.hd_ends.specs.contracts.end.End as host
 use Rattle.hdt_c.specs.contracts.held.Held as held
-use Rattle.hdt_c.proofs.LooseBoxes.{Loose, both, loose_good, loose_in}
+use Rattle.hd_loose.proofs.LooseBoxes.{Loose, both, loose_good, loose_in}
 use Rattle.hdt_c.proofs.HeldBoxes.{either_held, held_good, held_out}
 use Rattle.hdt_c.specs.contracts.held.Held.unseal as f
 use Rattle.hdt_c.proofs.held.Held.unseal.Statement.{statement}

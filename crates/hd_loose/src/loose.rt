@@ -1,14 +1,15 @@
 // A box as its pointer.
 ghost use Rattle.std.specs.Prelude.{◌≡◌};
-ghost use Rattle.hdt_c.specs.Held.{boxed_at};
+ghost use Rattle.hd_loose.specs.Loose.{boxed_at};
 
 use std::alloc::Allocator;
 use std::marker::Model;
 
-pub(crate) struct Loose<T, A: Allocator> {
-    pub(crate) at: *mut T,
-    pub(crate) alloc: A,
-    pub(crate) ghost value: { T },
+/// A box as its pointer, which owns what the box owned.
+pub struct Loose<T, A: Allocator> {
+    pub at: *mut T,
+    pub alloc: A,
+    pub ghost value: { T },
 }
 
 impl<T, A: Allocator> Model for Loose<T, A> {
@@ -16,16 +17,18 @@ impl<T, A: Allocator> Model for Loose<T, A> {
 }
 
 impl<T: Drop, A: Allocator> Loose<T, A> {
+    /// The pointer of a box.
     #[inline(always)]
-    pub(crate) fn of(value: Box<T, A>) -> Loose<T, A>
+    pub fn of(value: Box<T, A>) -> Loose<T, A>
         ensures { result.value ≡ value.value }
     {
         let (at, alloc) = Box::into_raw_with_allocator(value);
         Loose { at, alloc }
     }
 
+    /// The box of a pointer.
     #[inline(always)]
-    pub(crate) fn into_box(self) -> Box<T, A>
+    pub fn into_box(self) -> Box<T, A>
         ensures { result.value ≡ self.value }
     {
         let Loose { at, alloc } = self;
