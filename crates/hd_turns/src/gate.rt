@@ -173,7 +173,9 @@ impl<W: Turn> Gate<W> {
         ensures value { place.new.me ≡ (place.old.me.0, (0, Some value) ∷ []) }
         ensures may { MayFree W.turn place.new.me }
     {
-        self.table.shared.exchange(place, VALUE, Some(value));
+        let None = self.table.shared.exchange(place, VALUE, Some(value)) else {
+            unreachable!()
+        };
     }
 
     // The gate is free, and the turn with this number is the newest of the history.
