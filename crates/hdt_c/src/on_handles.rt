@@ -57,6 +57,27 @@ pub extern "C" fn hdt_handle_new(
         MakesHandle v (at c) made target w (record { 0 = out.new }) × (s ≡ OK)) (out.new ≡ out.old)
         host.old.value host.new.value result }
 {
+    on_own!(alloc, host, in c, handle_new(kind, target, extra, out)
+        if is_new_handle(kind, target, extra), else handle_new_shared)
+}
+
+// The same, at an end of a shared host.
+#[inline(never)]
+fn handle_new_shared(
+    alloc: Global,
+    host: &mut Held,
+    c: u32,
+    kind: u32,
+    target: u32,
+    extra: u32,
+    out: &mut u64,
+) -> u32
+    ensures { Comes (IsNewHandle c kind target extra) (λ at v f. (made : Make) ×
+        IsMake made kind extra × FailsIn (at c) (cmd.HNew 0 made target) v f)
+        (λ at v w s. (made : Make) × IsMake made kind extra ×
+        MakesHandle v (at c) made target w (record { 0 = out.new }) × (s ≡ OK)) (out.new ≡ out.old)
+        host.old.value host.new.value result }
+{
     on_open!(alloc, host, in c, handle_new(kind, target, extra, out)
         if is_new_handle(kind, target, extra))
 }
@@ -73,6 +94,17 @@ fn handle_free(host: &mut Host, handle: u64) -> u32
 /// `hdt_handle_free`.
 #[unsafe(no_mangle)]
 pub extern "C" fn hdt_handle_free(alloc: Global, host: &mut Held, handle: u64) -> u32
+    ensures { let command = cmd.HFree 0 in
+        Comes AlwaysRight (λ at. FailsAt 0 handle command)
+        (λ at v w s. FreesHandle v (record { 0 = handle }) w × (s ≡ OK)) KeepsNothing host.old.value
+        host.new.value result }
+{
+    on_own!(alloc, host, handle_free(handle), else handle_free_shared)
+}
+
+// The same, at an end of a shared host.
+#[inline(never)]
+fn handle_free_shared(alloc: Global, host: &mut Held, handle: u64) -> u32
     ensures { let command = cmd.HFree 0 in
         Comes AlwaysRight (λ at. FailsAt 0 handle command)
         (λ at v w s. FreesHandle v (record { 0 = handle }) w × (s ≡ OK)) KeepsNothing host.old.value
@@ -143,6 +175,17 @@ pub extern "C" fn hdt_handle_set(
     handle: u64,
     src: u32,
 ) -> u32
+    ensures { let command = cmd.HSet 0 src in
+        Comes (HasLocal c src) (λ at. FailsAt (at c) handle command)
+        (λ at. RepliesAt (at c) handle command reply.Done) KeepsNothing host.old.value
+        host.new.value result }
+{
+    on_own!(alloc, host, in c, handle_set(handle, src) if has_local(src), else handle_set_shared)
+}
+
+// The same, at an end of a shared host.
+#[inline(never)]
+fn handle_set_shared(alloc: Global, host: &mut Held, c: u32, handle: u64, src: u32) -> u32
     ensures { let command = cmd.HSet 0 src in
         Comes (HasLocal c src) (λ at. FailsAt (at c) handle command)
         (λ at. RepliesAt (at c) handle command reply.Done) KeepsNothing host.old.value

@@ -8,6 +8,7 @@ ghost use Rattle.hdt_c.specs.Exports.{Comes, Runs, KeepsNothing, NeverFails, Has
 
 use crate::arguments::{has_local, has_locals, number_of};
 use crate::held::{Held, on_open};
+use crate::own::on_own;
 use crate::status::OK;
 use hd_host::Host;
 use std::alloc::Global;
@@ -55,6 +56,16 @@ pub extern "C" fn hdt_local_copy(alloc: Global, host: &mut Held, c: u32, dst: u3
         Comes (HasLocals c dst src) (λ at. NeverFails) (λ at. Replies (at c) command reply.Done)
         KeepsNothing host.old.value host.new.value result }
 {
+    on_own!(alloc, host, in c, local_copy(dst, src) if has_locals(dst, src), else local_copy_shared)
+}
+
+// The same, at an end of a shared host.
+#[inline(never)]
+fn local_copy_shared(alloc: Global, host: &mut Held, c: u32, dst: u32, src: u32) -> u32
+    ensures { let command = cmd.Copy dst src in
+        Comes (HasLocals c dst src) (λ at. NeverFails) (λ at. Replies (at c) command reply.Done)
+        KeepsNothing host.old.value host.new.value result }
+{
     on_open!(alloc, host, in c, local_copy(dst, src) if has_locals(dst, src))
 }
 
@@ -70,6 +81,16 @@ fn local_clear(host: &mut Host, c: u32, dst: u32) -> u32
 /// `hdt_local_clear`.
 #[unsafe(no_mangle)]
 pub extern "C" fn hdt_local_clear(alloc: Global, host: &mut Held, c: u32, dst: u32) -> u32
+    ensures { let command = cmd.Clear dst in
+        Comes (HasLocal c dst) (λ at. NeverFails) (λ at. Replies (at c) command reply.Done)
+        KeepsNothing host.old.value host.new.value result }
+{
+    on_own!(alloc, host, in c, local_clear(dst) if has_local(dst), else local_clear_shared)
+}
+
+// The same, at an end of a shared host.
+#[inline(never)]
+fn local_clear_shared(alloc: Global, host: &mut Held, c: u32, dst: u32) -> u32
     ensures { let command = cmd.Clear dst in
         Comes (HasLocal c dst) (λ at. NeverFails) (λ at. Replies (at c) command reply.Done)
         KeepsNothing host.old.value host.new.value result }
@@ -100,6 +121,16 @@ pub extern "C" fn hdt_static_get(
         Comes (HasLocals c dst k) (λ at. NeverFails) (λ at. Loads (at c) command id.new)
         (id.new ≡ id.old) host.old.value host.new.value result }
 {
+    on_own!(alloc, host, in c, static_get(dst, k, id) if has_locals(dst, k), else static_get_shared)
+}
+
+// The same, at an end of a shared host.
+#[inline(never)]
+fn static_get_shared(alloc: Global, host: &mut Held, c: u32, dst: u32, k: u32, id: &mut u64) -> u32
+    ensures { let command = cmd.SGet dst k in
+        Comes (HasLocals c dst k) (λ at. NeverFails) (λ at. Loads (at c) command id.new)
+        (id.new ≡ id.old) host.old.value host.new.value result }
+{
     on_open!(alloc, host, in c, static_get(dst, k, id) if has_locals(dst, k))
 }
 
@@ -115,6 +146,16 @@ fn static_set(host: &mut Host, c: u32, k: u32, src: u32) -> u32
 /// `hdt_static_set`.
 #[unsafe(no_mangle)]
 pub extern "C" fn hdt_static_set(alloc: Global, host: &mut Held, c: u32, k: u32, src: u32) -> u32
+    ensures { let command = cmd.SPut k src in
+        Comes (HasLocals c k src) (λ at. NeverFails) (λ at. Replies (at c) command reply.Done)
+        KeepsNothing host.old.value host.new.value result }
+{
+    on_own!(alloc, host, in c, static_set(k, src) if has_locals(k, src), else static_set_shared)
+}
+
+// The same, at an end of a shared host.
+#[inline(never)]
+fn static_set_shared(alloc: Global, host: &mut Held, c: u32, k: u32, src: u32) -> u32
     ensures { let command = cmd.SPut k src in
         Comes (HasLocals c k src) (λ at. NeverFails) (λ at. Replies (at c) command reply.Done)
         KeepsNothing host.old.value host.new.value result }

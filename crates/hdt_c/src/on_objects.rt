@@ -9,6 +9,7 @@ ghost use Rattle.hdt_c.specs.Outs.{IsRoot};
 
 use crate::arguments::{FINALIZABLE, field, has_local, has_locals, is_object, number_of};
 use crate::held::{Held, on_open};
+use crate::own::on_own;
 use crate::parts::Root;
 use crate::status::{NONE, OK, status, status_of};
 use hd_host::Host;
@@ -33,6 +34,25 @@ fn object_new(host: &mut Host, c: u32, dst: u32, fields: u32, flags: u32, id: &m
 /// `hdt_object_new`.
 #[unsafe(no_mangle)]
 pub extern "C" fn hdt_object_new(
+    alloc: Global,
+    host: &mut Held,
+    c: u32,
+    dst: u32,
+    fields: u32,
+    flags: u32,
+    id: &mut u64,
+) -> u32
+    ensures { let command = cmd.New dst fields (flags == 1) in
+        Comes (IsObject c dst fields flags) (λ at. FailsIn (at c) command)
+        (λ at. Returns (at c) command reply.Object (λ made s. (id.new ≡ made.0) × (s ≡ OK)))
+        (id.new ≡ id.old) host.old.value host.new.value result }
+{
+    on_own!(alloc, host, in c, object_new(dst, fields, flags, id) if is_object(dst, fields, flags), else object_new_shared)
+}
+
+// The same, at an end of a shared host.
+#[inline(never)]
+fn object_new_shared(
     alloc: Global,
     host: &mut Held,
     c: u32,
@@ -79,6 +99,24 @@ pub extern "C" fn hdt_field_get(
         Comes (HasLocals c dst object) (λ at. FailsIn (at c) command)
         (λ at. Loads (at c) command id.new) (id.new ≡ id.old) host.old.value host.new.value result }
 {
+    on_own!(alloc, host, in c, field_get(dst, object, i, id) if has_locals(dst, object), else field_get_shared)
+}
+
+// The same, at an end of a shared host.
+#[inline(never)]
+fn field_get_shared(
+    alloc: Global,
+    host: &mut Held,
+    c: u32,
+    dst: u32,
+    object: u32,
+    i: u32,
+    id: &mut u64,
+) -> u32
+    ensures { let command = cmd.Get dst object (field_number i) in
+        Comes (HasLocals c dst object) (λ at. FailsIn (at c) command)
+        (λ at. Loads (at c) command id.new) (id.new ≡ id.old) host.old.value host.new.value result }
+{
     on_open!(alloc, host, in c, field_get(dst, object, i, id) if has_locals(dst, object))
 }
 
@@ -101,6 +139,17 @@ pub extern "C" fn hdt_field_set(
     i: u32,
     src: u32,
 ) -> u32
+    ensures { let command = cmd.Set object (field_number i) src in
+        Comes (HasLocals c object src) (λ at. FailsIn (at c) command)
+        (λ at. Replies (at c) command reply.Done) KeepsNothing host.old.value host.new.value
+        result }
+{
+    on_own!(alloc, host, in c, field_set(object, i, src) if has_locals(object, src), else field_set_shared)
+}
+
+// The same, at an end of a shared host.
+#[inline(never)]
+fn field_set_shared(alloc: Global, host: &mut Held, c: u32, object: u32, i: u32, src: u32) -> u32
     ensures { let command = cmd.Set object (field_number i) src in
         Comes (HasLocals c object src) (λ at. FailsIn (at c) command)
         (λ at. Replies (at c) command reply.Done) KeepsNothing host.old.value host.new.value
@@ -138,6 +187,17 @@ pub extern "C" fn hdt_value_get(
         (λ at. Replies (at c) command (reply.Value value.new)) (value.new ≡ value.old)
         host.old.value host.new.value result }
 {
+    on_own!(alloc, host, in c, value_get(object, value) if has_local(object), else value_get_shared)
+}
+
+// The same, at an end of a shared host.
+#[inline(never)]
+fn value_get_shared(alloc: Global, host: &mut Held, c: u32, object: u32, value: &mut u64) -> u32
+    ensures { let command = cmd.Read object in
+        Comes (HasLocal c object) (λ at. FailsIn (at c) command)
+        (λ at. Replies (at c) command (reply.Value value.new)) (value.new ≡ value.old)
+        host.old.value host.new.value result }
+{
     on_open!(alloc, host, in c, value_get(object, value) if has_local(object))
 }
 
@@ -159,6 +219,17 @@ pub extern "C" fn hdt_value_set(
     object: u32,
     value: u64,
 ) -> u32
+    ensures { let command = cmd.Val object value in
+        Comes (HasLocal c object) (λ at. FailsIn (at c) command)
+        (λ at. Replies (at c) command reply.Done) KeepsNothing host.old.value host.new.value
+        result }
+{
+    on_own!(alloc, host, in c, value_set(object, value) if has_local(object), else value_set_shared)
+}
+
+// The same, at an end of a shared host.
+#[inline(never)]
+fn value_set_shared(alloc: Global, host: &mut Held, c: u32, object: u32, value: u64) -> u32
     ensures { let command = cmd.Val object value in
         Comes (HasLocal c object) (λ at. FailsIn (at c) command)
         (λ at. Replies (at c) command reply.Done) KeepsNothing host.old.value host.new.value

@@ -1,5 +1,5 @@
-/// As `on_open` with a context; but an end of a shared host goes to a function of its own, which does
-/// all of it, so that the call on an own host saves no register.
+/// As `on_open`; but an end of a shared host goes to a function of its own, which does all of it, so
+/// that the call on an own host saves no register.
 macro_rules! on_own {
     ($alloc:ident, $held:ident, in $c:ident, $call:ident($($argument:ident),+)
         if $check:ident($($asked:ident),+), else $shared:ident) => {{
@@ -19,6 +19,22 @@ macro_rules! on_own {
             hd_ends::End::Shared(_) => {
                 $crate::held::put($held, end);
                 $shared($alloc, $held, $c, $($argument),+)
+            }
+        }
+    }};
+    ($alloc:ident, $held:ident, $call:ident($($argument:ident),+), else $shared:ident) => {{
+        let Some(mut end) = $crate::held::take($alloc, $held) else {
+            return $crate::status::CLOSED;
+        };
+        match &mut *end {
+            hd_ends::End::Own(own) => {
+                let status = $call(own, $($argument),+);
+                $crate::held::put($held, end);
+                status
+            }
+            hd_ends::End::Shared(_) => {
+                $crate::held::put($held, end);
+                $shared($alloc, $held, $($argument),+)
             }
         }
     }};
