@@ -31,7 +31,8 @@ module _ {A B : Type 0} (f : A → B) where
   keys_same [] = refl
   keys_same (e ∷ es) = ap (λ ks. e.0 ∷ ks) (keys_same es)
 
-  values_same : (es : List (ℕ × A)) → map (λ (e : ℕ × B). e.1) (map seen es) ≡ map f (map (λ (e : ℕ × A). e.1) es)
+  values_same : (es : List (ℕ × A))
+      → map (λ (e : ℕ × B). e.1) (map seen es) ≡ map f (map (λ (e : ℕ × A). e.1) es)
   values_same [] = refl
   values_same (e ∷ es) = ap (λ vs. f e.1 ∷ vs) (values_same es)
 

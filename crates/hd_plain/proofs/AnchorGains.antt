@@ -1,5 +1,5 @@
 -- The anchors of a state are what the machine marks of them, and what is marked is listed by identity.
-use Rattle.hd_model.proofs.Basics.{AllPairs, Contains, FinMap, List, None, Option, Some, [], ap, cond, contains_key, empty, entries, entries_sorted, false≢true, get, get-empty, inl, inr, is_some, keys, map, nat_cmp, none-some, option_map, refl, same_Some, subst, sym, ℕ, ⊎_elim, ◌<◌, ◌∙◌, ◌≡◌, ◌⊎◌}
+use Rattle.hd_model.proofs.Basics.{AllPairs, Contains, FinMap, List, arith, false, None, Option, Some, [], ap, cond, contains_key, empty, entries, entries_sorted, false≢true, get, get-empty, inl, inr, is_some, keys, map, nat_cmp, none-some, option_map, refl, same_Some, subst, sym, ℕ, ⊎_elim, ◌<◌, ◌∙◌, ◌∷◌, ◌≡◌, ◌⊎◌}
 use Rattle.std.specs.Prelude.{◌↔◌}
 use Rattle.hd_model.proofs.MapBuild.{in_keys}
 use Rattle.hd_model.proofs.MapEntries.{keys_rise}
@@ -11,11 +11,13 @@ use Rattle.hd_model.specs.Scene.{scene_of}
 use Rattle.hd_model.specs.State.{Handle, State, WeakEntry, weak_handle}
 use Rattle.hd_model.specs.declared.data.Id.{Id}
 use Rattle.hd_model.proofs.WeakSlots.{handle_row, weak_attaches}
-use Rattle.hd_plain.specs.Inside.{IsAnchorId, referenced, held_at, held_by, is_holding, Gains, with_targets}
+use Rattle.hd_plain.specs.Inside.{HasGenerations, IsAnchorId, IsYoungAnchor, is_older, young, young_held, referenced, held_at, held_by, is_holding, Gains, with_targets}
 use Rattle.hd_maps.proofs.ListBuilds.{IsLive, Lists, keys_listed}
 use Rattle.hd_plain.specs.Marked.{Marked}
 use Rattle.hd_plain.proofs.AttachedLists.{row_is}
-use Rattle.hd_plain.proofs.MarkedSets.{IsAmong, gains_like, gains_targets, gains_then, number}
+use Rattle.hd_plain.proofs.MarkedSets.{gains_like, gains_then, number}
+use Rattle.hd_plain.proofs.YoungObjects.{IsYoungOf, all_young, gains_young}
+use Rattle.hd_model.specs.declared.limits.TheConstants.{OLDEST}
 
 holding_is : (r : Role) (t : Option Id) (x : Id) → cond (is_holding r) t None ≡ Some x
     → (r ≡ holds) × (t ≡ Some x)
@@ -65,31 +67,46 @@ module _ (s : State) (slots : List ℕ) (live : Lists (IsLive s.handles) slots) 
       (λ e. absurd (never_weak (get s.weak h.slot) h.handle e h.holds))
       (row_is s h.slot h.handle h.is_stored)
 
-  pub gains_anchors : (m a b c : Marked) → a ≡ with_targets m s.statics
-      → b ≡ with_targets a (referenced s.queue) → c ≡ with_targets b (map (held_at s.handles) slots)
-      → Gains (IsAnchorId s) m c
-  gains_anchors m a b c first second third =
-      let statics = IsAmong s.statics in
-      let queue = IsAmong (referenced s.queue) in
-      let held = IsAmong (map (held_at s.handles) slots) in
-      gains_like (λ y. (statics y ⊎ queue y) ⊎ held y) (IsAnchorId s) m c
-      (λ y h. ⊎_elim (λ early. ⊎_elim (λ k. in_static k)
-      (λ k. let (x, rest) = mapped_from (λ (z : Id). Some z) s.queue (Some (number y)) k in
-      in_queue (subst (λ z. Contains s.queue z) (same_Some x (number y) rest.1) rest.0)) early)
-      (λ k. by_handle (held_from (number y) k)) h)
-      (λ y h. among y h)
-      (gains_then (λ y. statics y ⊎ queue y) held m b c
-      (gains_then statics queue m a b
-      (subst (λ z. Gains statics m z) (sym first) (gains_targets m s.statics))
-      (subst (λ z. Gains queue a z) (sym second) (gains_targets a (referenced s.queue))))
-      (subst (λ z. Gains held b z) (sym third) (gains_targets b (map (held_at s.handles) slots))))
-    where
-      among : (y : ℕ) → IsAnchorId s y
-          → (IsAmong s.statics y ⊎ IsAmong (referenced s.queue) y)
-          ⊎ IsAmong (map (held_at s.handles) slots) y
-      among y (in_static k) = inl (inl k)
-      among y (in_queue k) = inl (inr (mapped_in (λ (z : Id). Some z) s.queue (number y) k))
-      among y (by_handle k) = inr (held_to (number y) k)
+  -- where they are of no generation above n
+  module _ (n : ℕ) where
+    held_young : (ks : List ℕ)
+        → map (young_held n s.objects s.handles) ks ≡ map (young n s.objects) (map (held_at s.handles) ks)
+    held_young [] = refl
+    held_young (k ∷ ks) = ap (λ os. young_held n s.objects s.handles k ∷ os) (held_young ks)
+
+    pub gains_anchors : (m a b c : Marked) → a ≡ with_targets m (map (young n s.objects) s.statics)
+        → b ≡ with_targets a (map (young n s.objects) (referenced s.queue))
+        → c ≡ with_targets b (map (young_held n s.objects s.handles) slots) → Gains (IsYoungAnchor n s) m c
+    gains_anchors m a b c first second third =
+        let statics = IsYoungOf n s.objects s.statics in
+        let queue = IsYoungOf n s.objects (referenced s.queue) in
+        let held = IsYoungOf n s.objects (map (held_at s.handles) slots) in
+        gains_like (λ y. (statics y ⊎ queue y) ⊎ held y) (IsYoungAnchor n s) m c
+        (λ y h. ⊎_elim (λ early. ⊎_elim (λ k. (in_static k.0, k.1))
+        (λ k. let (x, rest) = mapped_from (λ (z : Id). Some z) s.queue (Some (number y)) k.0 in
+        (in_queue (subst (λ z. Contains s.queue z) (same_Some x (number y) rest.1) rest.0), k.1)) early)
+        (λ k. (by_handle (held_from (number y) k.0), k.1)) h)
+        (λ y h. among y h.0 h.1)
+        (gains_then (λ y. statics y ⊎ queue y) held m b c
+        (gains_then statics queue m a b
+        (subst (λ z. Gains statics m z) (sym first) (gains_young n s.objects m s.statics))
+        (subst (λ z. Gains queue a z) (sym second) (gains_young n s.objects a (referenced s.queue))))
+        (subst (λ z. Gains held b z) (sym (third ∙ ap (with_targets b) (held_young slots)))
+        (gains_young n s.objects b (map (held_at s.handles) slots))))
+      where
+        among : (y : ℕ) → IsAnchorId s y → is_older n s.objects (number y) ≡ false
+            → (IsYoungOf n s.objects s.statics y ⊎ IsYoungOf n s.objects (referenced s.queue) y)
+            ⊎ IsYoungOf n s.objects (map (held_at s.handles) slots) y
+        among y (in_static k) is = inl (inl (k, is))
+        among y (in_queue k) is = inl (inr (mapped_in (λ (z : Id). Some z) s.queue (number y) k, is))
+        among y (by_handle k) is = inr (held_to (number y) k, is)
+
+-- all are of no generation above the oldest
+pub gains_all : (s : State) → HasGenerations s.objects → (m c : Marked) → Gains (IsYoungAnchor OLDEST s) m c
+    → Gains (IsAnchorId s) m c
+gains_all s low m c g =
+    gains_like (IsYoungAnchor OLDEST s) (IsAnchorId s) m c (λ y h. h.0)
+    (λ y a. (a, all_young s.objects low OLDEST (omega arith) (number y))) g
 
 -- ---- what is marked, by identity
 

@@ -1,16 +1,16 @@
 -- What the passes of a collection leave is the state after it, and what they count is its report.
-use Rattle.hd_model.proofs.Basics.{AllPairs, Bool, CollectsState, Contains, Counts, Decides, Decision, Handle, IsKept, IsReached, IsRemoved, IsReport, IsSome, IsSurviving, IsToBeFinalized, IsWellFormed, List, LosesAs, None, Numbers, Object, Option, Role, Some, State, WeakEntry, and_from, and_parts, ap, attaches, cleared, cond, false, false≢true, filter, generation_in, get, inl, inr, is_attaching, is_lost, is_pinned, is_some, joined, keys, entries, entries_sorted, le-leb, leb-true, length, long, loses, loses_by, map, nat_le, none-some, not, not_from_false, option_map, refl, role, same_Some, scene_of, short, subst, survivor, swept, sym, true, true≢false, weak_handle, ℕ, ⊎_elim, cases_Bool, ◌&&◌, ◌++◌, ◌+◌, ◌<◌, ◌∙◌, ◌≡◌, ◌≢◌, ◌≤◌, ◌⊎◌}
+use Rattle.hd_model.proofs.Basics.{AllPairs, Bool, CollectsState, Contains, Counts, Decides, Decision, Handle, IsKept, IsReached, IsRemoved, IsReport, IsSome, IsSurviving, IsToBeFinalized, IsWellFormed, List, LosesAs, None, Numbers, Object, Option, Role, Some, State, WeakEntry, and_from, and_parts, ap, attaches, cleared, cond, false, false≢true, filter, generation_in, get, inl, inr, is_attaching, is_lost, is_pinned, is_some, joined, Leads, cases_lt, older, le-leb, leb-true, length, long, loses, loses_by, map, nat_le, none-some, not, not_from_false, option_map, refl, role, same_Some, scene_of, short, subst, survivor, swept, sym, true, true≢false, weak_handle, ℕ, ⊎_elim, cases_Bool, ◌&&◌, ◌++◌, ◌+◌, ◌<◌, ◌∙◌, ◌≡◌, ◌≢◌, ◌≤◌, ◌⊎◌}
 use Rattle.std.specs.Option.{option_map_or}
 use Rattle.hd_model.specs.declared.data.Id.{Id}
 use Rattle.hd_model.specs.declared.data.Report.{Report}
 use Rattle.hd_model.proofs.Members.{mapped_in, mapped_from, pairs_mapped, pairs_passing}
-use Rattle.hd_model.proofs.MapEntries.{keys_rise}
+use Rattle.hd_plain.proofs.YoungObjects.{ListsYoung, rising_apart}
 use Rattle.hd_model.proofs.PropertyCounts.{counts_like, counts_join, counts_named}
 use Rattle.hd_model.proofs.SceneCollection.{resurrected_kept}
 use Rattle.hd_model.proofs.WeakSlots.{handle_row, weak_row, row_cases, rows_cleared, weak_attaches}
 use Rattle.hd_plain.specs.Collecting.{id_of}
 use Rattle.hd_plain.specs.Inside.{is_woken, wakes}
-use Rattle.hd_maps.proofs.ListBuilds.{IsLive, Lists, keys_listed, lists_passing}
+use Rattle.hd_maps.proofs.ListBuilds.{IsLive, Lists, lists_passing}
 use Rattle.hd_plain.proofs.CollectionPasses.{is_removed, is_role, is_stale, lost_as, revives, role_from, role_same, settled_object, survives}
 
 counts_passing : (test : ℕ → Bool) (xs : List ℕ) → AllPairs (λ x y. x ≢ y) xs
@@ -124,10 +124,35 @@ module _ (n : ℕ) (reach kept : Id → Bool) (s : State)
 
   -- ---- the report
 
-  module _ (m : Numbers) (w : IsWellFormed m s) (ids slots weak_slots : List ℕ) (ids_are : ids ≡ keys s.objects)
+  module _ (m : Numbers) (w : IsWellFormed m s) (ids slots weak_slots : List ℕ)
+      (young_are : ListsYoung n s.objects ids)
       (live : Lists (IsLive s.handles) slots) (held : Lists (λ k. IsSome (get s.weak k)) weak_slots) where
-    all_ids : Lists (λ k. IsSome (get s.objects k)) ids
-    all_ids = keys_listed s.objects ids ids_are
+    apart_ids : AllPairs (λ x y. x ≢ y) ids
+    apart_ids = rising_apart _ young_are.rising
+
+    -- objects of generations above n are kept
+    pub old_kept : (k : ℕ) (o : Object Id) → get s.objects k ≡ Some o → n < o.generation
+        → kept (id_of k) ≡ true
+    old_kept k o e above =
+        (kept_is (id_of k)).1 (
+          id_of k,
+          (
+            inl (id_of k, (older (subst (λ q. n < generation_in q) (sym e) above), Leads.here)),
+            Leads.here,
+          ),
+        )
+
+    -- what is not kept is not among them
+    not_old : (k : ℕ) (o : Object Id) → get s.objects k ≡ Some o → not (kept (id_of k)) ≡ true
+        → o.generation ≤ n
+    not_old k o e h =
+        ⊎_elim (λ above. absurd (true≢false (sym (old_kept k o e above) ∙ not_true (kept (id_of k)) h)))
+        (λ low. low) (cases_lt n o.generation)
+
+    woken_low : (reached : Bool) (o : Object Id) → wakes n reached o ≡ true → o.generation ≤ n
+    woken_low reached o h =
+        let rest = and_parts o.registered (nat_le o.generation n && not reached) h in
+        leb-true o.generation n (and_parts (nat_le o.generation n) (not reached) rest.1).0
 
     abbrev pub joining : List ℕ
     joining = filter (λ k. revives reach kept n k (get s.objects k)) ids
@@ -148,22 +173,28 @@ module _ (n : ℕ) (reach kept : Id → Bool) (s : State)
     woken_revived k None stays h = h
     woken_revived k (Some o) stays h = and_from (kept (id_of k)) (wakes n (reach (id_of k)) o) stays h
 
-    of_object : (test : Object Id → Bool) (k : ℕ) (o : Option (Object Id)) → get s.objects k ≡ o
-        → option_map_or test o false ≡ true → Contains ids k
-    of_object test k None e h = absurd (false≢true h)
-    of_object test k (Some o) e h = all_ids.all k (ap is_some e)
+    -- a test that only objects of no generation above n pass
+    abbrev TestsYoung : (ℕ → Object Id → Bool) → Type 0
+    TestsYoung test = (k : ℕ) (o : Object Id) → get s.objects k ≡ Some o → test k o ≡ true → o.generation ≤ n
 
-    counts_objects : (test : ℕ → Object Id → Bool)
+    of_object : (test : ℕ → Object Id → Bool) → TestsYoung test → (k : ℕ) (o : Option (Object Id))
+        → get s.objects k ≡ o → option_map_or (test k) o false ≡ true → Contains ids k
+    of_object test low k None e h = absurd (false≢true h)
+    of_object test low k (Some o) e h = young_are.all k o e (low k o e h)
+
+    counts_objects : (test : ℕ → Object Id → Bool) → TestsYoung test
         → Counts (λ k. option_map_or (test k) (get s.objects k) false ≡ true)
         (length (filter (λ k. option_map_or (test k) (get s.objects k) false) ids))
-    counts_objects test =
-        counts_passing (λ k. option_map_or (test k) (get s.objects k) false) ids all_ids.apart
-        (λ k h. of_object (test k) k (get s.objects k) refl h)
+    counts_objects test low =
+        counts_passing (λ k. option_map_or (test k) (get s.objects k) false) ids apart_ids
+        (λ k h. of_object test low k (get s.objects k) refl h)
 
     pub joins_listed : Lists (λ k. woken (id_of k) ≡ true) joining
     joins_listed =
-        let l = lists_passing (λ k. revives reach kept n k (get s.objects k)) ids all_ids.apart
-        (λ k h. of_object (λ x. kept (id_of k) && wakes n (reach (id_of k)) x) k (get s.objects k) refl h) in
+        let l = lists_passing (λ k. revives reach kept n k (get s.objects k)) ids apart_ids
+        (λ k h. of_object (λ j x. kept (id_of j) && wakes n (reach (id_of j)) x)
+        (λ j x e t. woken_low (reach (id_of j)) x
+        (and_parts (kept (id_of j)) (wakes n (reach (id_of j)) x) t).1) k (get s.objects k) refl h) in
         record {
           apart = l.apart;
           each = λ k h. revived_woken k (get s.objects k) (l.each k h);
@@ -172,9 +203,7 @@ module _ (n : ℕ) (reach kept : Id → Bool) (s : State)
 
     pub joins_rise : AllPairs (λ x y. x < y) joining
     joins_rise =
-        pairs_passing (λ k. revives reach kept n k (get s.objects k)) (λ x y. x < y) ids
-        (subst (λ ks. AllPairs (λ x y. x < y) ks) (sym ids_are)
-        (keys_rise (entries s.objects) (entries_sorted s.objects)))
+        pairs_passing (λ k. revives reach kept n k (get s.objects k)) (λ x y. x < y) ids young_are.rising
 
     objects_named : (P : ℕ → Type 0) (Q : Id → Type 0) (c : ℕ) → Counts P c → ((k : ℕ) → P k → Q (id_of k))
         → ((x : Id) → Q x → P x.0) → Counts Q c
@@ -321,10 +350,11 @@ module _ (n : ℕ) (reach kept : Id → Bool) (s : State)
     })
     reported = record {
       kept = objects_named _ (IsSurviving n (scene_of s) kept) _
-          (counts_objects (λ k x. kept (id_of k) && nat_le x.generation n))
+          (counts_objects (λ k x. kept (id_of k) && nat_le x.generation n)
+          (λ k x e t. leb-true x.generation n (and_parts (kept (id_of k)) (nat_le x.generation n) t).1))
           (λ k h. surviving k (get s.objects k) refl h) (λ x h. is_surviving x (get s.objects x.0) refl h);
       removed = objects_named _ (IsRemoved (scene_of s) kept) _
-          (counts_objects (λ k x. not (kept (id_of k))))
+          (counts_objects (λ k x. not (kept (id_of k))) (λ k x e t. not_old k x e t))
           (λ k h. removed k (get s.objects k) refl h) (λ x h. is_gone x (get s.objects x.0) refl h);
       short = counts_lost short (λ e. false≢true (ap is_attaching e));
       long = counts_lost long (λ e. false≢true (ap is_attaching e));

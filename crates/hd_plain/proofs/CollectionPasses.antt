@@ -1,5 +1,5 @@
 -- What each pass of a collection leaves and counts.
-use Rattle.hd_model.proofs.Basics.{Bool, Contains, Extra, FinMap, Handle, IsSome, List, None, Object, Option, Role, Some, WeakEntry, ap, arith, attaches, cleared, cond, cond-true, false, false≢true, filter, get, holds, insert, is_attaching, is_lost, is_some, length, long, loses, loses_by, map, nat_cmp, nat_le, not, option_map, refl, remove, role, secondary, short, suc, survivor, swept, sym, true, unwrap_or, zero, eq-eqb, eqb-true, ℕ, ◌&&◌, ◌++◌, ◌+◌, ◌==◌, ◌∙◌, ◌∷◌, [], ◌≡◌, ◌≢◌, ◌≤◌}
+use Rattle.hd_model.proofs.Basics.{AllPairs, Bool, Contains, Extra, FinMap, Handle, IsSome, List, None, Object, Option, Role, Some, WeakEntry, ap, arith, attaches, cleared, cond, cond-true, false, false≢true, filter, get, holds, insert, is_attaching, is_lost, is_some, length, long, loses, loses_by, map, nat_cmp, nat_le, not, option_map, refl, remove, role, secondary, short, suc, survivor, swept, sym, true, unwrap_or, zero, eq-eqb, eqb-true, ℕ, ◌&&◌, ◌++◌, ◌+◌, ◌==◌, ◌∙◌, ◌∷◌, [], ◌≡◌, ◌≢◌, ◌≤◌}
 use Rattle.std.specs.Option.{option_map_or}
 use Rattle.hd_model.specs.declared.data.Id.{Id}
 use Rattle.hd_model.proofs.IdleCollection.{cleared_same}
@@ -356,18 +356,14 @@ module _ (reach kept : Id → Bool) where
         let small : one_if (test k (get s.objects k)) ≤ 1 = one_at_most (test k (get s.objects k)) in
         omega (arith, same, low, small)
 
-    module _ (s : Settled) (ids : List ℕ) (all : Lists (λ k. IsSome (get s.objects k)) ids) where
-      pub objects_after : (q : ℕ) → get (pass (settled_one n reach kept) s ids).objects q
-          ≡ settled_object q (get s.objects q)
-      objects_after =
+    module _ (s : Settled) (ids : List ℕ) (apart : AllPairs (λ x y. x ≢ y) ids) where
+      -- where what is not in the list would stay
+      pub objects_after : ((q : ℕ) → (Contains ids q → ⊥)
+          → settled_object q (get s.objects q) ≡ get s.objects q) → (q : ℕ)
+          → get (pass (settled_one n reach kept) s ids).objects q ≡ settled_object q (get s.objects q)
+      objects_after still =
           after_pass (λ (d : Settled). d.objects) (settled_one n reach kept) objects_beside settled_object
-          (λ d k. object_here d k (get d.objects k) refl) s ids all.apart
-          (λ q never. rest q never (get s.objects q) refl)
-        where
-          rest : (q : ℕ) → (Contains ids q → ⊥) → (o : Option (Object Id)) → get s.objects q ≡ o
-              → settled_object q o ≡ o
-          rest q never None e = cond_none (kept (id_of q))
-          rest q never (Some x) e = absurd (never (all.all q (ap is_some e)))
+          (λ d k. object_here d k (get d.objects k) refl) s ids apart still
 
       pub fates_after : (count : Fates → ℕ) (test : ℕ → Option (Object Id) → Bool)
           → ((d : Settled) (k : ℕ) (o : Option (Object Id))
@@ -377,13 +373,21 @@ module _ (reach kept : Id → Bool) where
           ≡ count s.fates + length (filter (λ q. test q (get s.objects q)) ids)
       fates_after count test one =
           count_after (λ (d : Settled). d.objects) (settled_one n reach kept) objects_beside test
-          (λ d. count d.fates) (λ d k. one d k (get d.objects k)) s ids all.apart
+          (λ d. count d.fates) (λ d k. one d k (get d.objects k)) s ids apart
 
       pub queue_settled : (pass (settled_one n reach kept) s ids).queue
           ≡ s.queue ++ map id_of (filter (λ q. revives q (get s.objects q)) ids)
       queue_settled =
           queue_after (λ (d : Settled). d.objects) (settled_one n reach kept) objects_beside revives id_of
-          (λ (d : Settled). d.queue) (λ d k. queue_joined d k (get d.objects k)) s ids all.apart
+          (λ (d : Settled). d.queue) (λ d k. queue_joined d k (get d.objects k)) s ids apart
+
+  -- objects settle by what is reached and kept of them alone
+  pub settled_same : (n : ℕ) (other_reach other_kept : Id → Bool) (k : ℕ) → reach (id_of k) ≡ other_reach (id_of k)
+      → kept (id_of k) ≡ other_kept (id_of k) → (s : Settled)
+      → settled_one n reach kept s k ≡ settled_one n other_reach other_kept s k
+  settled_same n other_reach other_kept k r h s = λ i.
+      option_map_or (λ (o : Object Id). cond (h i) (keep_object n (wakes n (r i) o) s k o) (remove_object s k))
+      (get s.objects k) s
 
 -- ---- pinned addresses
 

@@ -5,6 +5,7 @@ pub mod AddressWays
 pub mod StepWays
 pub mod AttachedLists
 pub mod MarkedSets
+pub mod YoungObjects
 pub mod FollowedEdges
 pub mod AnchorGains
 pub mod RootWalk

@@ -114,18 +114,17 @@ gains_targets m (Some x ∷ os) =
     (gains_then (λ y. y ≡ x.0) (IsAmong os) m (with_mark m x.0) (with_targets (with_mark m x.0) os)
     (gains_mark m x.0) (gains_targets (with_mark m x.0) os))
 
--- what is referenced by one of several lists
-pub gains_rows : (m : Marked) (rows : List (List (Option Id))) → Gains (IsAmong (joined rows)) m
-    (with_rows m rows)
-gains_rows m [] = gains_none (IsAmong []) m (λ y h. not_in_none (Some (number y)) h)
-gains_rows m (row ∷ rows) =
-    gains_like (λ y. IsAmong row y ⊎ IsAmong (joined rows) y) (IsAmong (joined (row ∷ rows))) m
-    (with_rows (with_targets m row) rows)
-    (λ y h. ⊎_elim (λ c. Contains-append_left row (joined rows) (Some (number y)) c)
-    (λ c. Contains-append_right row (joined rows) (Some (number y)) c) h)
-    (λ y h. Contains-append_cases row (joined rows) (Some (number y)) h)
-    (gains_then (IsAmong row) (IsAmong (joined rows)) m (with_targets m row)
-    (with_rows (with_targets m row) rows) (gains_targets m row) (gains_rows (with_targets m row) rows))
+-- one list after another, and several lists
+pub targets_then : (m : Marked) (xs ys : List (Option Id))
+    → with_targets (with_targets m xs) ys ≡ with_targets m (xs ++ ys)
+targets_then m [] ys = refl
+targets_then m (None ∷ xs) ys = targets_then m xs ys
+targets_then m (Some x ∷ xs) ys = targets_then (with_mark m x.0) xs ys
+
+pub rows_joined : (m : Marked) (rows : List (List (Option Id)))
+    → with_rows m rows ≡ with_targets m (joined rows)
+rows_joined m [] = refl
+rows_joined m (row ∷ rows) = rows_joined (with_targets m row) rows ∙ targets_then m row (joined rows)
 
 module _ (E : Id → Id → Type 0) where
   -- nothing is marked
@@ -194,15 +193,6 @@ module _ (E : Id → Id → Type 0) where
     };
     none_left = none;
   }
-
--- what fields reference and what is attached was marked
-pub gains_edges : (n f o : Marked) (fields : List (Option Id)) (secondaries : List ℕ)
-    → f ≡ with_targets n fields
-    → o ≡ with_marks f secondaries → Gains (λ y. IsAmong fields y ⊎ Contains secondaries y) n o
-gains_edges n f o fields secondaries a b =
-    gains_then (IsAmong fields) (λ y. Contains secondaries y) n f o
-    (subst (Gains (IsAmong fields) n) (sym a) (gains_targets n fields))
-    (subst (Gains (λ y. Contains secondaries y) f) (sym b) (gains_marks f secondaries))
 
 -- each step of a closing brings it nearer to its end
 pub nearer : (J : ℕ → Type 0) (m n o : Marked) (id : ℕ) → m ≡ record n { left = n.left ++ id ∷ [] }

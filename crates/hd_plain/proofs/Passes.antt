@@ -11,6 +11,14 @@ is_member (x ∷ xs) k =
     (λ apart. ⊎_elim (λ later. inl (later_in x xs k later))
     (λ never. inr (λ h. ⊎_elim apart never (member_cases x xs k h))) (is_member xs k)) (cases_eq x k)
 
+-- steps that are the same at each key of a list are one pass
+pub pass_same : {S : Type 0} (f g : S → ℕ → S) (ks : List ℕ) → ((k : ℕ) → Contains ks k → (s : S) → f s k ≡ g s k)
+    → (s : S) → pass f s ks ≡ pass g s ks
+pass_same f g [] same s = refl
+pass_same f g (k ∷ ks) same s =
+    ap (λ z. pass f z ks) (same k (first_in k ks) s)
+    ∙ pass_same f g ks (λ q h. same q (later_in k ks q h)) (g s k)
+
 filter_like : (f g : ℕ → Bool) (xs : List ℕ) → ((x : ℕ) → Contains xs x → f x ≡ g x)
     → filter f xs ≡ filter g xs
 filter_like f g [] same = refl

@@ -1,6 +1,6 @@
 -- The levels of an object are what the machine marks of them: the least anchor of a level begins a shortest
 -- chain where no level before has an anchor.
-use Rattle.hd_model.proofs.Basics.{Bool, Contains, Decides, IsSome, List, None, Object, Option, Some, State, ap, arith, cases_eq, cases_lt, cond, cond-true, entries, false, false≢true, get, inl, inr, is_some, keys, list_any, map, none-some, refl, same_Some, scene_of, subst, suc, sym, true, values, zero-le, ℕ, ⊎_elim, ◌+◌, ◌<◌, ◌∙◌, ◌≡◌, ◌≤◌, ◌⊎◌}
+use Rattle.hd_model.proofs.Basics.{Bool, Contains, Decides, IsSome, List, None, Object, Option, Some, State, ap, arith, cases_eq, cases_lt, cond, cond-true, entries, false, false≢true, get, inl, inr, is_some, keys, list_any, map, none-some, refl, same_Some, scene_of, subst, suc, sym, true, zero-le, ℕ, ⊎_elim, ◌+◌, ◌∙◌, ◌≡◌, ◌⊎◌}
 use Rattle.std.specs.Borrow.{Bor}
 use Rattle.hd_model.proofs.MapEntries.{entry_of, get_entry, value_found, value_of}
 use Rattle.hd_model.proofs.Members.{mapped_from, mapped_in, not_in_none}
@@ -16,7 +16,7 @@ use Rattle.hd_model.specs.State.{Handle, row_of, secondary_of}
 use Rattle.hd_model.specs.declared.data.Id.{Id}
 use Rattle.hd_maps.proofs.ListBuilds.{keys_listed}
 use Rattle.hd_maps.specs.LentValues.{lent_entry}
-use Rattle.hd_maps.specs.NextKeys.{IsLeastFrom, IsLeastKey}
+use Rattle.hd_maps.specs.NextKeys.{IsLeastFrom}
 use Rattle.hd_maps.specs.TableViews.{Row}
 use Rattle.hd_plain.proofs.AnchorGains.{held_from_parts, is_held, never_weak}
 use Rattle.hd_plain.proofs.AttachedLists.{IsPairOf, attaching_is, attaching_row, row_attaching, row_by_entry, row_is}
@@ -117,7 +117,8 @@ module _ (s : State) (rows : List Row) (are : AreHandles s rows) where
         ⊎_elim
         (λ e. let (row, rest) = stored_row h.slot h.handle e in
         kept_to p of_row rows x row rest.0
-        (ap (λ (g : Handle Id). held_by (Some g)) rest.1 ∙ held_from_parts h.handle x h.holds h.target) passes)
+        (ap (λ (g : Handle Id). held_by (Some g)) rest.1
+        ∙ held_from_parts h.handle x h.holds h.target) passes)
         (λ e. absurd (never_weak (get s.weak h.slot) h.handle e h.holds))
         (row_is s h.slot h.handle h.is_stored)
 
@@ -158,8 +159,8 @@ module _ (s : State) (rows : List Row) (are : AreHandles s rows) where
             anchor = is.0;
             inside = is.1;
             least = λ x anchor passes.
-                ⊎_elim (λ below. absurd (unmarked x anchor passes (least.none x.0 zero-le below))) (λ above. above)
-                (cases_lt x.0 k);
+                ⊎_elim (λ below. absurd (unmarked x anchor passes (least.none x.0 zero-le below)))
+                (λ above. above) (cases_lt x.0 k);
           }
 
 -- ---- what leads to a set by a handle or an entry
@@ -171,7 +172,8 @@ Attaches p o x = (h : Handle Id) × ((o ≡ Some h) × ((y : Id) × ((p y ≡ tr
 attacher_from : (p : Id → Bool) (o : Option (Handle Id)) (x : Id) → attacher p o ≡ Some x → Attaches p o x
 attacher_from p None x e = absurd (none-some x e)
 attacher_from p (Some h) x e =
-    let outer = target_from (is_attaching (role h)) (cond (is_in p (secondary_of h.extra)) h.target None) x e in
+    let outer =
+    target_from (is_attaching (role h)) (cond (is_in p (secondary_of h.extra)) h.target None) x e in
     let inner = target_from (is_in p (secondary_of h.extra)) h.target x outer.1 in
     let (y, is) = (in_set p (secondary_of h.extra)).0 inner.0 in (
       h,
@@ -348,7 +350,8 @@ module _ (s : State) (goal : Id) where
       none_nearer none = λ x k anchor chain.
           let low = nearer x k anchor chain in
           ⊎_elim
-          (λ same. absurd (none x anchor ((level x).1 (subst (λ j. LeadsIn (EdgeOf s) j x goal) (sym same) chain))))
+          (λ same. absurd (none x anchor
+          ((level x).1 (subst (λ j. LeadsIn (EdgeOf s) j x goal) (sym same) chain))))
           (λ apart. omega (arith, low, apart)) (cases_eq edges k)
 
       pub level_shortest : (k : ℕ) → IsFirstAnchor s (is_marked m) k

@@ -1,11 +1,12 @@
 -- The passes of a collection, one after another, are one collection of the machine.
-use Rattle.hd_model.proofs.Basics.{Bool, CollectsState, Decides, FinMap, IsKept, IsReached, IsSome, IsWellFormed, List, None, Numbers, Object, Option, Some, State, ap, arith, attaches, cond, filter, get, keys, length, long, nat_cmp, nat_tests, none-some, raised, refl, same_Some, scene_of, short, subst, survivor, sym, total_size, true, false, len, size_of, is_pinned, ℕ, ◌*◌, ◌+◌, ◌<◌, ◌^◌, ◌∙◌, ◌≡◌, ◌≤◌}
+use Rattle.hd_model.proofs.Basics.{AllPairs, Bool, CollectsState, Contains, cases_lt, le-ltb, nat_le, nat_lt, not, ⊎_elim, ◌&&◌, ◌||◌, ◌≢◌, Decides, FinMap, IsKept, IsReached, IsSome, IsWellFormed, List, None, Numbers, Object, Option, Some, State, ap, arith, attaches, cond, filter, get, keys, length, long, nat_cmp, nat_tests, none-some, raised, refl, same_Some, scene_of, short, subst, survivor, sym, total_size, true, false, len, size_of, is_pinned, ℕ, ◌*◌, ◌+◌, ◌<◌, ◌^◌, ◌∙◌, ◌≡◌, ◌≤◌}
 use Rattle.hd_model.proofs.Sums.{sum-many}
 use Rattle.hd_model.specs.declared.data.Id.{Id}
 use Rattle.hd_model.specs.declared.limits.TheConstants.{OLDEST}
 use Rattle.std.specs.Option.{option_map_or}
-use Rattle.hd_plain.specs.Inside.{Cleared, Settled, Swept, cleared_one, cleared_to, no_fates, no_losses, one_if, pass, settle_object, settled_one, settled_to, swept_one, swept_to, wakes, is_marked, AreFew, HavePassed, IsWalk, report_of}
+use Rattle.hd_plain.specs.Inside.{Cleared, Settled, Swept, cleared_one, cleared_to, no_fates, no_losses, one_if, pass, settle_object, settled_one, settled_to, swept_one, swept_to, wakes, is_above, is_marked, AreFew, HavePassed, IsWalk, report_of}
 use Rattle.hd_plain.specs.Collecting.{id_of}
+use Rattle.hd_plain.specs.Marked.{Marked}
 use Rattle.hd_maps.specs.StoredObjects.{AreFrom, IsYoungest}
 use Rattle.hd_maps.specs.TableViews.{slots_of}
 use Rattle.hd_maps.proofs.ListBuilds.{IsLive, Lists, keys_listed}
@@ -14,10 +15,11 @@ use Rattle.hd_plain.specs.declared.collecting.Decided.{Decided}
 use Rattle.hd_plain.specs.declared.collecting.Fates.{Fates}
 use Rattle.hd_plain.specs.declared.collecting.Losses.{Losses}
 use Rattle.hd_plain.specs.declared.collecting.Walk.{Walk}
-use Rattle.hd_plain.proofs.CollectedState.{collected, joining, joins_listed, joins_rise, reported}
-use Rattle.hd_plain.proofs.CollectionPasses.{dep_counts, entries_after, fates_after, handles_after, is_removed, is_stale, kept_counted, long_counts, losses_after, lost_as, objects_after, queue_settled, removed_counted, revived_counted, revives, settled_object, short_counts, stale_after, survives}
+use Rattle.hd_plain.proofs.CollectedState.{collected, joining, joins_listed, joins_rise, old_kept, reported}
+use Rattle.hd_plain.proofs.CollectionPasses.{dep_counts, entries_after, fates_after, handles_after, is_removed, is_stale, kept_counted, long_counts, losses_after, lost_as, objects_after, cond_none, settled_same, queue_settled, removed_counted, revived_counted, revives, settled_object, short_counts, stale_after, survives}
 use Rattle.hd_plain.proofs.FreeSlots.{weak_low}
-use Rattle.hd_plain.proofs.Passes.{filter_short}
+use Rattle.hd_plain.proofs.Passes.{filter_short, pass_same}
+use Rattle.hd_plain.proofs.YoungObjects.{ListsYoung, rising_apart, young_lists}
 use Rattle.hd_maps.proofs.SeenMaps.{few_keys, keys_length}
 
 -- each object takes some of the cells
@@ -43,6 +45,34 @@ raised_more n g h low = grind (arith, nat_tests)
 
 raised_low : (n g : ℕ) → g ≤ OLDEST → raised n g ≤ OLDEST
 raised_low n g low = grind (arith, nat_tests)
+
+-- an object of a generation above n is as it was
+raised_above : (n g : ℕ) → n < g → raised n g ≡ g
+raised_above n g low = grind (arith, nat_tests)
+
+not_woken : (n : ℕ) (reached : Bool) (o : Object Id) → n < o.generation → wakes n reached o ≡ false
+not_woken n reached o low =
+    by o.registered (nat_le o.generation n) (below_false n o.generation low)
+  where
+    below_false : (n g : ℕ) → n < g → nat_le g n ≡ false
+    below_false n g low = grind (arith, nat_tests)
+
+    by : (a b : Bool) → b ≡ false → (a && (b && not reached)) ≡ false
+    by true b is = ap (λ c. c && not reached) is
+    by false b is = refl
+
+survivor_same : (n : ℕ) (reached : Bool) (o : Object Id) → n < o.generation
+    → survivor n (wakes n reached o) o ≡ o
+survivor_same n reached o low = λ i. record {
+  fields = o.fields;
+  value = o.value;
+  generation = raised_above n o.generation low i;
+  registered = (ap (λ b. o.registered && not b) (not_woken n reached o low) ∙ and_true o.registered) i;
+}
+  where
+    and_true : (b : Bool) → (b && true) ≡ b
+    and_true true = refl
+    and_true false = refl
 
 module _ (n : ℕ) (reach kept : Id → Bool) where
   -- objects that a collection left are as old as those before, with a generation raised as theirs
@@ -70,15 +100,15 @@ module _ (n : ℕ) (reach kept : Id → Bool) where
       by None is h = never (kept (id_of k)) h
       by (Some o) is h = old o is (kept (id_of k)) h
 
-module _ (n : ℕ) (m : Numbers) (s u t : State) (w : IsWellFormed m s) (walk : Walk) (goes : IsWalk s walk)
-    (d : Decided) (reach_is : (x : Id) → Decides (is_marked d.reached x) (IsReached (scene_of s) n x))
-    (kept_is : (x : Id) → Decides (is_marked d.kept x) (IsKept (scene_of s) n x)) (c : Changes)
+module _ (n : ℕ) (m : Numbers) (s u t : State) (w : IsWellFormed m s) (walk : Walk) (goes : IsWalk n s walk)
+    (d : Decided) (reach_is : (x : Id) → Decides (is_above n s.objects d.reached x) (IsReached (scene_of s) n x))
+    (kept_is : (x : Id) → Decides (is_above n s.objects d.kept x) (IsKept (scene_of s) n x)) (c : Changes)
     (rest : u ≡ record s { pinned = u.pinned }) (passed : HavePassed n walk d u t c) where
   abbrev reach : Id → Bool
-  reach = is_marked d.reached
+  reach = is_above n s.objects d.reached
 
   abbrev kept : Id → Bool
-  kept = is_marked d.kept
+  kept = is_above n s.objects d.kept
 
   abbrev ids : List ℕ
   ids = walk.ids.items
@@ -99,19 +129,36 @@ module _ (n : ℕ) (m : Numbers) (s u t : State) (w : IsWellFormed m s) (walk : 
   abbrev first_objects : Settled
   first_objects = settled_to s.objects s.queue no_fates
 
+  young_are : ListsYoung n s.objects ids
+  young_are = young_lists n s.objects ids goes.ids
+
+  -- of an object of no generation above n, what is marked says all
+  marked_alone : (k : Marked) (q : ℕ) → Contains ids q → is_marked k (id_of q) ≡ is_above n s.objects k (id_of q)
+  marked_alone k q h =
+      let (o, is) = young_are.each q h in
+      ap (λ b. b || is_marked k (id_of q))
+      (sym (ap (λ z. option_map_or (λ (x : Object Id). nat_lt n x.generation) z false) is.0
+      ∙ le-ltb n o.generation is.1))
+
   handles_passed : cleared_to t.handles c.losses ≡ pass (cleared_one reach kept) first_handles slots
   handles_passed = passed.handles
-      ∙ (λ i. pass (cleared_one reach kept) (cleared_to (rest i).handles no_losses) slots)
+      ∙ (λ i. pass (cleared_one (is_above n (rest i).objects d.reached) (is_above n (rest i).objects d.kept))
+      (cleared_to (rest i).handles no_losses) slots)
 
   entries_passed : swept_to t.weak c.swept ≡ pass (swept_one kept) first_entries weak_slots
-  entries_passed = passed.entries ∙ (λ i. pass (swept_one kept) (swept_to (rest i).weak 0) weak_slots)
+  entries_passed = passed.entries
+      ∙ (λ i. pass (swept_one (is_above n (rest i).objects d.kept)) (swept_to (rest i).weak 0) weak_slots)
 
   objects_passed : settled_to t.objects t.queue c.fates ≡ pass (settled_one n reach kept) first_objects ids
   objects_passed = passed.objects
-      ∙ (λ i. pass (settled_one n reach kept) (settled_to (rest i).objects (rest i).queue no_fates) ids)
+      ∙ (λ i. pass (settled_one n (is_marked d.reached) (is_marked d.kept))
+      (settled_to (rest i).objects (rest i).queue no_fates) ids)
+      ∙ pass_same (settled_one n (is_marked d.reached) (is_marked d.kept)) (settled_one n reach kept) ids
+      (λ k h e. settled_same (is_marked d.reached) (is_marked d.kept) n reach kept k (marked_alone d.reached k h)
+      (marked_alone d.kept k h) e) first_objects
 
-  all_ids : Lists (λ k. IsSome (get s.objects k)) ids
-  all_ids = keys_listed s.objects ids goes.ids
+  apart_ids : AllPairs (λ x y. x ≢ y) ids
+  apart_ids = rising_apart _ young_are.rising
 
   live : Lists (IsLive s.handles) slots
   live = keys_listed s.handles slots goes.slots
@@ -146,7 +193,7 @@ module _ (n : ℕ) (m : Numbers) (s u t : State) (w : IsWellFormed m s) (walk : 
       → count c.fates ≡ length (filter (λ k. test k (get s.objects k)) ids)
   of_ids count test one none =
       from_zero (ap (λ (e : Settled). count e.fates) objects_passed
-      ∙ fates_after reach kept n first_objects ids all_ids count test one
+      ∙ fates_after reach kept n first_objects ids apart_ids count test one
       ∙ ap (λ z. z + length (filter (λ k. test k (get s.objects k)) ids)) none)
 
   keeps : c.fates.kept ≡ length (filter (λ k. survives reach kept n k (get s.objects k)) ids)
@@ -175,9 +222,23 @@ module _ (n : ℕ) (m : Numbers) (s u t : State) (w : IsWellFormed m s) (walk : 
         let e = fewer _ weak_slots stales in let f = goes.few_entries in omega (arith, a, b, e, f);
   }
 
+  -- what is of a generation above n stays as it is
+  still : (q : ℕ) → (Contains ids q → ⊥) → settled_object reach kept n q (get s.objects q) ≡ get s.objects q
+  still q never = by (get s.objects q) refl
+    where
+      by : (o : Option (Object Id)) → get s.objects q ≡ o → settled_object reach kept n q o ≡ o
+      by None e = cond_none (kept (id_of q))
+      by (Some o) e =
+          ⊎_elim
+          (λ above.
+          ap (λ b. cond b (Some (survivor n (wakes n (reach (id_of q)) o) o)) None)
+          (old_kept n reach kept s reach_is kept_is m w ids slots weak_slots young_are live held q o e above)
+          ∙ ap (λ z. Some z) (survivor_same n (reach (id_of q)) o above))
+          (λ low. absurd (never (young_are.all q o e low))) (cases_lt n o.generation)
+
   objects_left : (k : ℕ) → get t.objects k ≡ settled_object reach kept n k (get s.objects k)
   objects_left k = ap (λ (e : Settled). get e.objects k) objects_passed
-      ∙ objects_after reach kept n first_objects ids all_ids k
+      ∙ objects_after reach kept n first_objects ids apart_ids still k
 
   -- the least generation is raised as each is
   pub youngest_after : (g : ℕ) → IsYoungest g s.objects → IsYoungest (raised n g) t.objects
@@ -200,10 +261,10 @@ module _ (n : ℕ) (m : Numbers) (s u t : State) (w : IsWellFormed m s) (walk : 
         revived = sym revivals i;
       })
       (collected n reach kept s reach_is kept_is
-      (joining n reach kept s reach_is kept_is m w ids slots weak_slots goes.ids live held)
-      (joins_listed n reach kept s reach_is kept_is m w ids slots weak_slots goes.ids live held)
-      (joins_rise n reach kept s reach_is kept_is m w ids slots weak_slots goes.ids live held) _
-      (reported n reach kept s reach_is kept_is m w ids slots weak_slots goes.ids live held) t
+      (joining n reach kept s reach_is kept_is m w ids slots weak_slots young_are live held)
+      (joins_listed n reach kept s reach_is kept_is m w ids slots weak_slots young_are live held)
+      (joins_rise n reach kept s reach_is kept_is m w ids slots weak_slots young_are live held) _
+      (reported n reach kept s reach_is kept_is m w ids slots weak_slots young_are live held) t
       (record {
         objects = objects_left;
         handles = λ slot. ap (λ (e : Cleared). get e.handles slot) handles_passed
@@ -217,6 +278,6 @@ module _ (n : ℕ) (m : Numbers) (s u t : State) (w : IsWellFormed m s) (walk : 
           weak = t.weak;
           pinned = sym (ap (λ (q : State). q.pinned) passed.rest) i;
           queue = (ap (λ (e : Settled). e.queue) objects_passed
-              ∙ queue_settled reach kept n first_objects ids all_ids) i;
+              ∙ queue_settled reach kept n first_objects ids apart_ids) i;
         });
       }))

@@ -1,6 +1,6 @@
 -- What private clauses alone cite.
-use Rattle.std.specs.Prelude.{ℕ, List, map, Option, Some, ◌≡◌, ◌==◌, cond, [], ◌∷◌, ◌++◌, None, ◌+◌, ◌<◌, ◌≤◌, Bool, true, false, length, ◌&&◌, nat_le, not, ◌≢◌, ◌^◌, Ok, ◌*◌, option_map, ◌⊎◌, Contains, nat_lt, replicate, Decides}
-use Rattle.std.specs.FinMap.{FinMap, get, insert, remove, keys}
+use Rattle.std.specs.Prelude.{ℕ, List, map, Option, Some, ◌≡◌, ◌==◌, cond, [], ◌∷◌, ◌++◌, None, ◌+◌, ◌<◌, ◌≤◌, Bool, true, false, length, ◌&&◌, nat_le, not, ◌≢◌, ◌^◌, Ok, ◌*◌, option_map, ◌⊎◌, Contains, nat_lt, replicate, Decides, flat_map, ◌||◌}
+use Rattle.std.specs.FinMap.{FinMap, entries, get, insert, remove, keys}
 use Rattle.std.specs.Ordering.{nat_cmp}
 use Rattle.std.specs.Option.{option_map_or}
 use Rattle.hd_model.specs.Anchors.{AnchorOf, EdgeOf}
@@ -14,13 +14,15 @@ use Rattle.hd_model.specs.declared.data.Report.{Report}
 use Rattle.hd_model.specs.State.{State, Handle, secondary_of, WeakEntry, Object, secondary, use_of, object_by_id, with_object, weak_handle}
 use Rattle.hd_model.specs.Role.{role, Role, holds, short, long, attaches}
 use Rattle.hd_model.specs.Collect.{is_attaching, loses, survivor}
-use Rattle.hd_model.specs.declared.limits.TheConstants.{BLOCKS, REGISTERS, ROWS}
+use Rattle.hd_model.specs.declared.limits.TheConstants.{BLOCKS, OLDEST, REGISTERS, ROWS}
 use Rattle.hd_plain.specs.declared.machine.Seats.{Seats}
 use Rattle.hd_commands.specs.declared.done.Done.{Done}
 use Rattle.hd_model.specs.declared.data.Grown.TheVariants.{Zero, One, Two, Back}
 use Rattle.hd_model.specs.Command.{Outcome}
 use Rattle.hd_model.specs.Step.{pinned_by}
 use Rattle.hd_plain.specs.declared.marks.Attached.{Attached}
+use Rattle.hd_plain.specs.declared.marks.Sight.{Sight}
+use Rattle.std.specs.Borrow.{Bor}
 use Rattle.hd_plain.specs.Attaching.{secondaries}
 use Rattle.hd_plain.specs.declared.collecting.Fates.{Fates}
 use Rattle.hd_plain.specs.declared.collecting.Losses.{Losses}
@@ -34,6 +36,7 @@ use Rattle.hd_plain.specs.MachineViews.{Becomes, MachineView}
 use Rattle.std.specs.FinMap as fin
 use Rattle.hd_maps.specs.declared.data.Edit.TheVariants as edit
 use Rattle.hd_maps.specs.StoredObjects.{edited}
+use Rattle.hd_maps.specs.LentValues.{lent_entry}
 use Rattle.hd_maps.specs.WeakSlots.{entry_in}
 use Rattle.hd_plain.specs.Commands.{ComesTo}
 
@@ -276,11 +279,6 @@ pub record Gains (J : ℕ → Type 0) (m n : Marked) : Type 0 where
 
 -- ---- what a collection marks before it follows edges
 
--- the object with an identity, where it is of a generation above n
-abbrev pub older_at : FinMap nat_cmp (Object Id) → ℕ → ℕ → Option Id
-older_at objects n k =
-    option_map_or (λ (o : Object Id). cond (nat_lt n o.generation) (Some (id_of k)) None) (get objects k) None
-
 -- where it is to be resurrected by a collection of n
 abbrev pub resurrected_at : ℕ → (Id → Bool) → FinMap nat_cmp (Object Id) → ℕ → Option Id
 resurrected_at n reach objects k = cond (is_woken n reach objects k) (Some (id_of k)) None
@@ -307,6 +305,70 @@ held_at handles slot = held_by (get handles slot)
 abbrev pub attaching_at : FinMap nat_cmp (Option (WeakEntry Id)) → ℕ → Option (Handle Id)
 attaching_at held slot = option_map (λ (e : WeakEntry Id). weak_handle (Some e)) (entry_in held slot)
 
+-- ---- objects of generations above n, which a collection of n keeps and marks by nothing
+
+-- whether an object is of a generation above n
+abbrev pub is_older : ℕ → FinMap nat_cmp (Object Id) → Id → Bool
+is_older n objects x = option_map_or (λ (o : Object Id). nat_lt n o.generation) (get objects x.0) false
+
+-- no object is of a generation above the oldest
+abbrev pub HasGenerations : FinMap nat_cmp (Object Id) → Type 0
+HasGenerations objects = (id : ℕ) (o : Object Id) → get objects id ≡ Some o → o.generation ≤ OLDEST
+
+-- what is referenced, where it is not of a generation above n
+abbrev pub young : ℕ → FinMap nat_cmp (Object Id) → Option Id → Option Id
+young n objects None = None
+young n objects (Some x) = cond (is_older n objects x) None (Some x)
+
+-- the same of a number
+abbrev pub young_at : ℕ → FinMap nat_cmp (Object Id) → ℕ → Option Id
+young_at n objects k = young n objects (Some (id_of k))
+
+-- an edge to an object that is not of a generation above n
+abbrev pub YoungEdge : ℕ → State → Id → Id → Type 0
+YoungEdge n s x y = EdgeOf s x y × (is_older n s.objects y ≡ false)
+
+-- whether an object is of a generation above n, or marked
+abbrev pub is_above : ℕ → FinMap nat_cmp (Object Id) → Marked → Id → Bool
+is_above n objects m x = is_older n objects x || is_marked m x
+
+abbrev pub is_seen : Sight → Marked → Id → Bool
+is_seen sight m x = is_above sight.n sight.objects.now m x
+
+-- what the handle in a slot holds, where it is not of a generation above n
+abbrev pub young_held : ℕ → FinMap nat_cmp (Object Id) → FinMap nat_cmp (Handle Id) → ℕ → Option Id
+young_held n objects handles slot = young n objects (held_by (get handles slot))
+
+-- an anchor that is not of a generation above n
+abbrev pub IsYoungAnchor : ℕ → State → ℕ → Type 0
+IsYoungAnchor n s y = IsAnchorId s y × (is_older n s.objects (id_of y) ≡ false)
+
+-- an edge leads there from an object of a generation above n, and it is of none such
+abbrev pub IsFromOlder : ℕ → State → ℕ → Type 0
+IsFromOlder n s y = (x : Id) × ((is_older n s.objects x ≡ true) × YoungEdge n s x (id_of y))
+
+-- what is marked before edges are followed: roots of a collection of n that are not of a generation above n,
+-- and what edges from objects of such generations lead to
+abbrev pub IsYoungRoot : ℕ → State → ℕ → Type 0
+IsYoungRoot n s y =
+    (IsRoot (scene_of s) n (id_of y) × (is_older n s.objects (id_of y) ≡ false)) ⊎ IsFromOlder n s y
+
+-- the objects that are not of a generation above n, by identity
+abbrev pub young_one : ℕ → ℕ × Object Id → List ℕ
+young_one n e = cond (nat_lt n e.1.generation) [] (e.0 ∷ [])
+
+abbrev pub young_in : ℕ → ℕ × Bor (Object Id) → List ℕ
+young_in n e = young_one n (lent_entry e)
+
+abbrev pub young_ids : ℕ → FinMap nat_cmp (Object Id) → List ℕ
+young_ids n objects = flat_map (young_one n) (entries objects)
+
+-- what edges from an object of a generation above n lead to, where it is of none such
+abbrev pub edges_from : ℕ → FinMap nat_cmp (Object Id) → Attached → ℕ × Bor (Object Id) → List (Option Id)
+edges_from n objects a e =
+    cond (nat_lt n e.1.now.generation)
+    (map (young n objects) e.1.now.fields ++ map (young_at n objects) (secondaries a e.0)) []
+
 -- nothing is marked
 abbrev pub no_marks : Marked
 no_marks = record { marked = fin.empty; left = [] }
@@ -315,17 +377,18 @@ no_marks = record { marked = fin.empty; left = [] }
 abbrev pub IsRootId : ℕ → State → ℕ → Type 0
 IsRootId n s y = IsRoot (scene_of s) n (id_of y)
 
--- what is marked is what a collection of n reaches, and no edge of it is left to follow
+-- what is marked is what a collection of n reaches beside objects of generations above n, and no edge of it
+-- is left to follow
 pub record HasReached (n : ℕ) (s : State) (m : Marked) : Type 0 where
-  pub reached : (x : Id) → Decides (is_marked m x) (IsReached (scene_of s) n x)
-  pub awaits : Awaits (EdgeOf s) m
+  pub reached : (x : Id) → Decides (is_above n s.objects m x) (IsReached (scene_of s) n x)
+  pub awaits : Awaits (YoungEdge n s) m
   pub none_left : m.left ≡ []
 
 -- ---- what a collection goes over, and what its passes leave and count
 
--- all objects, and the slots of all handles and of the weak table
-pub record IsWalk (s : State) (w : Walk) : Type 0 where
-  pub ids : w.ids.items ≡ keys s.objects
+-- the objects of no generation above n, and the slots of all handles and of the weak table
+pub record IsWalk (n : ℕ) (s : State) (w : Walk) : Type 0 where
+  pub ids : w.ids.items ≡ young_ids n s.objects
   pub slots : w.slots.items ≡ keys s.handles
   pub entries : w.entries.items ≡ keys s.weak
   pub few_ids : length w.ids.items < 2 ^ 32
@@ -335,10 +398,10 @@ pub record IsWalk (s : State) (w : Walk) : Type 0 where
 -- state t is what the passes of a collection of n leave of state s, and these are what they count
 pub record HavePassed (n : ℕ) (w : Walk) (d : Decided) (s t : State) (c : Changes) : Type 0 where
   pub handles : cleared_to t.handles c.losses
-      ≡ pass (cleared_one (is_marked d.reached) (is_marked d.kept)) (cleared_to s.handles no_losses)
-      w.slots.items
+      ≡ pass (cleared_one (is_above n s.objects d.reached) (is_above n s.objects d.kept))
+      (cleared_to s.handles no_losses) w.slots.items
   pub entries : swept_to t.weak c.swept
-      ≡ pass (swept_one (is_marked d.kept)) (swept_to s.weak 0) w.entries.items
+      ≡ pass (swept_one (is_above n s.objects d.kept)) (swept_to s.weak 0) w.entries.items
   pub objects : settled_to t.objects t.queue c.fates
       ≡ pass (settled_one n (is_marked d.reached) (is_marked d.kept))
       (settled_to s.objects s.queue no_fates) w.ids.items

@@ -1,26 +1,28 @@
 // A collection: what is reached and what is kept is marked, and then handles, entries and objects
 // are changed, each in one pass. A machine that runs out of memory in between is dropped.
-ghost use Rattle.std.specs.Prelude.{◌≡◌, ℕ, ◌+◌, ◌<◌, ◌≤◌, ◌^◌, [], ◌∷◌, ◌++◌, cond, map, None, IfOk, Decides};
+ghost use Rattle.std.specs.Prelude.{◌≡◌, ℕ, ◌+◌, ◌<◌, ◌≤◌, ◌^◌, [], ◌∷◌, ◌++◌, cond, map, None, IfOk, Decides, flat_map};
 ghost use Rattle.std.specs.FinMap.{get};
 ghost use Rattle.hd_model.specs.declared.data.Id.{Id as Name};
 ghost use Rattle.hd_model.specs.declared.limits.TheConstants.{OLDEST};
 ghost use Rattle.hd_model.specs.{Collect.CollectsState, Collect.loses, PinnedAddresses.is_pinned};
 ghost use Rattle.hd_model.specs.{Reach.IsKept, Reach.IsReached, Scene.scene_of, WellFormed.IsWellFormed};
 ghost use Rattle.hd_plain.specs.Attaching.{ListsAttached};
-ghost use Rattle.hd_plain.specs.Inside.{Gains, HasReached, IsRootId};
-ghost use Rattle.hd_plain.specs.Inside.{is_marked, with_rows, with_targets, no_marks, older_at, pinned_at, resurrected_at, AreFew, HavePassed, IsWalk, report_of, cleared_one, cleared_to, counted, emptied, no_fates, no_losses, one_if, pass, settled_one, settled_to, swept_one, swept_to, wakes, without_one};
+ghost use Rattle.hd_plain.specs.Inside.{Gains, HasGenerations, HasReached, IsFromOlder, IsYoungRoot};
+ghost use Rattle.hd_plain.specs.Inside.{edges_from, is_above, is_seen, young, young_ids, young_in};
+ghost use Rattle.hd_plain.specs.Inside.{is_marked, with_rows, with_targets, no_marks, pinned_at, resurrected_at, AreFew, HavePassed, IsWalk, report_of, cleared_one, cleared_to, counted, emptied, no_fates, no_losses, one_if, pass, settled_one, settled_to, swept_one, swept_to, wakes, without_one};
 ghost use Rattle.hd_maps.specs.StoredObjects.{IsYoungest};
 ghost use Rattle.hd_model.specs.Handles.{handle_of, role_as};
 
 use crate::machine::Machine;
-use crate::marks::{Attached, Marks, mark_anchors};
+use crate::marks::{Attached, Marks, Sight, mark_anchors};
 use hd_maps::{Edit, Handle, Object, Objects, PinnedAddresses, Table, Weak, raised};
+use hd_model::limits::OLDEST;
 use hd_model::{Extra, Id, Memory, Report, Role};
 use std::alloc::Global;
 use std::collections::VecDeque;
 
-// What a collection goes over: the identities of objects, the slots that have handles, and those
-// that the weak table holds, each rising.
+// What a collection of n goes over: the identities of objects of no generation above n, the slots
+// that have handles, and those that the weak table holds, each rising.
 #[derive(Drop)]
 struct Walk {
     ids: Vec<u64>,
@@ -28,7 +30,7 @@ struct Walk {
     entries: Vec<u64>,
 }
 
-// What is reached, and what is kept.
+// What is reached, and what is kept, beside all objects of generations above n.
 #[derive(Drop)]
 struct Decided {
     reached: Marks,
@@ -136,7 +138,7 @@ impl Machine {
             self.forget()?;
             return Ok(NOTHING);
         }
-        let walk = self.walk()?;
+        let walk = self.walk(n)?;
         let decided = self.decide(n, &walk)?;
         self.forget()?;
         let changes = self.change(n, &walk, &decided)?;
@@ -160,14 +162,14 @@ impl Machine {
     }
 
     // What there is to go over.
-    fn walk(&self) -> Result<Walk, Memory>
+    fn walk(&self, n: u8) -> Result<Walk, Memory>
         requires { IsWellFormed self.now.numbers self.now.state }
-        ensures { IfOk result (IsWalk self.now.state) }
+        ensures { IfOk result (IsWalk n self.now.state) }
     {
         // For the proof: each object takes some of the cells, and there are few blocks.
         let _used = self.objects.used();
         let _blocks = self.table.blocks();
-        let ids = self.objects.ids(self.alloc)?;
+        let ids = young_ids(self.alloc, &self.objects, n)?;
         let slots = self.table.slots(self.alloc)?;
         let entries = self.weak.slots(self.alloc)?;
         Ok(Walk {
@@ -180,11 +182,13 @@ impl Machine {
     // What a collection of n reaches and keeps.
     fn decide(&self, n: u8, walk: &Walk) -> Result<Decided, Memory>
         requires formed { IsWellFormed self.now.numbers self.now.state }
-        requires walk { IsWalk self.now.state walk.now }
+        requires walk { IsWalk n self.now.state walk.now }
         ensures reached { IfOk result (λ d. (x : Name)
-            → Decides (is_marked d.reached x) (IsReached (scene_of self.now.state) n x)) }
+            → Decides (is_above n self.now.state.objects d.reached x)
+            (IsReached (scene_of self.now.state) n x)) }
         ensures kept { IfOk result (λ d. (x : Name)
-            → Decides (is_marked d.kept x) (IsKept (scene_of self.now.state) n x)) }
+            → Decides (is_above n self.now.state.objects d.kept x)
+            (IsKept (scene_of self.now.state) n x)) }
     {
         let mut reached = Marks::open(self.alloc);
         let attached = self.mark_reached(n, walk, &mut reached)?;
@@ -196,13 +200,13 @@ impl Machine {
     #[inline(always)]
     fn mark_reached(&self, n: u8, walk: &Walk, reached: &mut Marks) -> Result<Attached, Memory>
         requires formed { IsWellFormed self.now.numbers self.now.state }
-        requires walk { IsWalk self.now.state walk.now }
+        requires walk { IsWalk n self.now.state walk.now }
         requires none { reached.old ≡ no_marks }
         ensures reached { IfOk result (λ _. HasReached n self.now.state reached.new) }
         ensures listed { IfOk result (ListsAttached self.now.state) }
     {
         let attached = self.mark_roots(n, walk, reached)?;
-        reached.close(self, &attached)?;
+        reached.close(self, n, &attached)?;
         Ok(attached)
     }
 
@@ -210,13 +214,15 @@ impl Machine {
     #[inline(always)]
     fn mark_roots(&self, n: u8, walk: &Walk, marks: &mut Marks) -> Result<Attached, Memory>
         requires formed { IsWellFormed self.now.numbers self.now.state }
-        requires walk { IsWalk self.now.state walk.now }
-        ensures gains { IfOk result (λ _. Gains (IsRootId n self.now.state) marks.old marks.new) }
+        requires walk { IsWalk n self.now.state walk.now }
+        ensures gains { IfOk result (λ _.
+            Gains (IsYoungRoot n self.now.state) marks.old marks.new) }
         ensures listed { IfOk result (ListsAttached self.now.state) }
     {
-        self.mark_registers(marks)?;
-        self.mark_older(n, &walk.ids, marks)?;
-        mark_anchors(self, &walk.slots, &walk.entries, marks)
+        self.mark_registers(n, marks)?;
+        let attached = mark_anchors(self, n, &walk.slots, &walk.entries, marks)?;
+        self.mark_from_older(n, &attached, marks)?;
+        Ok(attached)
     }
 
     // What a collection of n keeps: what it reaches, and what is resurrected.
@@ -228,26 +234,33 @@ impl Machine {
         reached: &Marks,
         attached: &Attached,
     ) -> Result<Marks, Memory>
-        requires walk { IsWalk self.now.state walk.now }
+        requires formed { IsWellFormed self.now.numbers self.now.state }
+        requires walk { IsWalk n self.now.state walk.now }
         requires reached { HasReached n self.now.state reached.now }
         requires listed { ListsAttached self.now.state attached.now }
         ensures { IfOk result (λ kept. (x : Name)
-            → Decides (is_marked kept x) (IsKept (scene_of self.now.state) n x)) }
+            → Decides (is_above n self.now.state.objects kept x)
+            (IsKept (scene_of self.now.state) n x)) }
     {
         let mut kept = reached.copy(self.alloc)?;
         self.mark_resurrected(n, &walk.ids, reached, &mut kept)?;
-        kept.close(self, attached)?;
+        kept.close(self, n, attached)?;
         Ok(kept)
     }
 
     // Changes handles, entries and objects, each in one pass.
     fn change(&mut self, n: u8, walk: &Walk, decided: &Decided) -> Result<Changes, Memory>
+        requires { HasGenerations self.old.state.objects }
         ensures passes { IfOk result (HavePassed n walk.now decided.now self.old.state
             self.new.state) }
         ensures numbers { IfOk result (λ _. self.new.numbers ≡ self.old.numbers) }
     {
-        let losses = clear_handles(&mut self.table, &walk.slots, decided);
-        let swept = sweep(&mut self.weak, &walk.entries, &decided.kept)?;
+        let sight = Sight {
+            objects: &self.objects,
+            n,
+        };
+        let losses = clear_handles(&mut self.table, &walk.slots, &sight, decided);
+        let swept = sweep(&mut self.weak, &walk.entries, &sight, &decided.kept)?;
         let fates = settle(&mut self.objects, &mut self.queue, n, &walk.ids, decided)?;
         Ok(Changes {
             losses,
@@ -256,41 +269,38 @@ impl Machine {
         })
     }
 
-    // Marks what object registers reference.
-    fn mark_registers(&self, marks: &mut Marks) -> Result<(), Memory>
-        ensures { IfOk result (λ _. marks.new ≡ with_rows marks.old self.now.state.registers) }
+    // Marks what object registers reference and is of no generation above n.
+    fn mark_registers(&self, n: u8, marks: &mut Marks) -> Result<(), Memory>
+        requires { HasGenerations self.now.state.objects }
+        ensures { let those = map (map (young n self.now.state.objects)) self.now.state.registers in
+            IfOk result (λ _. marks.new ≡ with_rows marks.old those) }
     {
+        let sight = Sight {
+            objects: &self.objects,
+            n,
+        };
         for row in &self.registers {
-            marks.mark_all(row)?;
+            marks.mark_young(&sight, row)?;
         }
         Ok(())
     }
 
-    // Marks the objects of generations above n.
-    fn mark_older(&self, n: u8, ids: &[u64], marks: &mut Marks) -> Result<(), Memory>
-        ensures { let older = map (older_at self.now.state.objects n) ids.now in
-            IfOk result (λ _. marks.new ≡ with_targets marks.old older) }
+    // Marks what edges lead to from objects of generations above n and is of none such.
+    fn mark_from_older(&self, n: u8, attached: &Attached, marks: &mut Marks) -> Result<(), Memory>
+        requires formed { IsWellFormed self.now.numbers self.now.state }
+        requires listed { ListsAttached self.now.state attached.now }
+        ensures { IfOk result (λ _. Gains (IsFromOlder n self.now.state) marks.old marks.new) }
     {
-        for id in ids {
-            marks.mark_some(self.older_at(n, *id))?;
+        // None is of a generation above the oldest.
+        if n >= OLDEST {
+            return Ok(());
         }
-        Ok(())
-    }
-
-    // An object, where it is of a generation above n.
-    fn older_at(&self, n: u8, id: u64) -> Option<Id>
-        ensures { result ≡ older_at self.now.state.objects n id }
-    {
-        match self.objects.get(id) {
-            Some(object) => {
-                if object.generation > n {
-                    Some(Id(id))
-                } else {
-                    None
-                }
-            }
-            None => None,
-        }
+        let entries = self.objects.entries(self.alloc)?;
+        let sight = Sight {
+            objects: &self.objects,
+            n,
+        };
+        mark_from_all(&sight, &entries, attached, marks)
     }
 
     // Marks the objects that are to be resurrected.
@@ -346,6 +356,77 @@ impl Machine {
     }
 }
 
+// The objects of no generation above n, by identity.
+fn young_ids(alloc: Global, objects: &Objects, n: u8) -> Result<Vec<u64>, Memory>
+    ensures { IfOk result (λ ids. ids.items ≡ young_ids n objects.now) }
+{
+    let entries = objects.entries(alloc)?;
+    let mut ids = Vec::new(alloc);
+    push_all_young(&entries, n, &mut ids)?;
+    Ok(ids)
+}
+
+// Appends the objects of a list that are of no generation above n.
+fn push_all_young(entries: &[(u64, &Object)], n: u8, ids: &mut Vec<u64>) -> Result<(), Memory>
+    ensures { IfOk result (λ _. ids.new.items
+        ≡ ids.old.items ++ flat_map (young_in n) entries.now) }
+{
+    for entry in entries {
+        push_young(entry, n, ids)?;
+    }
+    Ok(())
+}
+
+// Appends an object, where it is of no generation above n.
+fn push_young(entry: &(u64, &Object), n: u8, ids: &mut Vec<u64>) -> Result<(), Memory>
+    ensures { IfOk result (λ _. ids.new.items ≡ ids.old.items ++ young_in n entry.now) }
+{
+    let (id, object) = *entry;
+    if object.generation > n {
+        return Ok(());
+    }
+    match ids.push(id) {
+        Ok(_) => Ok(()),
+        Err(_) => Err(Memory),
+    }
+}
+
+// Marks what edges lead to from objects of a list that are of generations above n.
+fn mark_from_all(
+    sight: &Sight<'_>,
+    entries: &[(u64, &Object)],
+    attached: &Attached,
+    marks: &mut Marks,
+) -> Result<(), Memory>
+    requires { HasGenerations sight.now.objects.now }
+    ensures { let rows = map (edges_from sight.now.n sight.now.objects.now attached.now) entries.now in
+        IfOk result (λ _. marks.new ≡ with_rows marks.old rows) }
+{
+    for entry in entries {
+        mark_from(sight, entry, attached, marks)?;
+    }
+    Ok(())
+}
+
+// Marks what edges lead to from an object that is of a generation above n.
+fn mark_from(
+    sight: &Sight<'_>,
+    entry: &(u64, &Object),
+    attached: &Attached,
+    marks: &mut Marks,
+) -> Result<(), Memory>
+    requires { HasGenerations sight.now.objects.now }
+    ensures { let row = edges_from sight.now.n sight.now.objects.now attached.now entry.now in
+        IfOk result (λ _. marks.new ≡ with_targets marks.old row) }
+{
+    let (id, object) = *entry;
+    if object.generation <= sight.n {
+        return Ok(());
+    }
+    marks.mark_young(sight, &object.fields)?;
+    marks.mark_secondaries(sight, attached, id)
+}
+
 // What handles pin.
 fn pinned(alloc: Global, table: &Table, slots: &[u64]) -> Result<Marks, Memory>
     ensures { IfOk result (λ marks. marks
@@ -387,31 +468,39 @@ fn unpin_one(addresses: &mut PinnedAddresses, id: u64, pinned: &Marks)
 }
 
 // Empties the handles that lose their targets.
-fn clear_handles(table: &mut Table, slots: &[u64], decided: &Decided) -> Losses
+fn clear_handles(table: &mut Table, slots: &[u64], sight: &Sight<'_>, decided: &Decided) -> Losses
+    requires { HasGenerations sight.now.objects.now }
     ensures each { cleared_to table.new.handles result
-        ≡ pass (cleared_one (is_marked decided.now.reached) (is_marked decided.now.kept))
+        ≡ pass (cleared_one (is_seen sight.now decided.now.reached) (is_seen sight.now decided.now.kept))
         (cleared_to table.old.handles no_losses) slots.now }
     ensures rest { table.new ≡ record table.old { handles = table.new.handles } }
 {
     let mut losses = NO_LOSSES;
     for slot in slots {
-        losses = clear_one(table, *slot, decided, losses);
+        losses = clear_one(table, *slot, sight, decided, losses);
     }
     losses
 }
 
 // Empties the handle in a slot where it loses its target.
-fn clear_one(table: &mut Table, slot: u64, decided: &Decided, losses: Losses) -> Losses
-    requires { (losses.short < 2 ^ 63) × (losses.long < 2 ^ 63) × (losses.dep < 2 ^ 63) }
+fn clear_one(
+    table: &mut Table,
+    slot: u64,
+    sight: &Sight<'_>,
+    decided: &Decided,
+    losses: Losses,
+) -> Losses
+    requires few { (losses.short < 2 ^ 63) × (losses.long < 2 ^ 63) × (losses.dep < 2 ^ 63) }
+    requires generations { HasGenerations sight.now.objects.now }
     ensures each { cleared_to table.new.handles result
-        ≡ cleared_one (is_marked decided.now.reached) (is_marked decided.now.kept)
+        ≡ cleared_one (is_seen sight.now decided.now.reached) (is_seen sight.now decided.now.kept)
         (cleared_to table.old.handles losses) slot }
     ensures rest { table.new ≡ record table.old { handles = table.new.handles } }
 {
     let Some(handle) = table.handle(slot) else {
         return losses;
     };
-    if !loses(handle, decided) {
+    if !loses(handle, sight, decided) {
         return losses;
     }
     table.replace(slot, emptied(handle));
@@ -419,14 +508,15 @@ fn clear_one(table: &mut Table, slot: u64, decided: &Decided, losses: Losses) ->
 }
 
 // Whether a handle loses its target.
-fn loses(handle: Handle, decided: &Decided) -> bool
-    ensures { result ≡ loses (is_marked decided.now.reached) (is_marked decided.now.kept)
+fn loses(handle: Handle, sight: &Sight<'_>, decided: &Decided) -> bool
+    requires { HasGenerations sight.now.objects.now }
+    ensures { result ≡ loses (is_seen sight.now decided.now.reached) (is_seen sight.now decided.now.kept)
         (handle_of handle) }
 {
     match handle.role() {
         Role::Holds => false,
-        Role::Short => decided.reached.lacks(handle.target),
-        Role::Long | Role::Attaches => decided.kept.lacks(handle.target),
+        Role::Short => sight.lacks(&decided.reached, handle.target),
+        Role::Long | Role::Attaches => sight.lacks(&decided.kept, handle.target),
     }
 }
 
@@ -449,28 +539,36 @@ fn emptied(handle: Handle) -> Handle
 }
 
 // Takes out the entries whose keys are not kept, and returns how many.
-fn sweep(weak: &mut Weak, slots: &[u64], kept: &Marks) -> Result<usize, Memory>
+fn sweep(weak: &mut Weak, slots: &[u64], sight: &Sight<'_>, kept: &Marks) -> Result<usize, Memory>
+    requires { HasGenerations sight.now.objects.now }
     ensures { IfOk result (λ count. swept_to weak.new count
-        ≡ pass (swept_one (is_marked kept.now)) (swept_to weak.old 0) slots.now) }
+        ≡ pass (swept_one (is_seen sight.now kept.now)) (swept_to weak.old 0) slots.now) }
 {
     let mut count = 0;
     for slot in slots {
-        let more = sweep_one(weak, *slot, kept, count)?;
+        let more = sweep_one(weak, *slot, sight, kept, count)?;
         count = more;
     }
     Ok(count)
 }
 
 // Takes the entry out of a slot where its key is not kept, and counts it.
-fn sweep_one(weak: &mut Weak, slot: u64, kept: &Marks, count: usize) -> Result<usize, Memory>
-    requires { count < 2 ^ 63 }
+fn sweep_one(
+    weak: &mut Weak,
+    slot: u64,
+    sight: &Sight<'_>,
+    kept: &Marks,
+    count: usize,
+) -> Result<usize, Memory>
+    requires few { count < 2 ^ 63 }
+    requires generations { HasGenerations sight.now.objects.now }
     ensures { IfOk result (λ more. swept_to weak.new more
-        ≡ swept_one (is_marked kept.now) (swept_to weak.old count) slot) }
+        ≡ swept_one (is_seen sight.now kept.now) (swept_to weak.old count) slot) }
 {
     let Some(entry) = weak.entry(slot) else {
         return Ok(count);
     };
-    if kept.has(entry.key.0) {
+    if sight.has(kept, entry.key) {
         return Ok(count);
     }
     weak.clear(slot, entry.key)?;

@@ -14,8 +14,8 @@ use hd_maps::{Handle, Object, Weak};
 use hd_model::{Id, Memory, Role};
 use std::collections::VecDeque;
 
-// How many levels are looked at. Each is a pass over objects and handles, so a long chain is left to
-// the walk from all anchors.
+// How many levels are looked at. Each is a pass over objects and handles, so a long chain is left
+// to the walk from all anchors.
 const LEVELS: u64 = 3;
 
 /// Where a chain to an object begins, and its number of edges.

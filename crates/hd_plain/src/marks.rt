@@ -3,14 +3,15 @@
 ghost use Rattle.std.specs.Prelude.{◌≡◌, ℕ, map, option_map, unwrap_or, IfOk, MatchOption, ◌<◌, ◌^◌, [], ◌∷◌, ◌++◌};
 ghost use Rattle.std.specs.FinMap as map;
 ghost use Rattle.std.specs.FinMap.{get};
-ghost use Rattle.hd_model.specs.{Anchors.EdgeOf, Collect.is_lost, Scene.fields_in, WellFormed.IsWellFormed};
-ghost use Rattle.hd_plain.specs.Inside.{IsAnchorId, referenced, Adds, pair_in, pair_of, pairs_in, attaching_at, held_at, held_by, Gains, is_marked, with_mark, with_target, with_marks, with_targets, Awaits, Closes};
+ghost use Rattle.hd_model.specs.{Collect.is_lost, Scene.fields_in, WellFormed.IsWellFormed};
+ghost use Rattle.hd_plain.specs.Inside.{HasGenerations, IsYoungAnchor, YoungEdge, is_older, is_seen, young, young_at, young_held, referenced, Adds, pair_in, pair_of, pairs_in, attaching_at, held_by, Gains, is_marked, with_mark, with_target, with_targets, Awaits, Closes};
 ghost use Rattle.hd_model.specs.Handles.{handle_of};
 ghost use Rattle.hd_maps.specs.NextKeys.{IsLeastFrom};
 ghost use Rattle.hd_plain.specs.Attaching.{ListsAttached, secondaries};
 
 use crate::machine::Machine;
-use hd_maps::{Handle, Numbered, Table, Weak, copied};
+use hd_maps::{Handle, Numbered, Objects, Table, Weak, copied};
+use hd_model::limits::OLDEST;
 use hd_model::{Id, Memory, Role};
 use std::alloc::Global;
 use std::collections::VecDeque;
@@ -145,16 +146,6 @@ impl Marks {
         self.marked.has(id)
     }
 
-    /// Whether a target is not marked; null is not.
-    pub(crate) fn lacks(&self, target: Option<Id>) -> bool
-        ensures { result ≡ is_lost (is_marked self.now) target }
-    {
-        match target {
-            Some(id) => !self.has(id.0),
-            None => false,
-        }
-    }
-
     /// The least object that is marked.
     pub(crate) fn least(&self) -> Option<u64>
         ensures { IsLeastFrom self.now.marked 0 result }
@@ -186,15 +177,26 @@ impl Marks {
         }
     }
 
-    /// Follows edges until no marked object has one to an object that is not.
-    pub(crate) fn close(&mut self, machine: &Machine, attached: &Attached) -> Result<(), Memory>
+    /// Follows edges to objects of no generation above n until no marked object has one to such an
+    /// object that is not marked.
+    pub(crate) fn close(
+        &mut self,
+        machine: &Machine,
+        n: u8,
+        attached: &Attached,
+    ) -> Result<(), Memory>
+        requires generations { HasGenerations machine.now.state.objects }
         requires attached { ListsAttached machine.now.state attached.now }
-        requires awaits { Awaits (EdgeOf machine.now.state) self.old }
-        ensures { IfOk result (λ _. Closes (EdgeOf machine.now.state) self.old self.new) }
+        requires awaits { Awaits (YoungEdge n machine.now.state) self.old }
+        ensures { IfOk result (λ _. Closes (YoungEdge n machine.now.state) self.old self.new) }
     {
+        let sight = Sight {
+            objects: &machine.objects,
+            n,
+        };
         'objects: while let Some(id) = self.take() {
-            self.mark_fields(machine, id)?;
-            self.mark_secondaries(attached, id)?;
+            self.mark_fields(&sight, id)?;
+            self.mark_secondaries(&sight, attached, id)?;
         }
         Ok(())
     }
@@ -211,25 +213,34 @@ impl Marks {
     }
 
     // Marks what the fields of an object reference.
-    fn mark_fields(&mut self, machine: &Machine, id: u64) -> Result<(), Memory>
-        ensures { let fields = fields_in (map.get machine.now.state.objects id) in
+    fn mark_fields(&mut self, sight: &Sight<'_>, id: u64) -> Result<(), Memory>
+        requires { HasGenerations sight.now.objects.now }
+        ensures { let objects = sight.now.objects.now in
+            let fields = map (young sight.now.n objects) (fields_in (map.get objects id)) in
             IfOk result (λ _. self.new ≡ with_targets self.old fields) }
     {
-        match machine.objects.get(id) {
-            Some(object) => self.mark_all(&object.fields),
+        match sight.objects.get(id) {
+            Some(object) => self.mark_young(sight, &object.fields),
             None => Ok(()),
         }
     }
 
-    // Marks what is attached to an object.
-    fn mark_secondaries(&mut self, attached: &Attached, id: u64) -> Result<(), Memory>
-        ensures { IfOk result (λ _. self.new ≡ with_marks self.old (secondaries attached.now id)) }
+    /// Marks what is attached to an object.
+    pub(crate) fn mark_secondaries(
+        &mut self,
+        sight: &Sight<'_>,
+        attached: &Attached,
+        id: u64,
+    ) -> Result<(), Memory>
+        requires { HasGenerations sight.now.objects.now }
+        ensures { let those = map (young_at sight.now.n sight.now.objects.now) (secondaries attached.now id) in
+            IfOk result (λ _. self.new ≡ with_targets self.old those) }
     {
         let Some(list) = attached.list(id) else {
             return Ok(());
         };
         for secondary in list {
-            self.mark(*secondary)?;
+            self.mark_some(sight.young(Some(Id(*secondary))))?;
         }
         Ok(())
     }
@@ -252,24 +263,86 @@ impl Marks {
         })
     }
 
-    /// Marks all that are referenced.
-    pub(crate) fn mark_all(&mut self, targets: &[Option<Id>]) -> Result<(), Memory>
-        ensures { IfOk result (λ _. self.new ≡ with_targets self.old targets.now) }
+    /// Marks all that are referenced and of no generation above n.
+    pub(crate) fn mark_young(
+        &mut self,
+        sight: &Sight<'_>,
+        targets: &[Option<Id>],
+    ) -> Result<(), Memory>
+        requires { HasGenerations sight.now.objects.now }
+        ensures { let those = map (young sight.now.n sight.now.objects.now) targets.now in
+            IfOk result (λ _. self.new ≡ with_targets self.old those) }
     {
         for target in targets {
-            self.mark_some(*target)?;
+            self.mark_some(sight.young(*target))?;
         }
         Ok(())
     }
 
-    // Marks what is queued.
-    fn mark_queue(&mut self, queue: &VecDeque<Id>) -> Result<(), Memory>
-        ensures { IfOk result (λ _. self.new ≡ with_targets self.old (referenced queue.now.items)) }
+    // Marks what is queued and of no generation above n.
+    fn mark_queue(&mut self, sight: &Sight<'_>, queue: &VecDeque<Id>) -> Result<(), Memory>
+        requires { HasGenerations sight.now.objects.now }
+        ensures { let those = map (young sight.now.n sight.now.objects.now) (referenced queue.now.items) in
+            IfOk result (λ _. self.new ≡ with_targets self.old those) }
     {
         for id in queue {
-            self.mark(id.0)?;
+            self.mark_some(sight.young(Some(*id)))?;
         }
         Ok(())
+    }
+}
+
+/// The objects, and a generation above which they need no mark.
+#[derive(Clone, Copy)]
+pub(crate) struct Sight<'a> {
+    pub(crate) objects: &'a Objects,
+    pub(crate) n: u8,
+}
+
+impl<'a> Sight<'a> {
+    /// Whether an object is of a generation above n.
+    pub(crate) fn is_older(&self, id: u64) -> bool
+        requires { HasGenerations self.now.objects.now }
+        ensures { result ≡ is_older self.now.n self.now.objects.now (record { 0 = id }) }
+    {
+        // None is of a generation above the oldest, so nothing is looked up there.
+        if self.n >= OLDEST {
+            return false;
+        }
+        match self.objects.get(id) {
+            Some(object) => object.generation > self.n,
+            None => false,
+        }
+    }
+
+    /// What is referenced, where it is of no generation above n.
+    pub(crate) fn young(&self, target: Option<Id>) -> Option<Id>
+        requires { HasGenerations self.now.objects.now }
+        ensures { result ≡ young self.now.n self.now.objects.now target }
+    {
+        match target {
+            Some(id) => { if self.is_older(id.0) { None } else { target } }
+            None => None,
+        }
+    }
+
+    /// Whether an object is of a generation above n, or marked.
+    pub(crate) fn has(&self, marks: &Marks, id: Id) -> bool
+        requires { HasGenerations self.now.objects.now }
+        ensures { result ≡ is_seen self.now marks.now id }
+    {
+        self.is_older(id.0) || marks.has(id.0)
+    }
+
+    /// Whether a target is neither; null is neither.
+    pub(crate) fn lacks(&self, marks: &Marks, target: Option<Id>) -> bool
+        requires { HasGenerations self.now.objects.now }
+        ensures { result ≡ is_lost (is_seen self.now marks.now) target }
+    {
+        match target {
+            Some(id) => !self.has(marks, id),
+            None => false,
+        }
     }
 }
 
@@ -283,16 +356,18 @@ pub(crate) fn held_by(handle: Handle) -> Option<Id>
     }
 }
 
-// Marks what the handle in a slot holds, or adds what it attaches.
+// Marks what the handle in a slot holds and is of no generation above n, or adds what it attaches.
 fn note_handle(
     alloc: Global,
     table: &Table,
+    sight: &Sight<'_>,
     slot: u64,
     marks: &mut Marks,
     attached: &mut Attached,
 ) -> Result<(), Memory>
-    ensures held { IfOk result (λ _. marks.new
-        ≡ with_target marks.old (held_by (get table.now.handles slot))) }
+    requires { HasGenerations sight.now.objects.now }
+    ensures held { let at = young_held sight.now.n sight.now.objects.now table.now.handles in
+        IfOk result (λ _. marks.new ≡ with_target marks.old (at slot)) }
     ensures pairs { IfOk result (λ _.
         Adds attached.old attached.new (pair_in (get table.now.handles slot))) }
 {
@@ -300,35 +375,38 @@ fn note_handle(
         return Ok(());
     };
     match handle.role() {
-        Role::Holds => marks.mark_some(handle.target),
+        Role::Holds => marks.mark_some(sight.young(handle.target)),
         Role::Attaches => attached.add(alloc, handle.target, handle.secondary()),
         Role::Short | Role::Long => Ok(()),
     }
 }
 
-// Marks what the handles in slots hold, and adds what they attach.
+// Marks what the handles in slots hold and is of no generation above n, and adds what they attach.
 fn note_handles(
     alloc: Global,
     table: &Table,
+    sight: &Sight<'_>,
     slots: &[u64],
     marks: &mut Marks,
     attached: &mut Attached,
 ) -> Result<(), Memory>
-    ensures held { IfOk result (λ _. marks.new
-        ≡ with_targets marks.old (map (held_at table.now.handles) slots.now)) }
+    requires { HasGenerations sight.now.objects.now }
+    ensures held { let at = young_held sight.now.n sight.now.objects.now table.now.handles in
+        IfOk result (λ _. marks.new ≡ with_targets marks.old (map at slots.now)) }
     ensures pairs { IfOk result (λ _.
         Adds attached.old attached.new (pairs_in (map (get table.now.handles) slots.now))) }
 {
     for slot in slots {
-        note_handle(alloc, table, *slot, marks, attached)?;
+        note_handle(alloc, table, sight, *slot, marks, attached)?;
     }
     Ok(())
 }
 
-/// Marks what statics reference, what is queued, and what handles hold, and returns what is
-/// attached. Each handle is read once.
+/// Marks what statics reference, what is queued, and what handles hold, where it is of no generation
+/// above n, and returns what is attached. Each handle is read once.
 pub(crate) fn mark_anchors(
     machine: &Machine,
+    n: u8,
     slots: &[u64],
     entries: &[u64],
     marks: &mut Marks,
@@ -336,14 +414,19 @@ pub(crate) fn mark_anchors(
     requires formed { IsWellFormed machine.now.numbers machine.now.state }
     requires slots { slots.now ≡ map.keys machine.now.state.handles }
     requires entries { entries.now ≡ map.keys machine.now.state.weak }
-    ensures gains { IfOk result (λ _. Gains (IsAnchorId machine.now.state) marks.old marks.new) }
+    ensures gains { IfOk result (λ _.
+        Gains (IsYoungAnchor n machine.now.state) marks.old marks.new) }
     ensures listed { IfOk result (ListsAttached machine.now.state) }
 {
     let alloc = machine.alloc;
+    let sight = Sight {
+        objects: &machine.objects,
+        n,
+    };
     let mut attached = Attached::none(alloc);
-    marks.mark_all(&machine.statics)?;
-    marks.mark_queue(&machine.queue)?;
-    note_handles(alloc, &machine.table, slots, marks, &mut attached)?;
+    marks.mark_young(&sight, &machine.statics)?;
+    marks.mark_queue(&sight, &machine.queue)?;
+    note_handles(alloc, &machine.table, &sight, slots, marks, &mut attached)?;
     attached.add_slots(alloc, &machine.weak, entries)?;
     Ok(attached)
 }

@@ -20,7 +20,7 @@ use crate::machine::Machine;
 use crate::marks::{Attached, Marks, held_by, mark_anchors};
 use hd_commands::{Done, Parts};
 use hd_maps::Handle;
-use hd_model::limits::REGISTERS;
+use hd_model::limits::{OLDEST, REGISTERS};
 use hd_model::{Id, Memory, Refusal, Reply};
 use hd_walk::{Edges, Trail, read_back, walk};
 use std::alloc::{AllocError, Global};
@@ -245,7 +245,7 @@ fn mark_all_anchors(machine: &Machine, marks: &mut Marks) -> Result<Attached, Me
 {
     let slots = machine.table.slots(machine.alloc)?;
     let entries = machine.weak.slots(machine.alloc)?;
-    mark_anchors(machine, &slots, &entries, marks)
+    mark_anchors(machine, OLDEST, &slots, &entries, marks)
 }
 
 impl Machine {

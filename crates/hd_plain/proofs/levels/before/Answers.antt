@@ -15,10 +15,12 @@ returns c =
     let s = (judge_of c.machine.inside).state in
     let set = is_marked c.args.set.now in
     let found = c.mark_keys.new.marks in
-    subst (λ (j : MachineView). (x : Id) → Decides (is_marked found x) (LeadsTo j.state set x)) c.machine.view_is
+    subst (λ (j : MachineView). (x : Id) → Decides (is_marked found x) (LeadsTo j.state set x))
+    c.machine.view_is
     (leads_found s c.args.handles.now
     (c.requires.handles ∙ ap (λ (j : MachineView). values j.state.handles) (sym c.machine.view_is)) set
-    c.in_ok-objects.objects.items c.in_ok-objects.ensures c.in_ok-entries.entries.items c.in_ok-entries.ensures
+    c.in_ok-objects.objects.items c.in_ok-objects.ensures c.in_ok-entries.entries.items
+    c.in_ok-entries.ensures
     (subst (λ (j : MachineView). (k : ℕ) → IsSome (get j.state.weak k) → get j.state.handles k ≡ None)
     (sym c.machine.view_is) c.requires.formed.weak.apart)
     c.open-found.result c.mark_holders.new.marks c.mark_targets.new.marks found c.open-found.ensures

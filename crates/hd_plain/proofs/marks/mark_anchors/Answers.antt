@@ -1,6 +1,6 @@
 use Rattle.std.proofs.Common.{IsSome, None, ap, map, subst, sym, ◌∙◌, ◌≡◌, ℕ}
 use Rattle.std.specs.FinMap.{get, keys}
-use Rattle.hd_plain.specs.Inside.{IsAnchorId, pairs_in, Gains, attaching_at}
+use Rattle.hd_plain.specs.Inside.{HasGenerations, IsYoungAnchor, pairs_in, Gains, attaching_at}
 use Rattle.hd_plain.specs.Attaching.{ListsAttached}
 use Rattle.hd_plain.specs.MachineViews.{MachineView}
 use Rattle.hd_plain.specs.Parts.{judge_of}
@@ -9,15 +9,31 @@ use Rattle.hd_plain.proofs.AttachedLists.{adds_then, from_none, lists_attached}
 use Rattle.hd_maps.proofs.ListBuilds.{keys_listed}
 use Rattle.hd_plain.proofs.marks.mark_anchors.Goals as goal
 
+pub mark_young-requires : goal.mark_young-requires
+mark_young-requires c =
+    subst (λ (j : MachineView). HasGenerations j.state.objects) (sym c.machine.view_is)
+    c.requires.formed.objects.generations
+
+pub mark_queue-requires : goal.mark_queue-requires
+mark_queue-requires c =
+    subst (λ (j : MachineView). HasGenerations j.state.objects) (sym c.machine.view_is)
+    c.requires.formed.objects.generations
+
+pub note_handles-requires : goal.note_handles-requires
+note_handles-requires c =
+    subst (λ (j : MachineView). HasGenerations j.state.objects) (sym c.machine.view_is)
+    c.requires.formed.objects.generations
+
 pub returns-clause-gains : goal.returns-clause-gains
 returns-clause-gains c =
-    subst (λ (j : MachineView). Gains (IsAnchorId j.state) c.args.marks.now c.note_handles.new.marks)
+    let s = (judge_of c.machine.inside).state in
+    subst (λ (j : MachineView). Gains (IsYoungAnchor c.args.n j.state) c.args.marks.now c.note_handles.new.marks)
     c.machine.view_is
-    (gains_anchors (judge_of c.machine.inside).state c.args.slots.now
-    (keys_listed (judge_of c.machine.inside).state.handles c.args.slots.now
-    (c.requires.slots ∙ ap (λ (j : MachineView). keys j.state.handles) (sym c.machine.view_is)))
-    c.args.marks.now c.mark_all.new.self c.mark_queue.new.self c.note_handles.new.marks
-    c.in_ok-mark_all.ensures c.in_ok-mark_queue.ensures c.in_ok-note_handles.ensures.held)
+    (gains_anchors s c.args.slots.now
+    (keys_listed s.handles c.args.slots.now
+    (c.requires.slots ∙ ap (λ (j : MachineView). keys j.state.handles) (sym c.machine.view_is))) c.args.n
+    c.args.marks.now c.mark_young.new.self c.mark_queue.new.self c.note_handles.new.marks
+    c.in_ok-mark_young.ensures c.in_ok-mark_queue.ensures c.in_ok-note_handles.ensures.held)
 
 pub returns-clause-listed : goal.returns-clause-listed
 returns-clause-listed c =

@@ -18,7 +18,8 @@ returns-then-is_held-clause-shortest c =
     let (slot, at) = row_stored s c.in_ok-handles.handles.items
     (c.in_ok-handles.ensures ∙ ap (λ (j : MachineView). values j.state.handles) c.machine.view_is) h
     (subst (λ (hs : List Row). Contains hs h) c.deref.ensures.value has.0) in
-    anchor_first (EdgeOf s) (AnchorOf s) c.args.goal (by_handle (is_held s slot c.args.goal (ap held_by at ∙ has.1)))
+    anchor_first (EdgeOf s) (AnchorOf s) c.args.goal
+    (by_handle (is_held s slot c.args.goal (ap held_by at ∙ has.1)))
 
 pub near-requires-clause-handles : goal.near-requires-clause-handles
 near-requires-clause-handles c =

@@ -1,5 +1,6 @@
 use Rattle.std.proofs.Common.{ap, subst, sym}
 use Rattle.hd_maps.specs.StoredObjects.{IsYoungest}
+use Rattle.hd_plain.specs.Inside.{HasGenerations}
 use Rattle.hd_plain.specs.MachineViews.{MachineView}
 use Rattle.hd_model.specs.Collect.{CollectsState}
 use Rattle.hd_plain.proofs.IdleState.{idle}
@@ -39,3 +40,8 @@ returns-clause-collects c =
     c.in_ok-decided.ensures.reached c.in_ok-decided.ensures.kept c.in_ok-changes.changes
     (ap (λ (j : MachineView). j.state) c.in_ok-forget-2.ensures.rest) c.in_ok-changes.ensures.passes
     c.in_ok-forget-2.ensures.each))
+
+pub change-requires : goal.change-requires
+change-requires c =
+    subst HasGenerations (ap (λ (j : MachineView). j.state.objects) (sym c.in_ok-forget-2.ensures.rest))
+    c.requires.formed.objects.generations
