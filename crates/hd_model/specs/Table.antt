@@ -7,7 +7,7 @@ use Rattle.std.specs.Ordering.{nat_cmp}
 use Rattle.hd_model.specs.Data.{Addr, Kind, Grown}
 use Rattle.hd_model.specs.declared.data.Kind.TheVariants as kind
 use Rattle.hd_model.specs.declared.data.Grown.TheVariants.{Zero, One, Two, Back}
-use Rattle.hd_model.specs.declared.limits.TheConstants.{BLOCKS, KINDS, ROWS}
+use Rattle.hd_model.specs.declared.limits.TheConstants.{HOST_BLOCKS, KINDS, ROWS}
 use Rattle.hd_model.specs.State.{Extra, nothing, strength, secondary, count, Handle, BlockUse, handles_of, extra_data}
 use Rattle.hd_model.specs.Kinds.{kind_number, is_paired}
 use Rattle.hd_model.specs.Scene.{Rows}
@@ -172,7 +172,7 @@ pub record IsPlacedRow (t : Table) (slot : ℕ) (h : Handle Addr) : Type 0 where
 -- what is true of every table: each live row is in a block of its kind and has an extra of that kind; a block
 -- with a use is one of the table's; each chain has exactly the blocks of its kind, each once
 pub record IsTable (t : Table) : Type 0 where
-  pub limit : t.blocks ≤ BLOCKS
+  pub limit : t.blocks ≤ HOST_BLOCKS
   pub rows : (slot : ℕ) (h : Handle Addr) → get t.rows slot ≡ Some h → IsPlacedRow t slot h
   pub uses : (block : ℕ) → IsSome (get t.uses block) → (1 ≤ block) × (block ≤ t.blocks)
   pub given : len t.uses ≤ t.blocks

@@ -1,7 +1,10 @@
-//! The limits of a run, each stated once, here.
+//! The limits of a run and of a host, each stated once, here.
 
 /// The callers of a script, at most. They are numbered from 0.
 pub const CALLERS: u32 = 16;
+
+/// The contexts of a host, at most.
+pub const HOST_CONTEXTS: u32 = 65_536;
 
 /// The object registers, and the handle registers, of a caller; and the statics, and the board
 /// indexes, that all callers share.
@@ -36,8 +39,14 @@ pub const OPEN: u32 = 3;
 /// may give.
 pub const HEAP: u32 = 1_000_000;
 
+/// The limit of the sizes of all objects of a host, in cells, at most.
+pub const HOST_HEAP: u32 = 1_073_741_824;
+
 /// The blocks of a table, where a run gives no number; and the most that it may give.
 pub const BLOCKS: u32 = 256;
+
+/// The blocks of a host's table, at most.
+pub const HOST_BLOCKS: u32 = 65_536;
 
 /// The kinds of handle.
 pub const KINDS: u32 = 7;

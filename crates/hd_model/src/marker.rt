@@ -1,5 +1,5 @@
-ghost use Rattle.std.specs.Prelude.{◌≡◌, ◌||◌, ◌<◌, ℕ, Bool, true, List, Some, length, slice_get, take};
-ghost use Rattle.hd_model.specs.Heap.{Basis, objects_of};
+ghost use Rattle.std.specs.Prelude.{◌≡◌, ◌||◌, ◌<◌, ℕ, Bool, true, false, List, Some, length, slice_get, take};
+ghost use Rattle.hd_model.specs.Heap.{Basis, objects_of, region_of};
 ghost use Rattle.hd_model.specs.Scene.{is_object, IsYoungField};
 ghost use Rattle.hd_model.specs.Leads.{Grows};
 ghost use Rattle.hd_model.specs.Marking.{IsSettled, IsPromotionLog, Gains};
@@ -30,6 +30,12 @@ pub trait Marker {
         requires settled { settled self.now }
         requires object { is_object (objects_of (basis self.now)) at ≡ true }
         ensures { result ≡ promoted self.now at };
+
+    /// Whether an object of a region may be promoted: where this is false, none is. It takes
+    /// constant time.
+    fn may_keep(&self, region: u32) -> bool
+        ensures { result ≡ false → (a : Addr) → region_of a ≡ region →
+            promoted self.now a ≡ false };
 
     /// Promotes the object, and all that fields of condemned objects lead to from it.
     fn promote(&mut self, at: Addr)
