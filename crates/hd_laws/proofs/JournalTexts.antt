@@ -12,7 +12,7 @@ use Rattle.hd_model.specs.Generated.{load_text}
 use Rattle.hd_model.specs.RunTexts.{list_of, missing}
 use Rattle.hd_model.specs.FullText.{full_lines, growth_text, slot_text}
 use Rattle.std.specs.List.{concat}
-use Rattle.hd_laws.specs.TextLaws.{AreNext, CallersCountTheirLines, EmptyTextsLackLineOne, HasNoneOf, IsShort, IsShortGrowth, IsShortSlot, TextsAreThese, TextsTellSlotsAndBlocks, all_replies, all_reply_texts, eleven, full_eleven, line, plain_eleven}
+use Rattle.hd_laws.specs.TextLaws.{AreNext, CallersCountTheirLines, EmptyTextsLackLineOne, HasNoneOf, IsShort, IsShortGrowth, IsShortSlot, TextsAreThese, TextsGiveSlotsAndBlocks, all_replies, all_reply_texts, eleven, full_eleven, line, plain_eleven}
 
 -- ---- worked texts
 
@@ -226,8 +226,8 @@ growth_again (Two block other) short =
     ∙ ap (Two block) (number_alone other short.1)
 growth_again (Back block) short = ap Back (number_alone block short)
 
-pub texts_tell_slots_and_blocks : TextsTellSlotsAndBlocks
-texts_tell_slots_and_blocks slot other grown growth a b c d same = (
+pub texts_give_slots_and_blocks : TextsGiveSlotsAndBlocks
+texts_give_slots_and_blocks slot other grown growth a b c d same = (
   sym (slot_again slot grown a) ∙ ap slot_in same ∙ slot_again other growth b,
   sym (growth_again grown c) ∙ ap growth_in (sym (rest_again slot grown a))
       ∙ ap (λ (t : List ℕ). growth_in (after_slot t)) same ∙ ap growth_in (rest_again other growth b)

@@ -2,7 +2,7 @@
 -- each equals the numeral that it is meant to be.
 use Rattle.std.specs.Prelude.{◌≡◌, ℕ, ◌+◌, ◌*◌, [], ◌∷◌, map}
 use Rattle.hd_model.specs.declared.data.TheConstants.Kind.{ALL}
-use Rattle.hd_model.specs.declared.limits.TheConstants.{CALLERS, REGISTERS, FIELDS, HEADER, OLDEST, REGION, REGIONS, CARD, LEFT, OPEN, HEAP, BLOCKS, KINDS, ROWS, CLUMP, CLUMPS, MOST_BYTES, MOST_COMMANDS, MOST_ROUNDS, LOAD_CALLERS, ROUNDS_TO_COLLECTION}
+use Rattle.hd_model.specs.declared.limits.TheConstants.{CALLERS, HOST_CONTEXTS, REGISTERS, FIELDS, HEADER, OLDEST, REGION, REGIONS, CARD, LEFT, OPEN, HEAP, BLOCKS, HOST_HEAP, HOST_BLOCKS, KINDS, ROWS, CLUMP, CLUMPS, MOST_BYTES, MOST_COMMANDS, MOST_ROUNDS, LOAD_CALLERS, ROUNDS_TO_COLLECTION}
 use Rattle.hd_model.specs.Kinds.{all_kinds, kind_number}
 use Rattle.hd_model.specs.State.{identity_of, first_slot}
 
@@ -16,6 +16,12 @@ pub record ScriptNumbers : Type 0 where
   pub blocks : BLOCKS ≡ 256
   pub bytes : MOST_BYTES ≡ 8388608
   pub commands : MOST_COMMANDS ≡ 100000
+
+-- the numbers of a host
+pub record HostNumbers : Type 0 where
+  pub contexts : HOST_CONTEXTS ≡ 65536
+  pub heap : HOST_HEAP ≡ 1073741824
+  pub blocks : HOST_BLOCKS ≡ 65536
 
 -- the numbers of a load
 pub record LoadNumbers : Type 0 where
@@ -54,6 +60,7 @@ pub record KindNumbers : Type 0 where
 -- all numbers are these
 pub record NumbersAreThese : Type 0 where
   pub script : ScriptNumbers
+  pub host : HostNumbers
   pub load : LoadNumbers
   pub heap : HeapNumbers
   pub table : TableNumbers

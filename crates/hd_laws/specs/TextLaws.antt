@@ -163,9 +163,9 @@ IsShortGrowth (One block) = IsShort block
 IsShortGrowth (Two block other) = IsShort block × IsShort other
 IsShortGrowth (Back block) = IsShort block
 
--- what a full line ends with tells the slot and the blocks of its entry
-abbrev pub TextsTellSlotsAndBlocks : Type 0
-TextsTellSlotsAndBlocks =
+-- the end of a full line gives the slot and the blocks of its entry
+abbrev pub TextsGiveSlotsAndBlocks : Type 0
+TextsGiveSlotsAndBlocks =
     (slot other : Option Slot) (grown growth : Grown) → IsShortSlot slot → IsShortSlot other
     → IsShortGrowth grown → IsShortGrowth growth
     → slot_text slot ++ growth_text grown ≡ slot_text other ++ growth_text growth

@@ -1,5 +1,5 @@
 ghost use Rattle.hd_laws.specs.TextLaws.{TextsAreThese, CallersCountTheirLines};
-ghost use Rattle.hd_laws.specs.TextLaws.{TextsTellSlotsAndBlocks, EmptyTextsLackLineOne};
+ghost use Rattle.hd_laws.specs.TextLaws.{TextsGiveSlotsAndBlocks, EmptyTextsLackLineOne};
 ghost use Rattle.hd_laws.specs.ReadingLaws.{ReadingsAreThese};
 ghost use Rattle.hd_laws.specs.LineLaws.{LinesAreThese, WrongLinesAreNumbered};
 ghost use Rattle.hd_laws.specs.TableLaws.{LoadsAreThese};
@@ -24,10 +24,10 @@ pub fn empty_texts_lack_line_one()
     ensures { EmptyTextsLackLineOne }
 {}
 
-/// What a full line ends with tells the slot of its entry, and the blocks that came into use or
+/// The end of a full line gives the slot of its entry, and the blocks that came into use or
 /// were given back.
-pub fn texts_tell_slots_and_blocks()
-    ensures { TextsTellSlotsAndBlocks }
+pub fn texts_give_slots_and_blocks()
+    ensures { TextsGiveSlotsAndBlocks }
 {}
 
 /// A line of each command, with the operands at the ends of their ranges, is read as that command;

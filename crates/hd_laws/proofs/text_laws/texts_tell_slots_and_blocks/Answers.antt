@@ -1,5 +1,0 @@
-use Rattle.hd_laws.proofs.JournalTexts.{texts_tell_slots_and_blocks}
-use Rattle.hd_laws.proofs.text_laws.texts_tell_slots_and_blocks.Goals as goal
-
-pub returns : goal.returns
-returns c = texts_tell_slots_and_blocks
