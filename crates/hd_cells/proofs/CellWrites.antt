@@ -218,7 +218,7 @@ cells_new c e fill id n s room long lengths kept zeros =
           ∙ zeros k (omega (arith, low)) (omega (arith, high, room));
     }
 
--- an object stands from the allocation pointer on, and all before is as it was
+-- an object is stored from the allocation pointer on, and all before is as it was
 pub record IsPutAt (c d : List ℕ) (fill : ℕ) (o : Object) : Type 0 where
   pub lengths : length d ≡ length c
   pub before : (k : ℕ) → k < fill → cell d k ≡ cell c k

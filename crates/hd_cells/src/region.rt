@@ -84,6 +84,7 @@ impl Region {
     /// Puts an object with null fields and value 0 after all others, and returns its offset. It
     /// takes three cells more than it has fields. After `reset` the first one clears what the cells
     /// had; no other writes its fields.
+    #[inline(always)]
     pub fn put_object(&mut self, id: u64, fields: u32, registered: bool) -> u32
         requires identified { id ≢ 0 }
         requires few_fields { fields ≤ FIELDS }
