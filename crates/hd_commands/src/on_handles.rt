@@ -167,6 +167,7 @@ pub fn pick_board<P: Parts>(parts: &mut P, caller: u32, d: u8, k: u8)
 
 /// Lowers the age of a slot's clump to the generation of what is stored there. Null lowers
 /// none.
+#[inline(always)]
 pub fn lower_to<P: Parts>(parts: &mut P, slot: Slot, target: Option<P::Name>)
     requires within { IsWithin (P.seen parts.old) slot }
     requires named { IsNamed (P.seen parts.old) target }
@@ -183,6 +184,7 @@ pub fn lower_to<P: Parts>(parts: &mut P, slot: Slot, target: Option<P::Name>)
 
 // What a handle has beside its target once that is another one: a dependent handle may get null
 // alone, and then its secondary is null too.
+#[inline(always)]
 fn extra_beside<N: Copy + Drop>(extra: Extra<N>, target: Option<N>) -> Result<Extra<N>, Refusal>
     ensures { let names = is_some target in
         MatchResult result
