@@ -205,3 +205,11 @@ area_taken {a} {at} {cells} {r} {cards} card is there removed laid size marks be
         kept = kept;
       },
     )
+
+-- a free region has no object
+pub free_area : (a : Area) → IsArea a → a.held ≡ false → (a.count ≡ 0) × (a.live ≡ 0)
+free_area a is free =
+    let bare = is.free free in (
+      is.count ∙ ap (λ (r : Contents). map.len r.objects) bare ∙ map.len-empty nat_cmp Object,
+      omega (arith, is.within, ap (λ (r : Contents). r.fill) bare),
+    )

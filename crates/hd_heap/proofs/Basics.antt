@@ -54,3 +54,7 @@ pub use Rattle.std.specs.Bool.{Decides}
 unfoldable pub use Rattle.hd_heap.specs.Indexes.{table, tables}
 unfoldable pub use Rattle.hd_model.specs.Heap.{card_of, region_of}
 unfoldable pub use Rattle.hd_heap.specs.{Inside.cells_run, Inside.put_run, Runs.run_copied}
+pub use Rattle.std.specs.Prelude.{min}
+pub use Rattle.hd_heap.specs.declared.sizes.{GenerationSize.GenerationSize, Older.Older, Sizes.Sizes}
+pub use Rattle.hd_heap.specs.Inside.{HasOlder, HasShare, Measure, no_older, number_in, number_of, of_cells, of_objects, of_regions, part_of, with_added, with_less, with_more, with_taken}
+pub use Rattle.hd_heap.specs.Sizes.{HasSize, IsWhole, aged_objects, aged_regions}

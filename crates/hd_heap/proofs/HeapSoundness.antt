@@ -3,20 +3,20 @@ use Rattle.hd_heap.proofs.Basics.{Addr, Area, Bool, CARDS, Heap, IsObject, IsSou
 use Rattle.hd_heap.proofs.{RegionReads.IsHeap, RegionReads.get-regions, RegionReads.found, RegionReads.held_found, RegionReads.has_there, RegionReads.set_at, RegionReads.used_is, RegionReads.count_is, RegionSums.cells_placed}
 use Rattle.std.specs.FinMap as fin
 
--- the cells of all objects are at most those of all regions
-lives_small : (areas : List Area) → ((k : ℕ) (a : Area) → get_or (map Some areas) k None ≡ Some a
-    → a.live ≤ REGION) → sum_by (λ (x : Area). x.live) areas ≤ REGION * length areas
-lives_small [] small = omega arith
-lives_small (a ∷ areas) small =
-    let rest = lives_small areas (λ k x e. small (suc k) x e) in
-    omega (arith, small 0 a refl, rest, sum_by-cons (λ (x : Area). x.live) a areas)
+-- what is counted of each region, which is at most the number of its cells, as that of the objects' is
+pub sum_small : (f : Area → ℕ) (areas : List Area) → ((k : ℕ) (a : Area) → get_or (map Some areas) k None ≡ Some a
+    → f a ≤ REGION) → sum_by f areas ≤ REGION * length areas
+sum_small f [] small = omega arith
+sum_small f (a ∷ areas) small =
+    let rest = sum_small f areas (λ k x e. small (suc k) x e) in
+    omega (arith, small 0 a refl, rest, sum_by-cons f a areas)
 
 module _ {areas : List Area} {unused : List ℕ} {limit capacity cells objects holds : ℕ}
     {notes : ℕ × Bool × Bool} {h : Heap}
     (heap : IsHeap areas unused limit capacity (cells, objects, holds) notes h) where
   pub cells_small : cells ≤ REGION * length areas
   cells_small =
-      let small = lives_small areas (λ k a e. let is = heap.kept.each (suc k) a e in
+      let small = sum_small (λ (x : Area). x.live) areas (λ k a e. let is = heap.kept.each (suc k) a e in
       omega (arith, is.within, is.laid_out.within_region)) in
       omega (arith, heap.kept.lives, small)
 

@@ -21,3 +21,5 @@ pub mod RegionCopy
 pub mod CondemnedWalk
 pub mod NextObjects
 pub mod CondemnedSums
+pub mod GenerationSums
+pub mod GenerationSizes

@@ -1,5 +1,5 @@
 -- Lemmas on a heap that is read from its regions.
-use Rattle.hd_heap.proofs.Basics.{Addr, AreOthersFull, Area, Bool, CARD, CARDS, HasFlags, HasLeft, Heap, IsArea, IsKept, IsObject, IsObjectOf, List, None, Option, Placed, REGION, Region, Some, [], address, ap, area_at, arith, both_ways, card_in, cards_in, cases_lt, cond, contents, deque_capacity, false, fields_in, from_one, generation_in, get-by_index, get_or, get_or-map, get_or-set_other, get_or-set_same, get_or_past, has_object, heap_of, inl, inr, is_in_use, is_set, is_some, length, length-map, length-set, map, map-set, object_at, object_in, objects_in, option_map, placed_at, placed_in, placed_of, refl, region_at, region_generation, region_in, region_of, regions_in, set, subst, suc, sym, tables, true, unwrap_or, used_of, zero, ℕ, ◌%◌, ◌*◌, ◌+◌, ◌-◌, ◌/◌, ◌<◌, ◌∙◌, ◌≡◌, ◌≢◌, ◌≤◌}
+use Rattle.hd_heap.proofs.Basics.{Addr, AreOthersFull, Area, Bool, CARD, CARDS, HasFlags, HasLeft, HasOlder, Heap, IsArea, IsKept, IsObject, IsObjectOf, List, None, Older, Option, Placed, REGION, Region, Some, [], address, ap, area_at, arith, both_ways, card_in, cards_in, cases_lt, cond, contents, deque_capacity, false, fields_in, from_one, generation_in, get-by_index, get_or, get_or-map, get_or-set_other, get_or-set_same, get_or_past, has_object, heap_of, inl, inr, is_in_use, is_set, is_some, length, length-map, length-set, map, map-set, object_at, object_in, objects_in, option_map, placed_at, placed_in, placed_of, refl, region_at, region_generation, region_in, region_of, regions_in, set, subst, suc, sym, tables, true, unwrap_or, used_of, zero, ℕ, ◌%◌, ◌*◌, ◌+◌, ◌-◌, ◌/◌, ◌<◌, ◌∙◌, ◌≡◌, ◌≢◌, ◌≤◌}
 use Rattle.hd_heap.proofs.{IndexedLists.contains-indexes_of, IndexedLists.get_or-tables, Areas.object_there, Areas.held_by_object, RegionSums.cells_sum, RegionSums.count_sum}
 use Rattle.std.proofs.Math.ListN.{get_or-map as map_read}
 use Rattle.hd_heap.specs.declared.heap.Heap.TheInside.{Inside}
@@ -122,6 +122,7 @@ pub opened : (s : Inside) {h : Heap} → heap_of s.areas.items s.free.items s.li
     × AreOthersFull (heap_of s.areas.items s.free.items s.limit) s.current
     × HasFlags (heap_of s.areas.items s.free.items s.limit) s.carding s.registering
     × HasLeft (heap_of s.areas.items s.free.items s.limit) s.current s.used s.left
+    × HasOlder s.areas.items s.older
     → IsHeap s.areas.items s.free.items s.limit (deque_capacity s.free)
     (s.used, s.count, s.held) (s.current, s.carding, s.registering) h
 opened s view invariant = record {
@@ -137,28 +138,31 @@ pub left_read : (s : Inside) {h : Heap} → heap_of s.areas.items s.free.items s
 left_read s view is = subst (λ x. HasLeft x s.current s.used s.left) view is
 
 pub closed : {areas : List Area} {numbers : List ℕ} {limit capacity : ℕ} {counts : ℕ × ℕ × ℕ}
-    {notes : ℕ × Bool × Bool} {h : Heap} {left : ℕ} → IsHeap areas numbers limit capacity counts notes h
-    → HasLeft h notes.0 counts.0 left → IsKept areas numbers capacity counts.0 counts.1 counts.2
+    {notes : ℕ × Bool × Bool} {h : Heap} {left : ℕ} {older : Older}
+    → IsHeap areas numbers limit capacity counts notes h → HasLeft h notes.0 counts.0 left
+    → HasOlder areas older → IsKept areas numbers capacity counts.0 counts.1 counts.2
     × AreOthersFull (heap_of areas numbers limit) notes.0 × HasFlags (heap_of areas numbers limit) notes.1 notes.2
-    × HasLeft (heap_of areas numbers limit) notes.0 counts.0 left
-closed {counts = counts} {notes = notes} {left = left} heap is = (
+    × HasLeft (heap_of areas numbers limit) notes.0 counts.0 left × HasOlder areas older
+closed {counts = counts} {notes = notes} {left = left} heap is has = (
   heap.kept,
   heap.notes_are.full,
   heap.notes_are.flags,
   subst (λ x. HasLeft x notes.0 counts.0 left) (sym heap.view) is,
+  has,
 )
 
 -- the same where nothing is known of it
 pub closed_none : {areas : List Area} {numbers : List ℕ} {limit capacity : ℕ} {counts : ℕ × ℕ × ℕ}
-    {notes : ℕ × Bool × Bool} {h : Heap} → IsHeap areas numbers limit capacity counts notes h
-    → IsKept areas numbers capacity counts.0 counts.1 counts.2
+    {notes : ℕ × Bool × Bool} {h : Heap} {older : Older} → IsHeap areas numbers limit capacity counts notes h
+    → HasOlder areas older → IsKept areas numbers capacity counts.0 counts.1 counts.2
     × AreOthersFull (heap_of areas numbers limit) notes.0 × HasFlags (heap_of areas numbers limit) notes.1 notes.2
-    × HasLeft (heap_of areas numbers limit) notes.0 counts.0 0
-closed_none heap = (
+    × HasLeft (heap_of areas numbers limit) notes.0 counts.0 0 × HasOlder areas older
+closed_none heap has = (
   heap.kept,
   heap.notes_are.full,
   heap.notes_are.flags,
   λ some. absurd (some refl),
+  has,
 )
 
 module _ {areas : List Area} {numbers : List ℕ} {limit capacity cells objects holds : ℕ}

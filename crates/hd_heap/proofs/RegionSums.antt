@@ -4,7 +4,7 @@ use Rattle.hd_heap.proofs.{Areas.absent, Areas.sum_none, IndexedLists.length-tab
 use Rattle.std.specs.FinMap as fin
 
 -- the items of a list by their indices
-sum-numbered : {A : Type 0} (f : A → ℕ) (i : ℕ) (os : List (Option A))
+pub sum-numbered : {A : Type 0} (f : A → ℕ) (i : ℕ) (os : List (Option A))
     → sum_by f (fin.values (fin.from_entries {R = nat_cmp} (numbered i os))) ≡ sum_by (share f) os
 sum-numbered f i [] = sum_none f
 sum-numbered f i (None ∷ os) = omega (arith, sum-numbered f (i + 1) os, sum_by-cons (share f) None os)
@@ -99,7 +99,7 @@ pub cells_sum : (areas : List Area) → ((r : ℕ) (a : Area) → area_at areas 
 cells_sum areas = sum-objects cells_of (λ (a : Area). a.live)
     (λ a is. is.live ∙ (λ i. sum_by (λ o. sym (cells_placed o) i) (fin.values (contents a).objects))) areas
 
-sum-ones : {A : Type 0} (m : fin.FinMap nat_cmp A) → fin.len m ≡ sum_by (λ (x : A). 1) (fin.values m)
+pub sum-ones : {A : Type 0} (m : fin.FinMap nat_cmp A) → fin.len m ≡ sum_by (λ (x : A). 1) (fin.values m)
 sum-ones {A} m = fin.len-entries m ∙ sym (sum_ones (fin.values m)
     ∙ length-map (fin.entries m) (λ (e : ℕ × A). e.1))
 

@@ -1,5 +1,5 @@
 -- What private clauses alone cite.
-use Rattle.std.specs.Prelude.{◌≡◌, ℕ, ◌/◌, ◌≤◌, true, false, List, length, sum_by, IsTrue, slice_index_or, Option, Some, None, ◌≢◌, zero, suc, Bool, map, Contains, ◌+◌, ◌<◌, slice_index, ◌-◌, slice_set, ◌&&◌, if◌then◌else◌, nat_lt, drop, ⊤, MatchOption, ◌*◌, option_map}
+use Rattle.std.specs.Prelude.{◌≡◌, ℕ, ◌/◌, ◌≤◌, true, false, List, length, sum_by, IsTrue, slice_index_or, Option, Some, None, ◌≢◌, zero, suc, Bool, map, Contains, ◌+◌, ◌<◌, slice_index, ◌-◌, slice_set, ◌&&◌, if◌then◌else◌, nat_lt, nat_eq, cond, min, ◌^◌, drop, ⊤, MatchOption, ◌*◌, option_map}
 use Rattle.std.specs.FinMap.{len, values, contains_key, insert}
 use Rattle.std.specs.Box.{with_value as box_with_value}
 use Rattle.hd_cells.specs.Object.{size_of, Object, with_value, with_registered, with_field as region_with_field}
@@ -8,7 +8,7 @@ use Rattle.hd_model.specs.declared.limits.TheConstants.{CARD, OLDEST, REGIONS, R
 use Rattle.hd_model.specs.{declared.data.Addr.Addr, Scene.fields_at, Scene.generation_at}
 use Rattle.hd_model.specs.Heap.{offset_of, Placed, Heap, has_object, placed_at, object_at, is_in_use, is_set, region_at, region_generation}
 use Rattle.hd_cells.specs.Headers.{IsEnd}
-use Rattle.hd_heap.specs.{declared.area.TheConstants.CARDS, declared.area.Area.Area, Indexes.from_one, declared.moves.Move.Move, Moves.move_at, Runs.IsRun, declared.area.Part.Part, declared.area.Wanted.Wanted, declared.area.Wanted.TheVariants.Any, declared.area.Wanted.TheVariants.Carded}
+use Rattle.hd_heap.specs.{declared.area.TheConstants.CARDS, declared.area.Area.Area, declared.sizes.GenerationSize.GenerationSize, declared.sizes.Older.Older, Indexes.from_one, declared.moves.Move.Move, Moves.move_at, Runs.IsRun, declared.area.Part.Part, declared.area.Wanted.Wanted, declared.area.Wanted.TheVariants.Any, declared.area.Wanted.TheVariants.Carded}
 use Rattle.hd_heap.specs.Areas.{contents, card_in, region_in, regions_in, address, placed_of}
 use Rattle.hd_heap.specs.declared.area.Part.TheVariants.{Value, Registered, Field}
 use Rattle.hd_heap.specs.Calls.{is_old_carded, with_field, AreFull}
@@ -84,6 +84,71 @@ pub record IsKept (areas : List Area) (numbers : List ℕ) (capacity cells objec
   pub room : length areas ≤ capacity
   pub free : (i : ℕ) → i < length numbers → IsFreeRegion areas (slice_index numbers i)
   pub apart : (i j : ℕ) → i < j → j < length numbers → slice_index numbers i ≢ slice_index numbers j
+
+-- ---- how much a heap has of generations 1 and 2
+
+-- what is counted: objects, their cells, and regions in use
+pub data Measure : Type 0 where
+  of_objects : Measure
+  of_cells : Measure
+  of_regions : Measure
+
+-- this number of a size, and of a region
+abbrev pub number_in : Measure → GenerationSize → ℕ
+number_in of_objects s = s.objects
+number_in of_cells s = s.cells
+number_in of_regions s = s.regions
+
+abbrev pub number_of : Measure → Area → ℕ
+number_of of_objects a = a.count
+number_of of_cells a = a.live
+number_of of_regions a = 1
+
+-- what a region adds to the number of a generation: nothing where it is free, or of another one
+abbrev pub part_of : Measure → ℕ → Area → ℕ
+part_of m g a = cond (a.held && nat_eq a.generation g) (number_of m a) 0
+
+-- the numbers of a size are those of the regions of a generation
+pub record HasShare (areas : List Area) (g : ℕ) (size : GenerationSize) : Type 0 where
+  pub numbers : (m : Measure) → number_in m size ≡ sum_by (part_of m g) areas
+
+pub record HasOlder (areas : List Area) (older : Older) : Type 0 where
+  pub middle : HasShare areas 1 older.middle
+  pub oldest : HasShare areas 2 older.oldest
+
+-- a size with more and with less of each number, of which none gets past 32 bits
+abbrev pub with_more : GenerationSize → GenerationSize → GenerationSize
+with_more s by = record {
+  objects = min (s.objects + by.objects) (2 ^ 32 - 1);
+  cells = min (s.cells + by.cells) (2 ^ 32 - 1);
+  regions = min (s.regions + by.regions) (2 ^ 32 - 1);
+}
+
+abbrev pub with_less : GenerationSize → GenerationSize → GenerationSize
+with_less s by = record {
+  objects = s.objects - by.objects;
+  cells = s.cells - by.cells;
+  regions = s.regions - by.regions;
+}
+
+-- so where a generation has more or less
+abbrev pub with_added : Older → ℕ → GenerationSize → Older
+with_added o generation by = record {
+  middle = cond (nat_eq generation 1) (with_more o.middle by) o.middle;
+  oldest = cond (nat_eq generation 2) (with_more o.oldest by) o.oldest;
+}
+
+abbrev pub with_taken : Older → ℕ → GenerationSize → Older
+with_taken o generation by = record {
+  middle = cond (nat_eq generation 1) (with_less o.middle by) o.middle;
+  oldest = cond (nat_eq generation 2) (with_less o.oldest by) o.oldest;
+}
+
+abbrev pub no_older : Older
+no_older = record {
+  middle = record { objects = 0; cells = 0; regions = 0 };
+  oldest = record { objects = 0; cells = 0; regions = 0 };
+}
 
 -- ---- objects that go together from one region to one other, and what copying them leaves
 

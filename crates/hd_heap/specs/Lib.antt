@@ -1,5 +1,6 @@
 pub mod Sound
 pub mod Calls
+pub mod Sizes
 pub mod Indexes
 pub mod Areas
 pub mod Moves

@@ -139,6 +139,7 @@ impl Area {
     }
 
     /// Puts an object after all others, and returns its offset.
+    #[inline(always)]
     pub(crate) fn put(&mut self, id: u64, fields: u32, registered: bool) -> u32
         requires area { IsArea self.old }
         requires held { self.old.held ≡ true }

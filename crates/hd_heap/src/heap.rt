@@ -25,6 +25,7 @@ use crate::area::{Area, Part, Wanted};
 use crate::fields::ObjectFields;
 use crate::moves::Move;
 use crate::notes::{left_after, left_in_fresh, noted, still_current};
+use crate::sizes::{Older, size};
 use hd_cells::Region;
 use hd_model::limits::{CARD, FIELDS, HEADER, OLDEST, REGION, REGIONS};
 use hd_model::{Addr, Forward, Id, Memory};
@@ -41,9 +42,10 @@ pub struct Heap {
     pub(crate) areas: Vec<Area>,
     free: VecDeque<u32>,
     limit: u32,
-    used: u32,
-    count: u32,
-    held: u32,
+    pub(crate) used: u32,
+    pub(crate) count: u32,
+    pub(crate) held: u32,
+    pub(crate) older: Older,
     // The region of the last new object, or 0 where other ones may have room for the next.
     current: u32,
     // Cells that are left in that region, which is then of generation 0, and within the limit: as
@@ -65,7 +67,7 @@ impl Model for Heap {
     ghost use Rattle.std.specs.VecDeque.{deque_capacity};
     ghost use Rattle.hd_heap.specs.Areas.{heap_of};
     ghost use Rattle.hd_heap.specs.Inside.{IsKept};
-    ghost use Rattle.hd_heap.specs.Inside.{AreOthersFull, HasFlags, HasLeft};
+    ghost use Rattle.hd_heap.specs.Inside.{AreOthersFull, HasFlags, HasLeft, HasOlder};
 
     ghost view = { λ h. heap_of h.areas.items h.free.items h.limit };
 
@@ -73,7 +75,8 @@ impl Model for Heap {
         h.used h.count h.held
         × AreOthersFull (heap_of h.areas.items h.free.items h.limit) h.current
         × HasFlags (heap_of h.areas.items h.free.items h.limit) h.carding h.registering
-        × HasLeft (heap_of h.areas.items h.free.items h.limit) h.current h.used h.left };
+        × HasLeft (heap_of h.areas.items h.free.items h.limit) h.current h.used h.left
+        × HasOlder h.areas.items h.older };
 }
 
 /// The index in the heap's list of a region, by its number from 1 on.
@@ -151,6 +154,7 @@ impl Heap {
             used: 0,
             count: 0,
             held: 0,
+            older: Older::none(),
             current: 0,
             left: 0,
             carding: false,
@@ -433,6 +437,7 @@ impl Heap {
         let _ = self.free.pop_front();
         self.areas[index_of(number)].hold(generation);
         self.held += 1;
+        self.older.add(generation, size(0, 0, 1));
         self.current = still_current(self.current, generation);
         self.left = 0;
         number
@@ -449,6 +454,7 @@ impl Heap {
         ensures was_free { has_object self.old result ≡ false }
         ensures copied { self.new ≡ with_copy self.old from region }
     {
+        let generation = self.region_generation(region);
         let (area, offset) = self.area_of(from);
         // It goes through a region of its own, since it may be in the region that it is copied to.
         let mut copy = Region::empty();
@@ -457,6 +463,7 @@ impl Heap {
         let end = self.areas[index_of(region)].put_copy(&copy, first);
         self.used += cells;
         self.count += 1;
+        self.older.add(generation, size(1, cells, 0));
         self.left = 0;
         address_in(region, end)
     }
@@ -477,9 +484,12 @@ impl Heap {
     {
         let source = index_of(moves[first].from.0 / REGION);
         let target = index_of(moves[first].to.0 / REGION);
+        let generation = self.region_generation(moves[first].to.0 / REGION);
         let (end, cells) = copy_between(&mut self.areas, source, target, moves, first, forward);
+        let copies = (end - first) as u32;
         self.used += cells;
-        self.count += (end - first) as u32;
+        self.count += copies;
+        self.older.add(generation, size(copies, cells, 0));
         self.left = 0;
         end
     }
@@ -504,9 +514,11 @@ impl Heap {
         requires { has_object self.old at ≡ true }
         ensures { IsRemoved self.old self.new at }
     {
+        let generation = self.generation(at);
         let cells = self.areas[index_of(at.0 / REGION)].remove(offset_of(at));
         self.used -= cells;
         self.count -= 1;
+        self.older.take(generation, size(1, cells, 0));
     }
 
     /// Gives a region in use, and with it its objects, another generation.
@@ -515,7 +527,11 @@ impl Heap {
         requires generation { generation ≤ OLDEST }
         ensures { self.new ≡ with_generation self.old region generation }
     {
-        self.areas[index_of(region)].generation = generation;
+        let area = &mut self.areas[index_of(region)];
+        let (was, of) = (area.generation, size(area.count, area.live, 1));
+        area.generation = generation;
+        self.older.take(was, of);
+        self.older.add(generation, of);
         self.current = still_current(self.current, generation);
         self.left = 0;
     }
@@ -540,10 +556,12 @@ impl Heap {
         requires held { is_in_use self.old region ≡ true }
         ensures { self.new ≡ without_region self.old region }
     {
+        let generation = self.region_generation(region);
         let (cells, objects) = self.areas[index_of(region)].give_up();
         self.used -= cells;
         self.count -= objects;
         self.held -= 1;
+        self.older.take(generation, size(objects, cells, 1));
         self.left = 0;
         self.free.push_back_reserved(region);
     }
@@ -645,11 +663,13 @@ impl Heap {
         area.region.fill() + size <= REGION
     }
 
-    /// Puts an object after all others of a region in use.
+    /// Puts an object after all others of a region in use of generation 0.
+    #[inline(always)]
     fn put(&mut self, region: u32, id: Id, fields: u32, registered: bool) -> Addr
         requires identified { id.0 ≢ 0 }
         requires few_fields { fields ≤ FIELDS }
         requires held { is_in_use self.old region ≡ true }
+        requires young { region_generation self.old region ≡ 0 }
         requires room { (region_at self.old region).fill + (fields + HEADER) ≤ REGION }
         ensures address { result.0 ≡ region * REGION + (region_at self.old region).fill }
         ensures region { region_of result ≡ region }

@@ -10,6 +10,7 @@ mod forwarding;
 mod heap;
 mod moves;
 mod notes;
+mod sizes;
 
 pub use area::CARDS;
 pub use condemned::{Extent, ObjectHeader, RegionInfo, RegionObjects};
@@ -17,3 +18,4 @@ pub use fault::NewFault;
 pub use fields::ObjectFields;
 pub use heap::Heap;
 pub use moves::{Fate, Move};
+pub use sizes::{GenerationSize, Sizes};

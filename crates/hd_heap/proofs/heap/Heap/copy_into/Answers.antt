@@ -1,5 +1,5 @@
-use Rattle.hd_heap.proofs.Basics.{Contents, IsObject, REGION, Region, ap, area_put, arith, cells_of, contents, deque_capacity, object_at, placed_at, region_at, set, size_of, sym, with_copy, ◌*◌, ◌+◌, ◌∙◌, ◌≡◌}
-use Rattle.hd_heap.proofs.{FieldForward.put_placed, RegionSums.cells_placed, RegionReads.closed_none, RegionReads.opened, RegionReads.noted, RegionReads.held_index, RegionReads.held_read, RegionReads.IsHeap, RegionReads.IsHeldAt, RegionChanges.object_put, RegionChanges.index_free, RegionChanges.put_fits}
+use Rattle.hd_heap.proofs.Basics.{Area, Contents, IsObject, REGION, Region, ap, area_put, arith, cells_of, contents, deque_capacity, object_at, placed_at, region_at, set, size_of, sym, with_copy, ◌*◌, ◌+◌, ◌∙◌, ◌≡◌}
+use Rattle.hd_heap.proofs.{FieldForward.put_placed, GenerationSums.older_more, GenerationSums.shares_small, RegionSums.cells_placed, RegionReads.closed_none, RegionReads.opened, RegionReads.noted, RegionReads.held_index, RegionReads.held_read, RegionReads.IsHeap, RegionReads.IsHeldAt, RegionChanges.object_put, RegionChanges.index_free, RegionChanges.put_fits}
 use Rattle.hd_heap.proofs.heap.Heap.copy_into.Goals.{After-fill-cells, After-index_mut}
 use Rattle.hd_heap.proofs.heap.Heap.copy_into.Goals as goal
 
@@ -84,7 +84,15 @@ put c =
     (λ off. (noted heap).flags.registrations off c.args.from c.requires.object)
 
 pub invariant_of-self : goal.invariant_of-self
-invariant_of-self c = closed_none (put c)
+invariant_of-self c =
+    let at = located ((goal.at.invariant_of-self c).After-index_mut) in
+    let (_, same, size, _) = between ((goal.at.invariant_of-self c).After-fill-cells) in
+    let was = c.put_copy-end.ensures.put in
+    closed_none (put c) (older_more at.index _ (shares_small (put c)) at.held (ap (λ (x : Area). x.held) was)
+    (c.region_generation-generation.ensures ∙ ap (λ (x : Region). x.generation) at.region)
+    (ap (λ (x : Area). x.generation) was) (ap (λ (x : Area). x.count) was)
+    (omega (arith, ap (λ (x : Area). x.live) was, size, ap size_of same)) c.size.ensures c.add.ensures
+    c.self.invariant.4)
 
 pub returns : goal.returns
 returns c =

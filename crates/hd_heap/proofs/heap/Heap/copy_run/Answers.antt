@@ -1,5 +1,5 @@
-use Rattle.hd_heap.proofs.Basics.{IsRun, ap, arith, deque_capacity, drop, length, move_at, refl, region_of, run_copied, subst, take, take-append_seam, ◌++◌, ◌+◌, ◌-◌, ◌<◌, ◌^◌, ◌∙◌, ◌≡◌}
-use Rattle.hd_heap.proofs.{RegionReads.closed_none, RegionReads.opened, RegionReads.IsHeap, RegionReads.found, RegionReads.index_within, RegionReads.held_index, RegionUse.heap_lists, HeapSoundness.cells_small, HeapSoundness.objects_small, RunCopies.run_one, RegionCopy.source_read, RegionCopy.target_read, RegionCopy.may_put, RegionCopy.run_moved}
+use Rattle.hd_heap.proofs.Basics.{IsRun, Region, ap, area_run, arith, contents, deque_capacity, drop, length, move_at, refl, region_of, run_copied, set, subst, take, take-append_seam, ◌++◌, ◌+◌, ◌-◌, ◌<◌, ◌^◌, ◌∙◌, ◌≡◌}
+use Rattle.hd_heap.proofs.{GenerationSums.AreSmall, GenerationSums.older_lists, GenerationSums.older_more, GenerationSums.shares_small, RegionReads.closed_none, RegionReads.opened, RegionReads.IsHeap, RegionReads.found, RegionReads.index_within, RegionReads.held_index, RegionUse.heap_lists, HeapSoundness.cells_small, HeapSoundness.objects_small, RunCopies.run_one, RegionCopy.source_read, RegionCopy.target_read, RegionCopy.may_put, RegionCopy.run_moved}
 use Rattle.hd_heap.proofs.heap.Heap.copy_run.Given.{Over}
 use Rattle.hd_heap.proofs.heap.Heap.copy_run.Goals.{After-copy_between-end}
 use Rattle.hd_heap.proofs.heap.Heap.copy_run.Goals as goal
@@ -31,6 +31,10 @@ copy_between-end-requires g c =
                 (g.F.Forward.forwarding c.args.forward.now) may,
           );
     }
+
+pub region_generation-generation-requires : goal.region_generation-generation-requires
+unfolding region_of
+region_generation-generation-requires g c = c.requires.run.held
 
 -- the heap after the copies
 moved : (g : Over) → (c : After-copy_between-end g)
@@ -67,15 +71,35 @@ small g c =
 pub overflow_add-self : goal.overflow_add-self
 overflow_add-self g c = omega (arith, (small g ((goal.at.overflow_add-self g c).After-copy_between-end)).0)
 
-pub overflow_cast-self : goal.overflow_cast-self
-overflow_cast-self g c = omega (arith, (small g ((goal.at.overflow_cast-self g c).After-copy_between-end)).1)
+pub overflow_cast-copies : goal.overflow_cast-copies
+overflow_cast-copies g c = omega (arith, (small g ((goal.at.overflow_cast-copies g c).After-copy_between-end)).1)
 
 pub overflow_add-self-2 : goal.overflow_add-self-2
 overflow_add-self-2 g c = omega
     (arith, (small g ((goal.at.overflow_add-self-2 g c).After-copy_between-end)).1)
 
 pub invariant_of-self : goal.invariant_of-self
-invariant_of-self g c = closed_none (moved g ((goal.at.invariant_of-self g c).After-copy_between-end))
+unfolding region_of
+invariant_of-self g c =
+    let heap = opened c.self.inside c.self.view_is c.self.invariant in
+    let new = c.copy_between-end.new.areas in
+    let rest = drop (length new) c.self.inside.areas.items in
+    let long : c.self.inside.areas.len ≡ length new =
+    omega (arith, c.deref_mut.ensures.len, c.copy_between-end.auto.areas) in
+    let put = c.copy_between-end.ensures.put in
+    let value = c.deref_mut.ensures.value in
+    let at = target_read heap c.args.moves.now c.args.first c.requires.run value put.target_is
+    c.index_of-target.ensures in
+    let n = c.copy_between-end.result.0 - c.args.first in
+    let after = area_run (g.F.Forward.forwarding c.args.forward.now) (contents put.from) c.args.moves.now c.args.first
+    n put.before in
+    let list = ap (λ k. take k (new ++ rest)) long ∙ take-append_seam new rest ∙ put.list
+    ∙ ap (λ xs. set xs c.index_of-target.result after) value in
+    let is = moved g ((goal.at.invariant_of-self g c).After-copy_between-end) in
+    let live : after.live ≡ put.before.live + c.copy_between-end.result.1 = omega (arith, put.cells_is) in
+    closed_none is (older_lists list (older_more at.index after (subst AreSmall list (shares_small is)) at.held refl
+    (c.region_generation-generation.ensures ∙ ap (λ (x : Region). x.generation) at.region) refl refl live
+    c.size.ensures c.add.ensures c.self.invariant.4))
 
 pub returns-clause-copied : goal.returns-clause-copied
 returns-clause-copied g c = (moved g ((goal.at.returns-clause-copied g c).After-copy_between-end)).view

@@ -1,5 +1,5 @@
-use Rattle.hd_heap.proofs.Basics.{arith, deque_capacity, set, without_region, ◌-◌}
-use Rattle.hd_heap.proofs.{RegionReads.closed_none, RegionReads.opened, RegionReads.held_index, RegionReads.held_read, RegionReads.IsHeap, RegionReads.IsHeldAt, RegionUse.cells_counted, RegionUse.objects_counted, RegionUse.region_freed, RegionUse.held_counted}
+use Rattle.hd_heap.proofs.Basics.{Region, ap, arith, deque_capacity, set, without_region, ◌-◌, ◌∙◌}
+use Rattle.hd_heap.proofs.{GenerationSums.older_given_up, RegionReads.closed_none, RegionReads.opened, RegionReads.held_index, RegionReads.held_read, RegionReads.IsHeap, RegionReads.IsHeldAt, RegionUse.cells_counted, RegionUse.objects_counted, RegionUse.region_freed, RegionUse.held_counted}
 use Rattle.hd_heap.proofs.heap.Heap.give_up.Goals.{After-index_mut, After-push_back_reserved}
 use Rattle.hd_heap.proofs.heap.Heap.give_up.Goals as goal
 
@@ -58,7 +58,12 @@ freed c =
     now.cells now.count c.push_back_reserved.ensures.items c.push_back_reserved.ensures.capacity
 
 pub invariant_of-self : goal.invariant_of-self
-invariant_of-self c = closed_none (freed c)
+invariant_of-self c =
+    let at = located ((goal.at.invariant_of-self c).After-index_mut) in
+    let now = c.give_up-cells.ensures in
+    closed_none (freed c) (older_given_up at.index _ at.held now.freed
+    (c.region_generation-generation.ensures ∙ ap (λ (x : Region). x.generation) at.region) now.count now.cells
+    c.size.ensures c.take.ensures c.self.invariant.4)
 
 pub returns : goal.returns
 returns c = (freed c).view

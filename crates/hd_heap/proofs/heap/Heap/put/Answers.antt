@@ -1,5 +1,5 @@
 use Rattle.hd_heap.proofs.Basics.{Addr, HEADER, None, Option, REGION, Region, ap, arith, deque_capacity, length-replicate, new_object, new_region_object, or_parts, region_at, region_generation, region_of, set, size_of, sym, with_put, ℕ, ◌*◌, ◌+◌, ◌∙◌, ◌≡◌}
-use Rattle.hd_heap.proofs.{RegionReads.closed, RegionReads.left_read, RegionReads.opened, RegionReads.held_index, RegionReads.held_read, RegionReads.IsHeap, RegionChanges.object_put, RegionChanges.index_free, RegionChanges.new_placed, RegionChanges.put_fits}
+use Rattle.hd_heap.proofs.{GenerationSums.older_put, RegionReads.closed, RegionReads.left_read, RegionReads.opened, RegionReads.held_index, RegionReads.held_read, RegionReads.IsHeap, RegionChanges.object_put, RegionChanges.index_free, RegionChanges.new_placed, RegionChanges.put_fits}
 use Rattle.hd_heap.proofs.HeapLeft.{left_put}
 use Rattle.hd_heap.proofs.heap.Heap.put.Goals.{After-put-offset}
 use Rattle.hd_heap.proofs.heap.Heap.put.Goals as goal
@@ -60,12 +60,16 @@ put c =
 pub invariant_of-self : goal.invariant_of-self
 invariant_of-self c =
     let null : Option Addr = None in
+    let at = held_read (opened c.self.inside c.self.view_is c.self.invariant) c.requires.held
+    c.index_of.ensures c.index_mut.ensures.value in
     closed (put ((goal.at.invariant_of-self c).After-put-offset))
     (left_put c.args.self.now c.self.inside.current c.self.inside.used c.self.inside.left c.args.region
     (c.args.fields + HEADER) c.left_after-self-inside.result
     (new_object c.args.id c.args.fields c.args.registered)
     (left_read c.self.inside c.self.view_is c.self.invariant.3)
     (omega (arith, length-replicate c.args.fields null)) c.left_after-self-inside.ensures)
+    (older_put at.index _ _ at.held (sym (ap (λ (x : Region). x.generation) at.region) ∙ c.requires.young)
+    c.put-offset.ensures.put c.self.invariant.4)
 
 pub returns : goal.returns
 unfolding region_of

@@ -10,6 +10,12 @@ put-requires-clause-held c =
     (c.args.fields + HEADER) (left_read c.self.inside c.self.view_is c.self.invariant.3) (omega arith)
     (omega (arith, c.if-size-self.false))).0.held
 
+pub put-requires-clause-young : goal.put-requires-clause-young
+put-requires-clause-young c =
+    (current_room c.args.self.now c.self.inside.current c.self.inside.used c.self.inside.left
+    (c.args.fields + HEADER) (left_read c.self.inside c.self.view_is c.self.invariant.3) (omega arith)
+    (omega (arith, c.if-size-self.false))).0.young
+
 pub put-requires-clause-room : goal.put-requires-clause-room
 put-requires-clause-room c =
     (current_room c.args.self.now c.self.inside.current c.self.inside.used c.self.inside.left

@@ -1,5 +1,5 @@
-use Rattle.hd_heap.proofs.Basics.{Heap, IsRemoved, arith, subst, sym, ◌-◌}
-use Rattle.hd_heap.proofs.{RegionReads.closed, RegionReads.left_read, RegionReads.opened, RegionReads.index_within, RegionReads.found_read, RegionChanges.object_removed, RegionChanges.removed_cards, RegionChanges.counted}
+use Rattle.hd_heap.proofs.Basics.{Heap, IsRemoved, arith, subst, sym, ◌-◌, ◌∙◌}
+use Rattle.hd_heap.proofs.{GenerationSums.older_removed, RegionReads.closed, RegionReads.left_read, RegionReads.opened, RegionReads.index_within, RegionReads.found_read, RegionReads.object_of, RegionChanges.object_removed, RegionChanges.removed_cards, RegionChanges.counted}
 use Rattle.hd_heap.proofs.HeapLeft.{left_fewer}
 use Rattle.hd_heap.proofs.heap.Heap.remove.Goals as goal
 
@@ -36,6 +36,9 @@ invariant_of-self c =
     (left_fewer c.args.self.now c.self.inside.current c.self.inside.used c.self.inside.left
     (c.self.inside.used - c.remove-cells.result)
     (left_read c.self.inside c.self.view_is c.self.invariant.3) (omega arith))
+    (older_removed f.located.index _ f.located.area f.located.held f.object taken
+    (c.generation-generation.ensures.value ∙ (object_of c.args.at f).generation) c.size.ensures c.take.ensures
+    c.self.invariant.4)
 
 pub returns : goal.returns
 returns c =

@@ -1,5 +1,5 @@
 use Rattle.hd_heap.proofs.Basics.{REGION, ap, arith, contents, deque_capacity, forwarded, object_at, placed_at, region_forwarded, set, sym, true, with_object, ◌%◌, ◌∙◌, ◌≡◌, ◌≢◌}
-use Rattle.hd_heap.proofs.{RegionReads.closed, RegionReads.left_read, RegionReads.opened, RegionReads.index_within, RegionReads.found_read, RegionReads.object_of, RegionReads.IsHeap, RegionReads.noted, RegionWrites.object_written, FieldForward.field_of, FieldForward.forwarded_placed, HeapNotes.noted_written}
+use Rattle.hd_heap.proofs.{GenerationSums.older_written, RegionReads.closed, RegionReads.left_read, RegionReads.opened, RegionReads.index_within, RegionReads.found_read, RegionReads.object_of, RegionReads.IsHeap, RegionReads.noted, RegionWrites.object_written, FieldForward.field_of, FieldForward.forwarded_placed, HeapNotes.noted_written}
 use Rattle.hd_heap.proofs.heap.Heap.rewrite_fields.Given.{Over}
 use Rattle.hd_heap.proofs.heap.Heap.rewrite_fields.Goals.{After-forward_fields}
 use Rattle.hd_heap.proofs.heap.Heap.rewrite_fields.Goals as goal
@@ -45,8 +45,12 @@ written g c =
     (λ off. (noted heap).flags.registrations off c.args.at c.requires.object) c.args.at)
 
 pub invariant_of-self : goal.invariant_of-self
-invariant_of-self g c = closed (written g ((goal.at.invariant_of-self g c).After-forward_fields))
+invariant_of-self g c =
+    let f = found_read (opened c.self.inside c.self.view_is c.self.invariant) c.args.at c.requires.object
+    c.index_of.ensures c.index_mut.ensures.value in
+    closed (written g ((goal.at.invariant_of-self g c).After-forward_fields))
     (left_read c.self.inside c.self.view_is c.self.invariant.3)
+    (older_written f.located.index _ _ _ c.forward_fields.ensures.written c.self.invariant.4)
 
 pub returns : goal.returns
 returns g c = (written g ((goal.at.returns g c).After-forward_fields)).view

@@ -23,6 +23,7 @@ invariant_of-self c = (
         c.left_in_fresh-self-inside.ensures.limit,
         ap (λ (h : Heap). h.limit) (c.self.view_is ∙ c.fresh-region.ensures.held),
       ))),
+  c.self.invariant.4,
 )
 
 pub returns-clause-ok : goal.returns-clause-ok

@@ -1,5 +1,5 @@
 use Rattle.hd_heap.proofs.Basics.{Bool, HasPart, Placed, REGION, ap, arith, contents, deque_capacity, false, object_at, or_parts, placed_at, region_with_part, registers, set, subst, sym, with_object, with_part, ◌%◌, ◌||◌, ◌∙◌, ◌≡◌}
-use Rattle.hd_heap.proofs.{RegionReads.closed, RegionReads.left_read, RegionReads.opened, RegionReads.index_within, RegionReads.found_read, RegionReads.IsHeap, RegionReads.noted, RegionWrites.object_written, RegionWrites.part_placed, RegionWrites.part_within, HeapNotes.noted_written, HeapNotes.part_noted}
+use Rattle.hd_heap.proofs.{GenerationSums.older_written, RegionReads.closed, RegionReads.left_read, RegionReads.opened, RegionReads.index_within, RegionReads.found_read, RegionReads.IsHeap, RegionReads.noted, RegionWrites.object_written, RegionWrites.part_placed, RegionWrites.part_within, HeapNotes.noted_written, HeapNotes.part_noted}
 use Rattle.hd_heap.proofs.heap.Heap.write.Goals.{After-write}
 use Rattle.hd_heap.proofs.heap.Heap.write.Goals as goal
 
@@ -40,8 +40,12 @@ written c =
     (λ none. (noted heap).flags.registrations none c.args.at c.requires.object)) c.args.at)
 
 pub invariant_of-self : goal.invariant_of-self
-invariant_of-self c = closed (written ((goal.at.invariant_of-self c).After-write))
+invariant_of-self c =
+    let f = found_read (opened c.self.inside c.self.view_is c.self.invariant) c.args.at c.requires.object
+    c.index_of.ensures c.index_mut.ensures.value in
+    closed (written ((goal.at.invariant_of-self c).After-write))
     (left_read c.self.inside c.self.view_is c.self.invariant.3)
+    (older_written f.located.index _ _ _ c.write.ensures.written c.self.invariant.4)
 
 pub returns : goal.returns
 returns c = (written ((goal.at.returns c).After-write)).view
