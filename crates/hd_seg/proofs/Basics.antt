@@ -29,5 +29,5 @@ pub use Rattle.hd_seg.specs.Row.{block_kind_of, extra_from, handle_of, row_of}
 pub use Rattle.hd_seg.specs.declared.block.Block.{Block}
 pub use Rattle.hd_model.specs.declared.handle.Extra.{Extra}
 pub use Rattle.hd_seg.specs.declared.row.Row.{Row}
-pub use Rattle.hd_model.specs.declared.limits.TheConstants.{BLOCKS, CLUMP, CLUMPS, KINDS, ROWS}
+pub use Rattle.hd_model.specs.declared.limits.TheConstants.{HOST_BLOCKS, CLUMP, CLUMPS, KINDS, ROWS}
 pub use Rattle.hd_tiers.specs.Sets.{HasNoneFrom, IsLeastFrom, NumberSet}

@@ -1,6 +1,6 @@
 -- A block comes into use: for handles, at the end of a chain, or for the extras of another block's rows.
-use Rattle.hd_seg.proofs.Basics.{BLOCKS, Block, BlockUse, Contains, Contains-append_left, Contains-push, IsBlocks, IsLeastWithout, IsLinked, IsListed, IsSome, KINDS, Kind, List, ListsUnused, None, NumberSet, Option, Some, Uses, [], ap, arith, block_at, cases_eq, cases_lt, empty, empty_table, extra_data, extras_at, few_kinds, get_or, get_or-set_other, get_or-set_same, get_or_append_left, get_or_push, handles_of, inl, inr, insert, is_some, kind_number, len, len-empty, length, length-replicate, length-set, length_push, mapped, nat_cmp, refl, replicate, set, subst, suc, sum_by, sum_by-set, sym, use_at, use_of, uses_in, with_block, with_data, zero, ℕ, ◌++◌, ◌+◌, ◌<◌, ◌∙◌, ◌∷◌, ◌≡◌, ◌≢◌, ◌≤◌}
-use Rattle.hd_seg.proofs.FunctionMaps.{mapped-insert, mapped-same, mapped-empty, len-insert_new}
+use Rattle.hd_seg.proofs.Basics.{HOST_BLOCKS, Block, BlockUse, Contains, Contains-append_left, Contains-push, IsBlocks, IsLeastWithout, IsLinked, IsListed, IsSome, KINDS, Kind, List, ListsUnused, None, NumberSet, Option, Some, Uses, [], ap, arith, block_at, cases_eq, cases_lt, empty, empty_table, extra_data, extras_at, false≢true, few_kinds, get_or, get_or-set_other, get_or-set_same, get_or_append_left, get_or_push, handles_of, has_handles, inl, inr, insert, is_some, kind_number, len, len-empty, length, length-replicate, length-set, length_push, mapped, nat_cmp, refl, replicate, set, subst, suc, sum_by, sum_by-set, sym, true, use_at, use_of, uses_in, with_block, with_data, zero, ℕ, ◌++◌, ◌+◌, ◌<◌, ◌∙◌, ◌∷◌, ◌≡◌, ◌≢◌, ◌≤◌}
+use Rattle.hd_seg.proofs.FunctionMaps.{mapped-insert, mapped-same, mapped-empty, len-insert_le, len-insert_new}
 use Rattle.hd_seg.proofs.ChainLinks.{none_is_some, some_of, use_is, one_kind, listed_like, found_in, linked_by, linked_with}
 use Rattle.hd_seg.proofs.UnusedBlocks.{into_use}
 use Rattle.std.specs.FinSet.{remove}
@@ -50,7 +50,7 @@ module _ {number given : ℕ} {table : List Block} {chains : List (List ℕ)}
       mapped-same 1 number (extras_at table) (extras_at with_rows) (λ q first last.
       elim (cases_eq q b) [
         | inl same ↦ ap (extras_at with_rows) same ∙ ap (λ (x : Block). x.extras) here
-            ∙ sym (ap (extras_at table) same ∙ inv.plain b unused)
+            ∙ sym (ap (extras_at table) same ∙ inv.plain b (ap has_handles unused))
         | inr apart ↦ ap (λ (x : Block). x.extras) (there q apart)
       ])
 
@@ -109,14 +109,15 @@ module _ {number given : ℕ} {table : List Block} {chains : List (List ℕ)}
     spare = (let known =
         sum_by-set length chains (kind_number k) (chain ++ b ∷ []) []
         (omega (arith, few_kinds k, inv.linked.kinds)) in
-        omega (arith, ap (sum_by length) chains_are, known, length_push chain b, inv.spare));
+        omega (arith, ap (sum_by length) chains_are, known, length_push chain b, inv.spare, ap len extras-add));
     linked = subst (λ xs. IsLinked number with_rows xs) chains_are
         (linked_with inv.linked k (chain ++ b ∷ []) listed_here found_here (λ j q i other. kept j q i)
         use_was);
     plain = λ q none.
-        let away = there q (λ same. none_is_some _ (sym (ap (use_at with_rows) same) ∙ none)
-        (some_of _ _ use_here)) in
-        ap (λ (x : Block). x.extras) away ∙ inv.plain q (sym (ap (λ (x : Block). use_of x.kind) away) ∙ none);
+        let away = there q (λ same. false≢true
+        (sym none ∙ ap has_handles (ap (use_at with_rows) same ∙ use_here))) in
+        ap (λ (x : Block). x.extras) away
+        ∙ inv.plain q (sym (ap (λ (x : Block). has_handles (use_of x.kind)) away) ∙ none);
   }
 
   pub unused-add : {free after : NumberSet} → ListsUnused number table free
@@ -152,7 +153,7 @@ least_is inv is from b one low within unused least =
 module _ {number given : ℕ} {table : List Block} {chains : List (List ℕ)}
     (inv : IsBlocks number given table chains)
     (a d : ℕ) (low : 1 ≤ a) (below : a < d) (within : d < length table) (unused : use_at table d ≡ None)
-    (taken : IsSome (use_at table a))
+    (taken : has_handles (use_at table a) ≡ true)
     {of at : Block} (of_is : of ≡ block_at table a)
     (at_is : at ≡ block_at (set table a (record { kind = of.kind; index = of.index; extras = Some d })) d)
   where
@@ -247,15 +248,18 @@ module _ {number given : ℕ} {table : List Block} {chains : List (List ℕ)}
           len-insert_new (mapped 1 number (use_at table)) d extra_data
           (use_is inv d (omega arith) (omega (arith, within, inv.size)) ∙ unused) in
           omega (arith, ap len uses-data, known, inv.counted));
-      spare = omega (arith, inv.spare);
+      spare = (let known = len-insert_le (mapped 1 number (extras_at table)) a d in
+          omega (arith, inv.spare, ap len extras-data, known));
       linked = linked_by inv.linked.kinds (λ k i lt. kept_both k _ i (inv.linked.listed k i lt))
           (λ k q first last is. found_in inv.linked k q first last (rows_before k q is));
       plain = λ q none.
-          let apart : q ≢ d = λ same. none_is_some _ (sym (ap (use_at with_both) same) ∙ none)
-          (some_of _ _ use_d) in
-          let nothing : use_at table q ≡ None = sym (use_other q apart) ∙ none in
-          let not_a : q ≢ a = λ same. none_is_some _ (ap (use_at table) (sym same) ∙ nothing) taken in
-          extras_other q not_a ∙ inv.plain q nothing;
+          let not_a : q ≢ a = λ same. false≢true (sym none ∙ ap (λ r. has_handles (use_at with_both r)) same
+          ∙ ap has_handles (use_other a (λ other. omega arith)) ∙ taken) in
+          extras_other q not_a
+          ∙ inv.plain q (elim (cases_eq q d) [
+            | inl same ↦ ap (λ r. has_handles (use_at table r)) same ∙ ap has_handles unused
+            | inr apart ↦ ap has_handles (sym (use_other q apart)) ∙ none
+          ]);
     }
 
     pub unused-with_data : {free after : NumberSet} → ListsUnused number table free
@@ -301,14 +305,14 @@ module _ (number : ℕ) where
   extras-none : mapped 1 number (extras_at unused_blocks) ≡ empty
   extras-none = mapped-empty 1 number (extras_at unused_blocks) (λ q low high. no_extras q)
 
-  pub blocks-none : number ≤ BLOCKS
+  pub blocks-none : number ≤ HOST_BLOCKS
       → IsBlocks number 0 (replicate (number + 1) (record { kind = block.Unused; index = 0; extras = None }))
       (replicate KINDS [])
   blocks-none few = record {
     limit = few;
     size = length-replicate (number + 1) (record { kind = block.Unused; index = 0; extras = None });
     counted = sym (ap len uses-none ∙ len-empty nat_cmp BlockUse);
-    spare = omega arith;
+    spare = omega (arith, ap len extras-none, len-empty nat_cmp ℕ);
     linked = linked_by refl (λ k i lt. absurd (omega (arith, lt, ap length (no_chain KINDS (kind_number k)))))
         (λ k q low high is. absurd (none_is_some _ (no_use q) (some_of _ _ is)));
     plain = λ q none. no_extras q;

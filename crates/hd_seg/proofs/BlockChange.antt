@@ -1,8 +1,9 @@
 -- Rows are unchanged where a block comes into use or is taken back.
-use Rattle.hd_seg.proofs.Basics.{BlockUse, IsPaired, IsSeg, IsTable, Kind, None, Option, ROWS, Some, Table, Uses, Vectors, ap, arith, cases_eq, cond, extra_at, extra_data, extra_index, false, get, get_beside, get_left, handles_of, has_handles, inl, inr, insert, is_paired, is_single, is_some, kind_in, len, live_bit, mapped, not-true, extra_index_in, refl, row_by, row_in, same_Some, sym, table_in, target_at, true, true≢false, with_block, with_data, without_block, ℕ, ◌%◌, ◌*◌, ◌/◌, ◌∙◌, ◌≡◌, ◌≢◌, ◌≤◌}
+use Rattle.hd_seg.proofs.Basics.{BlockUse, IsPaired, IsSeg, IsSome, IsTable, Kind, None, Option, ROWS, Some, Table, Uses, Vectors, ap, arith, cases_eq, cond, extra_at, extra_data, extra_index, false, get, get_beside, get_left, handles_of, has_handles, inl, inr, insert, is_paired, is_single, is_some, kind_in, len, live_bit, mapped, not-true, extra_index_in, refl, remove, subst, row_by, row_in, same_Some, sym, table_in, target_at, true, true≢false, with_block, with_data, without_block, ℕ, ◌%◌, ◌*◌, ◌/◌, ◌∙◌, ◌≡◌, ◌≢◌, ◌≤◌}
 use Rattle.hd_seg.proofs.FunctionMaps.{mapped-same, get-insert_same, get-remove_same}
 use Rattle.hd_seg.proofs.ChainLinks.{none_is_some, some_of, one_kind}
-use Rattle.hd_seg.proofs.{BlockAdd.extras_apart, RowVectors.bit_is, RowVectors.row-clear, RowVectors.row-unused}
+use Rattle.hd_seg.proofs.{BlockAdd.extras_apart, RowVectors.bit_is, RowVectors.row-clear, RowVectors.row-extras, RowVectors.row-unused, RowVectors.row_is}
+use Rattle.hd_seg.specs.Pairs.{is_pair, without_data}
 
 -- a use is not nothing
 unused_apart : (o : Option BlockUse) (k : BlockUse) → o ≡ None → o ≡ Some k → ⊥
@@ -233,9 +234,154 @@ module _ {u : Uses} {v : Vectors} {live : ℕ} (inv : IsSeg u v live) where
         ap (λ m. let s : Table = record (without_block u.table k b) { rows = m } in s)
         (rows-same back refl back_rows) ∙ ap (λ s. without_block s k b) is
 
+    -- ---- and its data block
+    module _ (d : ℕ) (has : get u.extras b ≡ Some d) where
+      abbrev pub back_pair : Uses
+      back_pair = record { table = without_block (without_data u.table d) k b; extras = remove u.extras b }
+
+      pub pair_data : get u.table.uses d ≡ Some extra_data
+      pair_data = inv.paired.used b d has
+
+      pub pair_apart : b ≢ d
+      pair_apart same = extras_apart _ k pair_data (ap (get u.table.uses) (sym same) ∙ in_use)
+
+      pair_none : (q : ℕ) → q ≡ b → get back_pair.table.uses q ≡ None
+      pair_none q same = get-remove_same (remove u.table.uses d) b q same
+
+      pair_gone : (q : ℕ) → q ≡ d → get back_pair.table.uses q ≡ None
+      pair_gone q same =
+          get_left (remove u.table.uses d) b q (λ other. pair_apart (sym other ∙ same))
+          ∙ get-remove_same u.table.uses d q same
+
+      pair_use : (q : ℕ) → q ≢ b → q ≢ d → get back_pair.table.uses q ≡ get u.table.uses q
+      pair_use q not_b not_d = get_left (remove u.table.uses d) b q not_b ∙ get_left u.table.uses d q not_d
+
+      data_of : (q : ℕ) → q ≡ d → get u.table.uses q ≡ Some extra_data
+      data_of q same = ap (get u.table.uses) same ∙ pair_data
+
+      pair_index : (q : ℕ) → q / ROWS ≢ b → extra_index back_pair q ≡ extra_index u q
+      pair_index q not_b = ap (λ o. extra_index_in o (q % ROWS)) (get_left u.extras b (q / ROWS) not_b)
+
+      pair_rows : (q : ℕ) → row_in back_pair v q ≡ row_in u v q
+      pair_rows q =
+          elim (cases_eq (q / ROWS) b) [
+            | inl same ↦ row-unused _ (live_bit v.masks q) _ _ (pair_none (q / ROWS) same) ∙ sym (vacant q same)
+            | inr not_b ↦ elim (cases_eq (q / ROWS) d) [
+              | inl same ↦ row-unused _ (live_bit v.masks q) _ _ (pair_gone (q / ROWS) same)
+                  ∙ sym (row-extras _ (live_bit v.masks q) _ _ (data_of (q / ROWS) same))
+              | inr not_d ↦ λ i. row_by (pair_use (q / ROWS) not_b not_d i) (live_bit v.masks q)
+                  (target_at v.targets q) (extra_at v.extras (pair_index q not_b i))
+            ]
+          ]
+
+      pair_placed : (q : ℕ) → has_handles (get back_pair.table.uses (q / ROWS)) ≡ false
+          → live_bit v.masks q ≡ 0
+      pair_placed q none =
+          elim (cases_eq (q / ROWS) b) [
+            | inl same ↦ bit_is inv q ∙ ap (λ o. let n : ℕ = cond (is_some o) 1 0 in n) (vacant q same)
+            | inr not_b ↦ elim (cases_eq (q / ROWS) d) [
+              | inl same ↦ inv.placed q (ap has_handles (data_of (q / ROWS) same))
+              | inr not_d ↦ inv.placed q (ap has_handles (sym (pair_use (q / ROWS) not_b not_d)) ∙ none)
+            ]
+          ]
+
+      -- another block has the data block that it had
+      left_b : (q e : ℕ) → get back_pair.extras q ≡ Some e → q ≢ b
+      left_b q e is same = none_is_some _ (get-remove_same u.extras b q same) (some_of _ _ is)
+
+      left_data : (q e : ℕ) → get back_pair.extras q ≡ Some e → get u.extras q ≡ Some e
+      left_data q e is = sym (get_left u.extras b q (left_b q e is)) ∙ is
+
+      pair_paired : IsPaired back_pair
+      pair_paired = record {
+        paired = λ q j is.
+            let not_b : q ≢ b = λ same. unused_apart _ (handles_of j) (pair_none q same) is in
+            let not_d : q ≢ d = λ same. unused_apart _ (handles_of j) (pair_gone q same) is in
+            ap is_some (get_left u.extras b q not_b)
+            ∙ inv.paired.paired q j (sym (pair_use q not_b not_d) ∙ is);
+        used = λ q e is.
+            let old : get u.extras q ≡ Some e = left_data q e is in
+            let was : get u.table.uses e ≡ Some extra_data = inv.paired.used q e old in
+            pair_use e (λ same. extras_apart _ k was (ap (get u.table.uses) same ∙ in_use))
+            (λ same. left_b q e is (inv.paired.apart q b d (old ∙ ap Some same) has)) ∙ was;
+        within = λ q e is. inv.paired.within q e (left_data q e is);
+        apart = λ q r e is is'. inv.paired.apart q r e (left_data q e is) (left_data r e is');
+      }
+
+      pub pair-seg : IsTable (without_block (without_data u.table d) k b) → IsSeg back_pair v live
+      pair-seg table = seg-same back_pair refl pair_rows table pair_placed pair_paired
+
+      pub pair-view : {t : Table} → table_in u v ≡ t
+          → table_in back_pair v ≡ without_block (without_data t d) k b
+      pair-view is =
+          ap (λ m. let s : Table = record (without_block (without_data u.table d) k b) { rows = m } in s)
+          (rows-same back_pair refl pair_rows) ∙ ap (λ s. without_block (without_data s d) k b) is
+
 -- a block that can be taken back has handles of a kind without extras
 pub single_in : (o : Option BlockUse) → is_single o ≡ true → (o ≡ Some (handles_of (kind_in o)))
     × (is_paired (kind_in o) ≡ false)
 single_in None is = absurd (true≢false (sym is))
 single_in (Some extra_data) is = absurd (true≢false (sym is))
 single_in (Some (handles_of k)) is = (refl, not-true (is_paired k) is)
+
+pub pair_in : (o : Option BlockUse) → is_pair o ≡ true → (o ≡ Some (handles_of (kind_in o)))
+    × (is_paired (kind_in o) ≡ true)
+pair_in None is = absurd (true≢false (sym is))
+pair_in (Some extra_data) is = absurd (true≢false (sym is))
+pair_in (Some (handles_of k)) is = (refl, is)
+
+-- a block of handles with extra data, as the table's value has it, is taken back with its data block
+module _ {u : Uses} {v : Vectors} {live : ℕ} (inv : IsSeg u v live) {t : Table} (view : table_in u v ≡ t) (b : ℕ)
+    (pair : is_pair (get t.uses b) ≡ true)
+    (free : (slot : ℕ) → slot / ROWS ≡ b → get t.rows slot ≡ None) where
+  it : (get u.table.uses b ≡ Some (handles_of (kind_in (get u.table.uses b))))
+      × (is_paired (kind_in (get u.table.uses b)) ≡ true)
+  it = pair_in (get u.table.uses b) (ap (λ (x : Table). is_pair (get x.uses b)) view ∙ pair)
+
+  abbrev kind : Kind
+  kind = kind_in (get u.table.uses b)
+
+  no_row : (q : ℕ) → q / ROWS ≡ b → row_in u v q ≡ None
+  no_row q is = sym (row_is inv q) ∙ ap (λ (x : Table). get x.rows q) view ∙ free q is
+
+  pub has_data : IsSome (get u.extras b)
+  has_data = inv.paired.paired b kind it.0 ∙ it.1
+
+  module _ (d : ℕ) (has : get u.extras b ≡ Some d) where
+    pub data_use : get t.uses d ≡ Some extra_data
+    data_use = sym (ap (λ (x : Table). get x.uses d) view) ∙ inv.paired.used b d has
+
+    -- the block without its data block
+    still : get (remove u.table.uses d) b ≡ get u.table.uses b
+    still = get_left u.table.uses d b (pair_apart inv b kind it.0 no_row d has)
+
+    module _ {mid : Uses} (first : mid ≡ record { table = without_data u.table d; extras = remove u.extras b })
+      where
+        pub still_handles : has_handles (get mid.table.uses b) ≡ true
+        still_handles = ap (λ (w : Uses). has_handles (get w.table.uses b)) first
+            ∙ ap has_handles (still ∙ it.0)
+
+        pub no_data : get mid.extras b ≡ None
+        no_data = ap (λ (w : Uses). get w.extras b) first ∙ get-remove_same u.extras b b refl
+
+        module _ {new : Uses} (second : new ≡
+            record mid { table = without_block mid.table (kind_in (get mid.table.uses b)) b }) where
+          both : new ≡ back_pair inv b kind it.0 no_row d has
+          both =
+              let left = remove u.extras b in
+              let without = without_data u.table d in
+              second
+              ∙ ap (λ (w : Uses). record w { table = without_block w.table (kind_in (get w.table.uses b)) b }) first
+              ∙ ap (λ k. let w : Uses = record { table = without_block without k b; extras = left } in w)
+              (ap kind_in still)
+
+          pub back_both : IsTable new.table → IsSeg new v live
+          back_both table =
+              subst (λ w. IsSeg w v live) (sym both)
+              (pair-seg inv b kind it.0 no_row d has (subst (λ (w : Uses). IsTable w.table) both table))
+
+          pub view_both : table_in new v ≡ without_block (without_data t d) (kind_in (get t.uses b)) b
+          view_both =
+              ap (λ w. table_in w v) both ∙ pair-view inv b kind it.0 no_row d has view
+              ∙ ap (λ k. without_block (without_data t d) k b)
+              (ap (λ (x : Table). kind_in (get x.uses b)) view)

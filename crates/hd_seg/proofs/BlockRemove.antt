@@ -1,5 +1,5 @@
 -- A block is taken from its kind: its chain closes up, and the blocks after it get new chain indices.
-use Rattle.hd_seg.proofs.Basics.{BLOCKS, Block, Bool, Contains, IsBlocks, IsListed, Kind, List, ListsUnused, None, NumberSet, Some, Uses, [], ap, arith, block_at, cases_eq, cases_lt, cases_order, chain_of, cond, drop, empty, eq-eqb, extras_at, false, few_kinds, filter, get, get_or, get_or-drop, get_or-set_other, get_or_default, get_or_from_slice_get, handles_of, inl, inr, is_some, kind_number, len, len-remove, length, length-drop, length-set, mapped, nat_cmp_total, ne_eqb, not, numbered, refl, remove, set, slice_get, slice_get_within, subst, suc, sum_by-set, sym, take, take_at, true, use_at, use_of, uses_in, without_block, zero, ℕ, ◌++◌, ◌+◌, ◌-◌, ◌<◌, ◌==◌, ◌∙◌, ◌∷◌, ◌≡◌, ◌≢◌, ◌≤◌}
+use Rattle.hd_seg.proofs.Basics.{HOST_BLOCKS, Block, Bool, Contains, IsBlocks, IsListed, Kind, List, ListsUnused, None, NumberSet, Some, Uses, [], ap, arith, block_at, cases_eq, cases_lt, cases_order, chain_of, cond, drop, empty, eq-eqb, extras_at, false, few_kinds, filter, get, get_or, get_or-drop, get_or-set_other, get_or_default, get_or_from_slice_get, handles_of, has_handles, inl, inr, is_some, kind_number, len, len-remove, length, length-drop, length-set, mapped, nat_cmp_total, ne_eqb, not, numbered, refl, remove, set, slice_get, slice_get_within, subst, suc, sum_by-set, sym, take, take_at, true, use_at, use_of, uses_in, without_block, zero, ℕ, ◌++◌, ◌+◌, ◌-◌, ◌<◌, ◌==◌, ◌∙◌, ◌∷◌, ◌≡◌, ◌≢◌, ◌≤◌}
 use Rattle.std.proofs.lemmas.List.Edits.{length-remove, get_or-remove_below, get_or-remove_above}
 use Rattle.hd_seg.proofs.FunctionMaps.{mapped-remove, mapped-same, len-mapped_le}
 use Rattle.hd_seg.proofs.ChainLinks.{none_is_some, some_of, use_is, extras_is, one_kind, listed_like, found_in, linked_with, apart, chain_short}
@@ -301,13 +301,13 @@ module _ {number given : ℕ} {table : List Block} {chains : List (List ℕ)}
             spare = (let known =
                 sum_by-set length chains (kind_number k) short []
                 (omega (arith, few_kinds k, inv.linked.kinds)) in
-                omega (arith, known, length-short, inv.spare));
+                omega (arith, known, length-short, inv.spare, ap len extras-gone));
             linked = linked_with inv.linked k short listed_here found_here kept
                 (λ j q now other. (was j q now).1);
             plain = λ q none. extras_now q
                 ∙ elim (cases_eq q b) [
                   | inl same ↦ ap (extras_at table) same ∙ plain
-                  | inr away ↦ inv.plain q (sym (use_other q away) ∙ none)
+                  | inr away ↦ inv.plain q (ap has_handles (sym (use_other q away)) ∙ none)
                 ];
           }))
 
@@ -337,7 +337,7 @@ module _ {number given : ℕ} {table : List Block} {chains : List (List ℕ)}
   pub short_fits : (i : ℕ) → i < length short → get_or short i 0 < length table
   short_fits i lt = omega (arith, (listed_here i lt).high, inv.size)
 
-  pub short_few : length short ≤ BLOCKS
+  pub short_few : length short ≤ HOST_BLOCKS
   short_few =
       let known = len-mapped_le 1 number (use_at table) in
       omega (arith, length-short, chain_short inv k, inv.counted, known, inv.limit)

@@ -1,5 +1,5 @@
 -- Blocks and chains: what their fields mean for the table without its rows.
-use Rattle.hd_seg.proofs.Basics.{Addr, All, All-set, AllPairs, BLOCKS, Block, BlockUse, Contains, Global, Handle, HasUnused, IsBlocks, IsLinked, IsListed, IsSome, IsTable, Kind, List, None, Option, Some, Uses, Vec, [], ap, arith, block_at, block_kind_of, cases_eq, chain_of, extra_data, extras_at, few_kinds, get, get-empty, get_or, get_or-map, get_or-set_other, get_or-set_same, get_or_at, get_or_default, get_or_from_slice_get, get_or_read, handles_of, has_handles, inl, inr, is_some, kind_at, kind_in, kind_number, len, len-empty, length, length-append, length-map, length-set, map, map-set, mapped, nat_cmp, option_copied, refl, same_number, set, slice_get, slice_get-get_or, slice_get_past, slice_get_read, slice_get_within, subst, suc, sum_by-set, sym, true, true≢false, use_at, use_of, uses_in, vec_capacity, ℕ, ◌++◌, ◌+◌, ◌<◌, ◌∙◌, ◌∷◌, ◌≡◌, ◌≢◌, ◌≤◌}
+use Rattle.hd_seg.proofs.Basics.{Addr, All, All-set, AllPairs, HOST_BLOCKS, Block, BlockUse, Contains, Global, Handle, HasUnused, IsBlocks, IsLinked, IsListed, IsSome, IsTable, Kind, List, None, Option, Some, Uses, Vec, [], ap, arith, block_at, block_kind_of, cases_eq, chain_of, extra_data, extras_at, few_kinds, get, get-empty, get_or, get_or-map, get_or-set_other, get_or-set_same, get_or_at, get_or_default, get_or_from_slice_get, get_or_read, handles_of, has_handles, inl, inr, is_some, kind_at, kind_in, kind_number, len, len-empty, length, length-append, length-map, length-set, map, map-set, mapped, nat_cmp, option_copied, refl, same_number, set, slice_get, slice_get-get_or, slice_get_past, slice_get_read, slice_get_within, subst, suc, sum_by-set, sym, true, true≢false, use_at, use_of, uses_in, vec_capacity, ℕ, ◌++◌, ◌+◌, ◌<◌, ◌∙◌, ◌∷◌, ◌≡◌, ◌≢◌, ◌≤◌}
 use Rattle.std.specs.{Borrow.Bor, Slice.IsItemAt}
 use Rattle.hd_seg.specs.declared.row.BlockKind.{BlockKind}
 use Rattle.hd_seg.proofs.FunctionMaps.{get-mapped, within, len-mapped_le, unmapped}
@@ -232,7 +232,7 @@ module _ {number given : ℕ} {table : List Block} {chains : List (List ℕ)}
         ∙ slice_get-get_or _ (block_at table b).index 0 listed_in
         ∙ ap Some (inv.linked.indexed (kind_at u.table b) b at_block.0 at_block.1 at_block.2)
 
-    pub read_small : x.index < BLOCKS
+    pub read_small : x.index < HOST_BLOCKS
     read_small =
         let known = ap (λ (y : Block). y.index) is_read in
         let also = len-mapped_le 1 number (use_at table) in

@@ -173,3 +173,11 @@ pub len-insert_new : {A : Type 0} (m : FinMap nat_cmp A) (k : ℕ) (x : A) → g
     → len (insert m k x) ≡ len m + 1
 len-insert_new m k x none = len-insert nat_cmp_total m k x
     ∙ ap (λ o. cond (is_some o) (len m) (len m + 1)) none
+
+-- and one that may be new at most one more
+pub len-insert_le : {A : Type 0} (m : FinMap nat_cmp A) (k : ℕ) (x : A) → len (insert m k x) ≤ len m + 1
+len-insert_le m k x = by (is_some (get m k)) (len-insert nat_cmp_total m k x)
+  where
+    by : (there : Bool) → len (insert m k x) ≡ cond there (len m) (len m + 1) → len (insert m k x) ≤ len m + 1
+    by true is = omega (arith, is)
+    by false is = omega (arith, is)

@@ -4,6 +4,7 @@ pub mod ChainLinks
 pub mod UnusedBlocks
 pub mod BlockAdd
 pub mod BlockRemove
+pub mod DataRemove
 pub mod RowVectors
 pub mod SegVectors
 pub mod RowChange

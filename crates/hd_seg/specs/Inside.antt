@@ -4,7 +4,7 @@ use Rattle.std.specs.FinMap.{len, get}
 use Rattle.std.specs.FinSet.{FinSet, contains}
 use Rattle.std.specs.Ordering.{nat_cmp}
 use Rattle.hd_model.specs.{declared.data.Kind.Kind, Kinds.kind_number, Kinds.is_paired, declared.data.Addr.Addr}
-use Rattle.hd_model.specs.declared.limits.TheConstants.{BLOCKS, KINDS, ROWS}
+use Rattle.hd_model.specs.declared.limits.TheConstants.{HOST_BLOCKS, KINDS, ROWS}
 use Rattle.hd_model.specs.State.{handles_of, Handle, extra_data}
 use Rattle.hd_model.specs.Table.{IsTable, fits, has_handles}
 use Rattle.hd_model.specs.declared.handle.Extra.{Extra}
@@ -58,14 +58,15 @@ pub record IsLinked (number : ℕ) (table : List Block) (chains : List (List ℕ
   pub listed : (k : Kind) (i : ℕ) → i < length (slice_index_or chains (kind_number k) [])
       → IsListed number table k (slice_index (slice_index_or chains (kind_number k) []) i) i
 
--- what is always true of the blocks; an unused block has no data block
+-- what is always true of the blocks; what is in no chain has no data block, and chains and data blocks together
+-- have no more blocks than are in use
 pub record IsBlocks (number given : ℕ) (table : List Block) (chains : List (List ℕ)) : Type 0 where
-  pub limit : number ≤ BLOCKS
+  pub limit : number ≤ HOST_BLOCKS
   pub size : length table ≡ number + 1
   pub counted : given ≡ len (mapped 1 number (use_at table))
-  pub spare : sum_by length chains ≤ given
+  pub spare : sum_by length chains + len (mapped 1 number (extras_at table)) ≤ given
   pub linked : IsLinked number table chains
-  pub plain : (b : ℕ) → use_at table b ≡ None → extras_at table b ≡ None
+  pub plain : (b : ℕ) → has_handles (use_at table b) ≡ false → extras_at table b ≡ None
 
 -- the blocks after those of a list got chain indices, the first of them index i
 abbrev pub numbered : ℕ → List ℕ → List Block → List Block

@@ -3,4 +3,5 @@ pub mod Mapped
 pub mod Blocks
 pub mod Rows
 pub mod Rewriting
+pub mod Pairs
 pub mod Inside

@@ -3,17 +3,19 @@
 ghost use Rattle.std.specs.Prelude.{◌≡◌, ℕ, ◌+◌, ◌<◌, ◌≤◌, ◌++◌, ◌∷◌, List, [], Some, None, All, true, IsSome};
 ghost use Rattle.std.specs.Prelude.{drop, length, map, replicate, slice_get, slice_index, vec_capacity};
 ghost use Rattle.std.specs.Prelude.{IfOk};
-ghost use Rattle.std.specs.FinMap.{get, insert, len, empty};
+ghost use Rattle.std.specs.FinMap.{get, insert, len, empty, remove};
 ghost use Rattle.hd_model.specs.Table.{empty_table, chain_of, has_handles, IsLeastWithout, kind_at};
 ghost use Rattle.hd_model.specs.Table.{with_block, with_data, without_block};
 ghost use Rattle.hd_model.specs.Table.{IsTable};
+ghost use Rattle.hd_model.specs.State.{extra_data};
 ghost use Rattle.hd_seg.specs.Row.{block_kind_of};
 ghost use Rattle.hd_seg.specs.Inside.{numbered};
+ghost use Rattle.hd_seg.specs.Pairs.{without_data};
 
 use crate::block::{Block, UNUSED};
 use crate::row::BlockKind;
 use crate::unused::{numbers_to, take_from};
-use hd_model::limits::{BLOCKS, KINDS};
+use hd_model::limits::{HOST_BLOCKS, KINDS};
 use hd_model::{Kind, Memory, filled};
 use hd_tiers::{Masks, Numbers, Tier};
 use std::alloc::{AllocError, Global};
@@ -61,7 +63,7 @@ fn empty_chains(alloc: Global, room: usize) -> Result<Vec<Vec<u32>>, AllocError>
 // Writes the chain index of each block of a chain, from index `from` on.
 fn renumber(table: &mut [Block], chain: &[u32], from: usize)
     requires blocks { (i : ℕ) → i < length chain.now → slice_index chain.now i < length table.old }
-    requires few { length chain.now ≤ BLOCKS }
+    requires few { length chain.now ≤ HOST_BLOCKS }
     ensures { table.new ≡ numbered from (drop from chain.now) table.old }
 {
     for index in from..chain.len() {
@@ -73,7 +75,7 @@ fn renumber(table: &mut [Block], chain: &[u32], from: usize)
 impl Blocks {
     /// `number` unused blocks.
     pub(crate) fn open(alloc: Global, number: u32) -> Result<Blocks, Memory>
-        requires { number ≤ BLOCKS }
+        requires { number ≤ HOST_BLOCKS }
         ensures none { IfOk result (λ uses.
             uses ≡ record { table = empty_table number; extras = empty }) }
         ensures table { IfOk result (λ uses. IsTable uses.table) }
@@ -151,6 +153,7 @@ impl Blocks {
     pub(crate) fn add_data(&mut self, block: u32) -> u32
         requires room { len self.old.table.uses < self.old.table.blocks }
         requires used { (b : ℕ) → 1 ≤ b → b ≤ block → IsSome (get self.old.table.uses b) }
+        requires handles { has_handles (get self.old.table.uses block) ≡ true }
         requires low { 1 ≤ block }
         requires high { block ≤ self.old.table.blocks }
         ensures least { IsLeastWithout self.old.table (block + 1) result }
@@ -166,6 +169,27 @@ impl Blocks {
         let extras = &mut self.table[data as usize];
         extras.kind = BlockKind::Extras;
         self.given += 1;
+        data
+    }
+
+    /// Takes the data block of a block of handles, which has one, out of use.
+    pub(crate) fn remove_data(&mut self, block: u32) -> u32
+        requires some { IsSome (get self.old.extras block) }
+        requires used { (d : ℕ) → get self.old.extras block ≡ Some d →
+            get self.old.table.uses d ≡ Some extra_data }
+        ensures was { get self.old.extras block ≡ Some result }
+        ensures after { self.new ≡ record {
+          table = without_data self.old.table result;
+          extras = remove self.old.extras block;
+        } }
+        ensures table { IsTable self.new.table }
+    {
+        let of = &mut self.table[block as usize];
+        let data = of.extras.unwrap();
+        of.extras = None;
+        self.table[data as usize] = UNUSED;
+        self.given -= 1;
+        self.unused.insert(data);
         data
     }
 
@@ -191,7 +215,7 @@ impl Blocks {
         requires { has_handles (get self.now.table.uses block) ≡ true }
         ensures kind { result.0 ≡ kind_at self.now.table block }
         ensures index { slice_get (chain_of self.now.table result.0) result.1 ≡ Some block }
-        ensures small { result.1 < BLOCKS }
+        ensures small { result.1 < HOST_BLOCKS }
     {
         let at = self.table[block as usize];
         match at.kind {

@@ -2,19 +2,20 @@ ghost use Rattle.std.specs.Prelude.{◌≡◌, ℕ, ◌+◌, ◌*◌, ◌/◌, �
 ghost use Rattle.std.specs.Prelude.{option_map, slice_get, IfOk, IfErr, OnOk, OnErr, IfSome, IsSome};
 ghost use Rattle.std.specs.FinMap.{get, len, contains_key};
 ghost use Rattle.std.specs.Int.{bit_at};
-ghost use Rattle.hd_model.specs.{Kinds.is_paired, State.block_of, State.handles_of, State.nothing};
+ghost use Rattle.hd_model.specs.{Kinds.is_paired, State.block_of, State.extra_data, State.handles_of, State.nothing};
 ghost use Rattle.hd_model.specs.Step.{blocks_needed};
 ghost use Rattle.hd_model.specs.Table.{IsTable, IsGrowth, chain_of, empty_table, fits, fits_in, grown_by};
 ghost use Rattle.hd_model.specs.Table.{has_handles, is_single, kind_at, live_at, with_row, without_row};
 ghost use Rattle.hd_model.specs.Table.{without_block};
 ghost use Rattle.hd_model.specs.Handles.{extra_of};
 ghost use Rattle.hd_seg.specs.Row.{handle_of, row_of, block_kind_of};
+ghost use Rattle.hd_seg.specs.Pairs.{is_pair, without_data};
 
 use crate::blocks::Blocks;
 use crate::row::{BlockKind, Full, Row};
 use crate::writes::{extra_in, extra_index, is_marked, write_extra};
 use hd_mask::bit;
-use hd_model::limits::{BLOCKS, CLUMP, CLUMPS, ROWS};
+use hd_model::limits::{CLUMP, CLUMPS, HOST_BLOCKS, ROWS};
 use hd_model::{Addr, Extra, Grown, Kind, Memory, Slot, filled};
 use std::alloc::Global;
 use std::marker::Model;
@@ -58,7 +59,7 @@ impl Model for Seg {
 impl Seg {
     /// A table of `blocks` unused blocks. All memory is taken here.
     pub fn open(alloc: Global, blocks: u32) -> Result<Seg, Memory>
-        requires { blocks ≤ BLOCKS }
+        requires { blocks ≤ HOST_BLOCKS }
         ensures { IfOk result (λ table. table ≡ empty_table blocks) }
     {
         let targets = filled(alloc, None, ROWS * (blocks + 1))?;
@@ -106,6 +107,20 @@ impl Seg {
         ensures { self.new ≡ without_block self.old (kind_at self.old block) block }
     {
         self.blocks.remove(block);
+    }
+
+    /// Takes a block without live rows from a kind with extra data, and its data block, which is
+    /// returned. Other blocks of the chain keep their order.
+    pub fn take_back_pair(&mut self, block: u32) -> u32
+        requires pair { is_pair (get self.old.uses block) ≡ true }
+        requires vacant { (slot : ℕ) → slot / ROWS ≡ block → get self.old.rows slot ≡ None }
+        ensures extra { get self.old.uses result ≡ Some extra_data }
+        ensures after { let kind = kind_at self.old block in
+            self.new ≡ without_block (without_data self.old result) kind block }
+    {
+        let data = self.blocks.remove_data(block);
+        self.blocks.remove(block);
+        data
     }
 
     /// What a block is used for.
@@ -247,6 +262,7 @@ impl Seg {
     }
 
     /// Gives a live row another target.
+    #[inline(always)]
     pub fn set_row(&mut self, slot: Slot, target: Option<Addr>)
         requires { IsSome (get self.old.rows slot.0) }
         ensures { let handle = live_at self.old slot.0 in

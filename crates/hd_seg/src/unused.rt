@@ -6,13 +6,13 @@ ghost use Rattle.hd_seg.specs.Inside.{HasFrom, HasNumbers};
 
 use hd_mask::BITS;
 use hd_model::Memory;
-use hd_model::limits::BLOCKS;
+use hd_model::limits::HOST_BLOCKS;
 use hd_tiers::{Masks, Numbers, Tier};
 use std::alloc::Global;
 
 /// The set of the numbers from 1 to `last`.
 pub(crate) fn numbers_to(alloc: Global, last: u32) -> Result<Tier<Masks>, Memory>
-    requires { last ≤ BLOCKS }
+    requires { last ≤ HOST_BLOCKS }
     ensures { IfOk result (λ s. HasNumbers last last s) }
 {
     let mut numbers = Tier::<Masks>::open(alloc, last / BITS + 1)?;

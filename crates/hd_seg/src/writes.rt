@@ -5,14 +5,15 @@ ghost use Rattle.hd_seg.specs.{Rows.extra_at, Rows.extra_index, Rows.live_bit, I
 
 use crate::blocks::Blocks;
 use hd_mask::bit;
-use hd_model::limits::{BLOCKS, ROWS};
+use hd_model::limits::{HOST_BLOCKS, ROWS};
 use hd_model::{Addr, Extra, Slot};
 
 /// The index of the extra of a slot's row, if its block has a data block.
+#[inline(always)]
 pub(crate) fn extra_index(blocks: &Blocks, slot: Slot) -> Option<usize>
     requires low { ROWS ≤ slot.0 }
     requires high { slot.0 < ROWS * (blocks.now.table.blocks + 1) }
-    requires small { (b d : ℕ) → get blocks.now.extras b ≡ Some d → d ≤ BLOCKS }
+    requires small { (b d : ℕ) → get blocks.now.extras b ≡ Some d → d ≤ HOST_BLOCKS }
     ensures { result ≡ extra_index blocks.now slot.0 }
 {
     let data = blocks.extras(slot.0 / ROWS)?;
@@ -21,7 +22,7 @@ pub(crate) fn extra_index(blocks: &Blocks, slot: Slot) -> Option<usize>
 
 // The index of the extra of a slot's row, in a data block.
 fn extra_index_in(block: u32, slot: Slot) -> usize
-    requires { block ≤ BLOCKS }
+    requires { block ≤ HOST_BLOCKS }
     ensures { result ≡ block * ROWS + slot.0 % ROWS }
 {
     (block * ROWS + slot.0 % ROWS) as usize
@@ -43,6 +44,7 @@ pub(crate) fn is_marked(masks: &[u64], slot: Slot) -> bool
 }
 
 /// The extra at an index, where there is one.
+#[inline(always)]
 pub(crate) fn extra_in(extras: &[Extra<Addr>], index: Option<usize>) -> Extra<Addr>
     requires { ForSome index (λ q. q < length extras.now) }
     ensures { result ≡ extra_at extras.now index }
@@ -54,6 +56,7 @@ pub(crate) fn extra_in(extras: &[Extra<Addr>], index: Option<usize>) -> Extra<Ad
 }
 
 /// Writes an extra, where there is room for one.
+#[inline(always)]
 pub(crate) fn write_extra(extras: &mut [Extra<Addr>], index: Option<usize>, extra: Extra<Addr>)
     requires { ForSome index (λ q. q < length extras.old) }
     ensures { extras.new ≡ with_extra extras.old index extra }

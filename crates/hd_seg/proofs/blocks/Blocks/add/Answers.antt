@@ -1,4 +1,4 @@
-use Rattle.hd_seg.proofs.Basics.{Global, Uses, Vec, [], ap, arith, get, get_or, kind_number, len, length, map, mapped, set, sym, use_at, ℕ, ◌++◌, ◌<◌, ◌∙◌, ◌∷◌, ◌≡◌}
+use Rattle.hd_seg.proofs.Basics.{Global, Uses, Vec, [], ap, arith, get, get_or, has_handles, kind_number, len, length, map, mapped, set, sym, use_at, ℕ, ◌++◌, ◌<◌, ◌∙◌, ◌∷◌, ◌≡◌}
 use Rattle.hd_seg.proofs.ChainLinks.{is_table, few_of, one_left, chain_read, chain_written, chain_short, room_read, rooms_written, extras_is}
 use Rattle.hd_seg.proofs.BlockAdd.{blocks-add, unused-add, view-add, least_is}
 use Rattle.hd_seg.proofs.UnusedBlocks.{all_used, fits, has_from, inside, is_unused}
@@ -89,7 +89,7 @@ returns-clause-plain c =
     sym (ap (λ (u : Uses). get u.extras c.take_from-block.result) c.self.view_is)
     ∙ extras_is inv c.take_from-block.result found.low
     (omega (arith, inside inv c.self.invariant.2 found, inv.size))
-    ∙ inv.plain c.take_from-block.result (is_unused inv c.self.invariant.2 found)
+    ∙ inv.plain c.take_from-block.result (ap has_handles (is_unused inv c.self.invariant.2 found))
 
 pub returns-clause-after : goal.returns-clause-after
 returns-clause-after c =

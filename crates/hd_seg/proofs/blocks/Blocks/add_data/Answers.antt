@@ -1,7 +1,7 @@
-use Rattle.hd_seg.proofs.Basics.{Block, List, Some, Uses, ap, arith, block_at, get_or_read, length, length-set, set, ◌+◌, ◌<◌, ◌≡◌}
-use Rattle.hd_seg.proofs.ChainLinks.{is_table, few_of, one_left}
+use Rattle.hd_seg.proofs.Basics.{Block, List, Some, Uses, ap, arith, block_at, get, get_or_read, has_handles, length, length-set, set, sym, true, use_at, ◌+◌, ◌<◌, ◌∙◌, ◌≡◌, ◌≤◌}
+use Rattle.hd_seg.proofs.ChainLinks.{is_table, few_of, one_left, use_is}
 use Rattle.hd_seg.proofs.BlockAdd.{blocks-with_data, unused-with_data, view-with_data, least_is}
-use Rattle.hd_seg.proofs.UnusedBlocks.{all_used, fits, has_from, inside, is_unused, unused_after, used}
+use Rattle.hd_seg.proofs.UnusedBlocks.{all_used, fits, has_from, inside, is_unused, unused_after}
 use Rattle.hd_seg.proofs.blocks.Blocks.add_data.Goals.{After-self-3-1}
 use Rattle.hd_seg.proofs.blocks.Blocks.add_data.Goals as goal
 
@@ -43,17 +43,23 @@ at_is c =
 below : (c : After-self-3-1) → c.args.block < c.take_from-data.result
 below c = omega (arith, c.take_from-data.ensures.least.low)
 
+-- the block has handles
+taken : (c : After-self-3-1) → has_handles (use_at c.self.inside.table.items c.args.block) ≡ true
+taken c =
+    let high : c.args.block ≤ c.self.inside.number =
+    omega (arith, c.requires.high, ap (λ (u : Uses). u.table.blocks) c.self.view_is) in
+    ap has_handles (sym (use_is c.self.invariant.0 c.args.block c.requires.low high)
+    ∙ ap (λ (u : Uses). get u.table.uses c.args.block) c.self.view_is) ∙ c.requires.handles
+
 pub invariant_of-self : goal.invariant_of-self
 invariant_of-self c =
     let inv = c.self.invariant.0 in
-    let unused = is_unused inv c.self.invariant.2 c.take_from-data.ensures.least in
-    let taken = used inv c.self.view_is c.requires.high c.requires.used c.args.block c.requires.low
-    (omega arith) in (
-      blocks-with_data inv c.args.block c.take_from-data.result c.requires.low (below c) (within c) unused taken
-          (of_is c) (at_is c),
+    let unused = is_unused inv c.self.invariant.2 c.take_from-data.ensures.least in (
+      blocks-with_data inv c.args.block c.take_from-data.result c.requires.low (below c) (within c) unused
+          (taken c) (of_is c) (at_is c),
       c.self.invariant.1,
-      unused-with_data inv c.args.block c.take_from-data.result c.requires.low (below c) (within c) unused taken
-          (of_is c) (at_is c) c.self.invariant.2 c.take_from-data.ensures.taken,
+      unused-with_data inv c.args.block c.take_from-data.result c.requires.low (below c) (within c) unused
+          (taken c) (of_is c) (at_is c) c.self.invariant.2 c.take_from-data.ensures.taken,
     )
 
 pub returns-clause-least : goal.returns-clause-least
@@ -67,9 +73,8 @@ pub returns-clause-after : goal.returns-clause-after
 returns-clause-after c =
     let inv = c.self.invariant.0 in
     view-with_data inv c.args.block c.take_from-data.result c.requires.low (below c) (within c)
-    (is_unused inv c.self.invariant.2 c.take_from-data.ensures.least)
-    (used inv c.self.view_is c.requires.high c.requires.used c.args.block c.requires.low (omega arith))
-    (of_is c) (at_is c) c.self.view_is
+    (is_unused inv c.self.invariant.2 c.take_from-data.ensures.least) (taken c) (of_is c) (at_is c)
+    c.self.view_is
 
 pub returns-clause-table : goal.returns-clause-table
 returns-clause-table c = is_table (invariant_of-self c).0

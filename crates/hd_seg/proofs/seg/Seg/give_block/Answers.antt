@@ -1,4 +1,4 @@
-use Rattle.hd_seg.proofs.Basics.{IsLeastWithout, IsSeg, IsTable, Uses, ap, arith, cases_eq, cond, get, get_beside, handles_of, inl, inr, insert, is_some, len, subst, sym, table_in, true≢false, with_block, with_data, ◌+◌, ◌∙◌, ◌≡◌, ◌≤◌}
+use Rattle.hd_seg.proofs.Basics.{IsLeastWithout, IsSeg, IsTable, Uses, ap, arith, cases_eq, cond, get, get_beside, handles_of, has_handles, inl, inr, insert, is_some, len, refl, subst, sym, table_in, true≢false, with_block, with_data, ◌+◌, ◌∙◌, ◌≡◌, ◌≤◌}
 use Rattle.hd_seg.proofs.{FunctionMaps.get-insert_same, FunctionMaps.len-insert_new, RowVectors.is_table, RowVectors.sound_table, ReadCalls.with_rows_least, ReadCalls.next_least}
 use Rattle.hd_seg.proofs.BlockChange.{one-seg, one-view, two-seg, two-view}
 use Rattle.hd_seg.proofs.SegVectors.{vectors}
@@ -61,6 +61,12 @@ add_data-data-requires-clause-used c q low high =
           apart)
           ∙ c.add-block.ensures.least.least q low (omega arith)
     ]
+
+pub add_data-data-requires-clause-handles : goal.add_data-data-requires-clause-handles
+add_data-data-requires-clause-handles c =
+    ap (λ (u : Uses). has_handles (get u.table.uses c.add-block.result)) c.add-block.ensures.after
+    ∙ ap has_handles (get-insert_same c.self.inside.blocks.table.uses c.add-block.result
+    (handles_of c.args.kind) c.add-block.result refl)
 
 -- the data block
 data_least : (c : After-add_data-data) → IsLeastWithout c.self.inside.blocks.table (c.add-block.result + 1)
