@@ -11,10 +11,10 @@ pub use Rattle.std.specs.Prelude.{is_none, is_some}
 pub use Rattle.hd_cwt.specs.Inside.{HasBucket, HasIdle, IsBucket, IsEntries, IsLeft, IsLinked, IsListed, IsListedAt, IsTaken, IsUnlisted, bucket_in, entry_at, idle_in, keyed_in}
 pub use Rattle.hd_cwt.specs.Inside.{IsRings, IsWalk, exchanged, node_at, turned}
 pub use Rattle.hd_cwt.specs.WeakTable.{CanTake, HasKey, IsIdle, IsWeakTable, LooksAt, WeakTable, bucket_of, entries_in, is_in_bucket, kept_key, room_of, slots_of}
-pub use Rattle.hd_model.proofs.IndexedItems.{by_index-empty, by_index-put, get-by_index, get_or-replicate_None}
+pub use Rattle.hd_model.proofs.IndexedItems.{by_index-clear, by_index-empty, by_index-put, get-by_index, get_or-replicate_None}
 pub use Rattle.hd_model.proofs.Members.{first_in, later_in, mapped_in, member_cases, not_in_none, pairs_cons, pairs_none, pairs_passing, passing_from, passing_in}
-pub use Rattle.hd_model.proofs.ReadAfterWrite.{insert_cases, len_again, len_new, some_cases, still_some}
+pub use Rattle.hd_model.proofs.ReadAfterWrite.{insert_cases, len_again, len_less, len_new, remove_cases, some_cases, still_some}
 pub use Rattle.hd_model.specs.Indexed.{by_index}
 pub use Rattle.hd_model.specs.declared.data.Id.{Id}
 pub use Rattle.hd_tiers.specs.Sets.{HasNoneFrom, IsLeastFrom, NumberSet}
-pub use Rattle.hd_model.specs.declared.limits.TheConstants.{BLOCKS, ROWS}
+pub use Rattle.hd_model.specs.declared.limits.TheConstants.{HOST_BLOCKS, ROWS}

@@ -171,3 +171,30 @@ module _ {held : List (Option (Option Id))} {next previous : List ℕ} (is : IsL
               let self : node_at next z ≡ z = is.alone z inside e in
               unchanged z (λ same. m (sym self ∙ ap (node_at next) same ∙ before_is)) m ∙ self);
         }
+
+  -- a slot without a key is in no bucket, whether it is held or not
+  module _ (idle : entry_at held s ≡ Some None) where
+    same_bucket : (z : ℕ) → bucket_in (entry_at (set held s None) z) ≡ bucket_in (entry_at held z)
+    same_bucket z =
+        entry_cases held s None ls (λ v. bucket_in v ≡ bucket_in (entry_at held z)) z
+        (λ same. sym (ap (λ x. bucket_in (entry_at held x)) same ∙ ap bucket_in idle)) (λ _. refl)
+
+    pub release_linked : IsLinked (set held s None) next previous
+    release_linked =
+        let new = set held s None in
+        let long : length new ≡ length held = length-set held s None in record {
+          rings = is.rings;
+          nodes = is.nodes ∙ ap (λ n. n + 4096) (sym long);
+          buckets = λ b low.
+              let old : HasBucket held next (length held + b) b = is.buckets b low in
+              subst (λ n. HasBucket new next (n + b) b) (sym long) (record {
+                list = old.list;
+                is = record {
+                  walk = old.is.walk;
+                  once = old.is.once;
+                  into = λ z e. old.is.into z (sym (same_bucket z) ∙ e);
+                  from = λ z h. same_bucket z ∙ old.is.from z h;
+                };
+              });
+          alone = λ z low e. is.alone z (omega (arith, low, long)) (sym (same_bucket z) ∙ e);
+        }

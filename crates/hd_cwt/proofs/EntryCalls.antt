@@ -1,8 +1,8 @@
 -- What each call does to the entries, by their fields and their value.
-use Rattle.hd_cwt.proofs.Basics.{HasIdle, HasKey, HasNoneFrom, Id, IfNone, IfSome, IsEntries, IsIdle, IsLeastFrom, IsLinked, IsSome, List, None, NumberSet, Option, ROWS, Some, WeakTable, ap, arith, both_ways, bucket_in, bucket_of, by_index, by_index-put, cases_lt, entry_at, exchanged, false≢true, get, get-by_index, get_or, get_or_default_zero, get_or_past, inl, inr, is_some, length, length-set, node_at, refl, set, slots_of, subst, sym, turned, ℕ, ◌+◌, ◌<◌, ◌∙◌, ◌≡◌, ◌≤◌}
+use Rattle.hd_cwt.proofs.Basics.{HasIdle, HasKey, HasNoneFrom, Id, IfNone, IfSome, IsEntries, IsIdle, IsLeastFrom, IsLinked, IsSome, List, None, NumberSet, Option, Some, WeakTable, ap, arith, both_ways, bucket_in, bucket_of, by_index, by_index-put, cases_lt, entry_at, exchanged, false≢true, get, get-by_index, get_or, get_or_default_zero, get_or_past, inl, inr, is_some, length, length-set, node_at, refl, set, slots_of, subst, sym, turned, ℕ, ◌+◌, ◌<◌, ◌∙◌, ◌≡◌, ◌≤◌, ROWS, by_index-clear}
 use Rattle.std.specs.FinMap as map
 use Rattle.std.specs.FinSet.{insert, remove}
-use Rattle.hd_cwt.proofs.{BucketChange.put_linked, BucketChange.clear_linked, IdleSlots.put_idle, IdleSlots.clear_idle, IdleSlots.is_member, IdleSlots.of_member}
+use Rattle.hd_cwt.proofs.{BucketChange.put_linked, BucketChange.clear_linked, BucketChange.release_linked, IdleSlots.put_idle, IdleSlots.clear_idle, IdleSlots.release_idle, IdleSlots.is_member, IdleSlots.of_member}
 
 no_bucket : (v : Option (Option Id)) → ((k : Id) → v ≡ Some (Some k) → ⊥) → bucket_in v ≡ None
 no_bucket None free = refl
@@ -92,6 +92,28 @@ module _ {blocks : ℕ} {held : List (Option (Option Id))} {next previous : List
               (is_back ∙ get_or_default_zero previous s back (back_low s low))));
           idle_slots = subst (HasIdle new) (sym is_after) (clear_idle is.idle_slots s low);
         }
+
+  -- an idle slot is released
+  module _ (s : ℕ) (idles : IsIdle t s) where
+    idle_low : s < length held
+    idle_low = held_low s (ap is_some idles)
+
+    pub released : ◌≡◌ {A = WeakTable} (record { blocks = blocks; held = by_index (set held s None) })
+        (record t { held = map.remove t.held s })
+    released =
+        let now : ◌≡◌ {A = WeakTable} (record { blocks = blocks; held = by_index (set held s None) })
+        (record { blocks = blocks; held = map.remove (by_index held) s }) =
+        λ i. record { blocks = blocks; held = by_index-clear held s i } in
+        now ∙ ap (λ (u : WeakTable). record u { held = map.remove u.held s }) view
+
+    pub release_entries : {after : NumberSet} → after ≡ record idle { members = remove idle.members s }
+        → IsEntries blocks (set held s None) next previous after
+    release_entries is_after = record {
+      limit = is.limit;
+      size = length-set held s None ∙ is.size;
+      linked = release_linked is.linked s idle_low (sym (read s) ∙ idles);
+      idle_slots = subst (HasIdle (set held s None)) (sym is_after) (release_idle is.idle_slots s idle_low);
+    }
 
   -- ---- the least idle slot
 

@@ -1,8 +1,8 @@
 -- Entries of which no slot is held.
-use Rattle.hd_cwt.proofs.Basics.{BLOCKS, Id, IsEntries, List, None, NumberSet, Option, ROWS, [], ap, arith, bucket_in, contains, contains-empty, entry_at, get_or, get_or-replicate_None, idle_in, length, length-replicate, nat_cmp, node_at, none-some, not_in_none, pairs_none, replicate, sym, ℕ, ◌*◌, ◌+◌, ◌<◌, ◌∙◌, ◌≡◌, ◌≢◌, ◌≤◌}
+use Rattle.hd_cwt.proofs.Basics.{HOST_BLOCKS, Id, IsEntries, List, None, NumberSet, Option, ROWS, [], ap, arith, bucket_in, contains, contains-empty, entry_at, get_or, get_or-replicate_None, idle_in, length, length-replicate, nat_cmp, node_at, none-some, not_in_none, pairs_none, replicate, sym, ℕ, ◌*◌, ◌+◌, ◌<◌, ◌∙◌, ◌≡◌, ◌≢◌, ◌≤◌}
 use Rattle.std.specs.FinSet as set
 
-module _ {blocks : ℕ} (limit : blocks ≤ BLOCKS) (held : List (Option (Option Id)))
+module _ {blocks : ℕ} (limit : blocks ≤ HOST_BLOCKS) (held : List (Option (Option Id)))
     (next previous : List ℕ) {idle : NumberSet}
     (is_held : held ≡ replicate (ROWS * (blocks + 1)) None)
     (is_idle : idle ≡ record { room = ROWS * (blocks + 1); members = set.empty })

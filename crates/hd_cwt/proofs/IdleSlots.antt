@@ -1,5 +1,5 @@
 -- The set of idle slots, where a slot gets a key or loses it.
-use Rattle.hd_cwt.proofs.Basics.{Bool, HasIdle, Id, List, None, NumberSet, Option, Some, ap, arith, contains, entry_at, false≢true, idle_in, length, length-set, refl, set, sym, true, ℕ, ◌<◌, ◌∙◌, ◌≡◌}
+use Rattle.hd_cwt.proofs.Basics.{HasIdle, Id, List, None, NumberSet, Option, Some, ap, arith, contains, entry_at, false≢true, idle_in, length, length-set, refl, set, sym, true, ℕ, ◌<◌, ◌∙◌, ◌≡◌}
 use Rattle.std.specs.FinSet.{insert, remove}
 use Rattle.hd_tiers.proofs.SetMembers.{insert_same, insert_other, remove_same, remove_other}
 use Rattle.hd_cwt.proofs.BucketChange.{entry_cases}
@@ -26,6 +26,15 @@ module _ {held : List (Option (Option Id))} {idle : NumberSet} (is : HasIdle hel
     each = λ z. entry_cases held s (Some None) low (λ v. contains (insert idle.members s) z ≡ idle_in v) z
         (λ same. insert_same idle.members s z same)
         (λ apart. insert_other idle.members s z apart ∙ is.each z);
+  }
+
+  pub release_idle : (s : ℕ) → s < length held
+      → HasIdle (set held s None) (record idle { members = remove idle.members s })
+  release_idle s low = record {
+    room = omega (arith, is.room, length-set held s None);
+    each = λ z. entry_cases held s None low (λ v. contains (remove idle.members s) z ≡ idle_in v) z
+        (λ same. remove_same idle.members s z same)
+        (λ apart. remove_other idle.members s z apart ∙ is.each z);
   }
 
   pub is_member : (s : ℕ) → entry_at held s ≡ Some None → contains idle.members s ≡ true

@@ -1,10 +1,10 @@
 -- The held slots and their keys, where a slot gets a key or loses it, and in a sweep.
-use Rattle.hd_cwt.proofs.Basics.{BLOCKS, Bool, CanTake, HasKey, Id, IsListed, IsListedAt, IsSome, IsTaken, IsUnlisted, IsWeakTable, List, None, Option, ROWS, Some, WeakTable, [], ap, arith, cases_eq, cases_lt, cond, empty, entries, false, false≢true, get, get-empty, get_or-set_other, get_or-set_same, get_or_default, inl, inr, insert, insert_cases, is_none, is_some, kept_key, keyed_in, len, len-empty, len_again, len_new, length, length-append, length-map, length-set, mapped_in, node_at, none-some, option_map, refl, room_of, same_Some, set, slots_of, some_cases, subst, sym, true, ℕ, ⊎_elim, ◌*◌, ◌++◌, ◌+◌, ◌-◌, ◌/◌, ◌<◌, ◌^◌, ◌∙◌, ◌∷◌, ◌≡◌, ◌≢◌, ◌≤◌, ◌⊎◌}
+use Rattle.hd_cwt.proofs.Basics.{HOST_BLOCKS, Bool, CanTake, HasKey, Id, IsListed, IsListedAt, IsSome, IsTaken, IsUnlisted, IsWeakTable, List, None, Option, ROWS, Some, WeakTable, [], ap, arith, cases_eq, cases_lt, cond, empty, entries, false, false≢true, get, get-empty, get_or-set_other, get_or-set_same, get_or_default, inl, inr, insert, insert_cases, is_none, is_some, kept_key, keyed_in, len, len-empty, len_again, len_new, length, length-append, length-map, length-set, mapped_in, node_at, none-some, option_map, refl, room_of, same_Some, set, slots_of, some_cases, subst, sym, true, ℕ, ⊎_elim, ◌*◌, ◌++◌, ◌+◌, ◌-◌, ◌/◌, ◌<◌, ◌^◌, ◌∙◌, ◌∷◌, ◌≡◌, ◌≢◌, ◌≤◌, ◌⊎◌, len_less, remove_cases}
 use Rattle.std.specs.Ordering.{nat_cmp}
-use Rattle.std.specs.FinMap.{keys, len-entries}
+use Rattle.std.specs.FinMap.{keys, len-entries, remove}
 use Rattle.std.proofs.Common.{AllPairs}
 use Rattle.std.proofs.lemmas.List.{get_or_append_left, get_or-append-add}
-use Rattle.hd_model.proofs.{MapEntries.entry_of, PropertyCounts.fewer, ReadAfterWrite.get_beside, ReadAfterWrite.get_inserted}
+use Rattle.hd_model.proofs.{MapEntries.entry_of, PropertyCounts.fewer, ReadAfterWrite.get_beside, ReadAfterWrite.get_inserted, ReadAfterWrite.get_left}
 use Rattle.hd_model.specs.Table.{Table, live_at}
 
 -- a slot that is not held can be given a key where there is room
@@ -318,6 +318,41 @@ module _ {t : WeakTable} {count : ℕ} {slots indexes : List ℕ} {capacity : �
       by None e = bounded (put_new is s view key is_new is_within e can)
       by (Some v) e = bounded (put_idle is s view key is_new is_within (ap is_some e) (can_seen view s can))
 
+-- an idle slot is released: it was not listed
+module _ {t : WeakTable} {count : ℕ} {slots indexes : List ℕ} {capacity : ℕ}
+    (is : IsListed t count slots indexes capacity) (s : ℕ) (idle : get t.held s ≡ Some None) where
+  abbrev without_slot : WeakTable
+  without_slot = record t { held = remove t.held s }
+
+  key_left : (key : Id) (a : ℕ) → HasKey without_slot key a → HasKey t key a
+  key_left key a =
+      remove_cases t.held s (λ q o. o ≡ Some (Some key) → HasKey t key q) a
+      (λ e. absurd (none-some (Some key) e)) (λ _ e. e)
+
+  pub some_held : 1 ≤ count
+  some_held = let less = len_less t.held s (ap is_some idle) in omega (arith, less, is.counted)
+
+  pub release_listed : IsListed without_slot (count - 1) slots indexes capacity
+  release_listed =
+      let less = len_less t.held s (ap is_some idle) in record {
+        table = record {
+          limit = is.table.limit;
+          apart = λ key a b ha hb. is.table.apart key a b (key_left key a ha) (key_left key b hb);
+          within = λ q. remove_cases t.held s (λ x o. IsSome o → x < slots_of t) q
+              (λ none. absurd (false≢true none)) (λ _. is.table.within q);
+          fits = omega (arith, is.table.fits, less);
+        };
+        counted = omega (arith, is.counted, less);
+        room = is.room;
+        size = is.size;
+        into = λ q. remove_cases t.held s (λ x o. keyed_in o ≡ true → IsListedAt slots indexes x) q
+            (λ e. absurd (false≢true e)) (λ _ e. is.into q e);
+        from = λ i low. ap keyed_in (get_left t.held s (node_at slots i)
+            (λ same. false≢true (sym (ap (λ q. keyed_in (get t.held q)) same ∙ ap keyed_in idle)
+            ∙ is.from i low))) ∙ is.from i low;
+        placed = is.placed;
+      }
+
 -- under other names
 pub relisted : {t u : WeakTable} {count : ℕ} {a b c d : List ℕ} {m n : ℕ} → IsListed t count a c m → u ≡ t
     → b ≡ a → d ≡ c → n ≡ m → IsListed u count b d n
@@ -328,8 +363,8 @@ relisted {t} {u} {count} {a} {b} {c} {d} {m} {n} is table slots indexes capacity
     (subst (λ x. IsListed x count a c m) (sym table) is)))
 
 -- a table of which no slot is held
-pub none_listed : (blocks capacity : ℕ) (indexes : List ℕ) → blocks ≤ BLOCKS → ROWS * (blocks / 2) ≤ capacity
-    → length indexes ≡ ROWS * (blocks + 1)
+pub none_listed : (blocks capacity : ℕ) (indexes : List ℕ) → blocks ≤ HOST_BLOCKS
+    → ROWS * (blocks / 2) ≤ capacity → length indexes ≡ ROWS * (blocks + 1)
     → IsListed (record { blocks = blocks; held = empty }) 0 [] indexes capacity
 none_listed blocks capacity indexes limit room size = record {
   table = record {

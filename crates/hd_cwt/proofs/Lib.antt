@@ -7,3 +7,4 @@ pub mod KeySearch
 pub mod EntryCalls
 pub mod EntryOpen
 pub mod KeyChanges
+pub mod IdleCount

@@ -2,7 +2,7 @@
 use Rattle.std.specs.Prelude.{◌≡◌, ℕ, ◌<◌, List, [], ◌∷◌, length, slice_index_or, slice_set, ◌≢◌, ◌+◌, ◌-◌, ◌*◌, ◌≤◌, true, false, Bool, is_none, Option, Some, None, Contains, AllPairs}
 use Rattle.std.specs.FinMap.{get, insert, len}
 use Rattle.std.specs.FinSet.{contains}
-use Rattle.hd_model.specs.{declared.data.Id.Id, declared.limits.TheConstants.BLOCKS, declared.limits.TheConstants.ROWS, Table.Table, Table.live_at}
+use Rattle.hd_model.specs.{declared.data.Id.Id, declared.limits.TheConstants.HOST_BLOCKS, declared.limits.TheConstants.ROWS, Table.Table, Table.live_at}
 use Rattle.hd_cwt.specs.declared.entries.TheConstants.{BUCKETS}
 use Rattle.hd_tiers.specs.Sets.{NumberSet}
 use Rattle.hd_cwt.specs.WeakTable.{WeakTable, bucket_of, room_of, slots_of, IsWeakTable}
@@ -80,7 +80,7 @@ pub record HasIdle (held : List (Option (Option Id))) (idle : NumberSet) : Type 
 -- what is always true of the entries
 pub record IsEntries (blocks : ℕ) (held : List (Option (Option Id))) (next previous : List ℕ)
     (idle : NumberSet) : Type 0 where
-  pub limit : blocks ≤ BLOCKS
+  pub limit : blocks ≤ HOST_BLOCKS
   pub size : length held ≡ ROWS * (blocks + 1)
   pub linked : IsLinked held next previous
   pub idle_slots : HasIdle held idle

@@ -5,7 +5,7 @@ use Rattle.std.specs.Coded.{Coded, code_by, coded×, coded_ℕ, coded_option}
 use Rattle.std.specs.FinMap as map
 use Rattle.std.specs.FinMap.{FinMap, get, len, entries}
 use Rattle.std.specs.Ordering.{nat_cmp}
-use Rattle.hd_model.specs.{declared.data.Id.Id, declared.data.Slot.Slot, declared.limits.TheConstants.BLOCKS, declared.limits.TheConstants.ROWS, Code.id_code, Table.Table, Table.live_at}
+use Rattle.hd_model.specs.{declared.data.Id.Id, declared.data.Slot.Slot, declared.limits.TheConstants.HOST_BLOCKS, declared.limits.TheConstants.ROWS, Code.id_code, Table.Table, Table.live_at}
 use Rattle.hd_cwt.specs.declared.entries.TheConstants.{BUCKETS}
 
 -- the number of blocks that there may be, and for each held slot, by its number, its key or none
@@ -48,7 +48,7 @@ CanTake t slot = IsIdle t slot ⊎ ((get t.held slot ≡ None) × (len t.held < 
 
 -- no key is in two slots, each held slot is one of the blocks' and there are no more than there is room for
 pub record IsWeakTable (t : WeakTable) : Type 0 where
-  pub limit : t.blocks ≤ BLOCKS
+  pub limit : t.blocks ≤ HOST_BLOCKS
   pub apart : (key : Id) (a b : ℕ) → HasKey t key a → HasKey t key b → a ≡ b
   pub within : (slot : ℕ) → IsSome (get t.held slot) → slot < slots_of t
   pub fits : len t.held ≤ room_of t

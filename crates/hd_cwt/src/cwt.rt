@@ -2,7 +2,7 @@ ghost use Rattle.std.specs.Prelude.{◌≡◌, ℕ, ◌+◌, ◌<◌, ◌≤◌,
 ghost use Rattle.std.specs.Prelude.{◌⊎◌, ◌-◌, IfOk, IfSome, IsSome, IsNone, length, vec_capacity};
 ghost use Rattle.std.specs.FinMap as map;
 ghost use Rattle.std.specs.FinMap.{get, len, contains_key};
-ghost use Rattle.hd_model.specs.Table.{live_at};
+ghost use Rattle.hd_model.specs.{Counting.Counts, Table.live_at};
 ghost use Rattle.hd_cwt.specs.WeakTable.{CanTake, HasKey, IsIdle, IsIn, IsLeastIdle, IsWeakTable, LooksAt};
 ghost use Rattle.hd_cwt.specs.WeakTable.{bucket_of, entries_in, kept_key, slots_of};
 ghost use Rattle.hd_cwt.specs.Inside.{node_at};
@@ -10,7 +10,7 @@ ghost use Rattle.hd_cwt.specs.Inside.{IsTaken, IsLeft};
 
 use crate::entries::Entries;
 use crate::keyed::Keyed;
-use hd_model::limits::{BLOCKS, ROWS};
+use hd_model::limits::{HOST_BLOCKS, ROWS};
 use hd_model::{Addr, Id, Memory, Slot, Steps};
 use hd_seg::Seg;
 use std::alloc::Global;
@@ -19,8 +19,8 @@ use std::sync::ledger::{Blank, Ledger};
 
 /// The weak table: the slots that it holds, and the key in each, if it has one.
 ///
-/// A held slot stays held. It may lose its key and get another. Values are not here: they are the
-/// secondaries of the slots' rows. All memory is taken by `open`.
+/// A held slot stays held until it is idle and released. It may lose its key and get another. Values
+/// are not here: they are the secondaries of the slots' rows. All memory is taken by `open`.
 #[derive(Drop)]
 pub struct Cwt {
     entries: Entries,
@@ -47,7 +47,7 @@ impl Cwt {
     /// A table for the slots of `blocks` blocks, with room for 64 of each pair of blocks. No slot
     /// is held.
     pub fn open(alloc: Global, blocks: u32) -> Result<Cwt, Memory>
-        requires { blocks ≤ BLOCKS }
+        requires { blocks ≤ HOST_BLOCKS }
         ensures { IfOk result (λ t. t ≡ record { blocks = blocks; held = map.empty }) }
     {
         let entries = Entries::open(alloc, blocks)?;
@@ -73,6 +73,13 @@ impl Cwt {
         ensures table { IsWeakTable self.now }
     {
         self.count
+    }
+
+    /// The number of held slots without a key.
+    pub fn idle_count(&self) -> u32
+        ensures { Counts (IsIdle self.now) result }
+    {
+        self.count - self.keyed.slots.len() as u32
     }
 
     /// The least held slot without a key, in constant time.
@@ -145,6 +152,15 @@ impl Cwt {
         if keyed {
             self.keyed.remove(slot.0);
         }
+    }
+
+    /// Releases an idle slot, which is held no more.
+    pub fn release(&mut self, slot: Slot)
+        requires { IsIdle self.old slot.0 }
+        ensures { self.new ≡ record self.old { held = map.remove self.old.held slot.0 } }
+    {
+        self.entries.release(slot.0);
+        self.count -= 1;
     }
 
     /// Takes out the keys in slots whose row has a null target. Their slots stay held. It looks at

@@ -8,7 +8,7 @@ ghost use Rattle.hd_cwt.specs.WeakTable.{IsIdle, HasKey, LooksAt, bucket_of, ent
 ghost use Rattle.hd_cwt.specs.Inside.{HasBucket, entry_at, keyed_in};
 
 use crate::rings::Rings;
-use hd_model::limits::{BLOCKS, ROWS};
+use hd_model::limits::{HOST_BLOCKS, ROWS};
 use hd_model::{Id, Memory, Steps, filled};
 use hd_tiers::{Masks, Numbers, Tier};
 use std::alloc::Global;
@@ -25,7 +25,7 @@ pub(crate) struct Entries {
     held: Vec<Option<Option<Id>>>,
     // Each slot is a node, and after them each bucket.
     rings: Rings,
-    // The idle slots. Of three tiers the top one has one word for the slots of 256 blocks.
+    // The idle slots. Of three tiers the top one has one word for the slots of 4,096 blocks.
     idle: Tier<Tier<Masks>>,
 }
 
@@ -46,7 +46,7 @@ impl Model for Entries {
 impl Entries {
     /// No slot is held.
     pub(crate) fn open(alloc: Global, blocks: u32) -> Result<Entries, Memory>
-        requires { blocks ≤ BLOCKS }
+        requires { blocks ≤ HOST_BLOCKS }
         ensures { IfOk result (λ e. e ≡ record { blocks = blocks; held = map.empty }) }
     {
         let slots = ROWS * (blocks + 1);
@@ -116,6 +116,15 @@ impl Entries {
         self.held[slot as usize] = Some(None);
         self.rings.exchange(before, slot);
         self.idle.insert(slot);
+    }
+
+    /// Releases an idle slot, which is held no more. It is in no bucket.
+    pub(crate) fn release(&mut self, idle: u32)
+        requires { IsIdle self.old idle }
+        ensures { self.new ≡ record self.old { held = map.remove self.old.held idle } }
+    {
+        self.held[idle as usize] = None;
+        self.idle.remove(idle);
     }
 
     // The node of the bucket of a key.
