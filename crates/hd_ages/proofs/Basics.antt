@@ -28,5 +28,5 @@ pub use Rattle.hd_model.specs.declared.data.Addr.{Addr}
 pub use Rattle.hd_model.specs.declared.data.Kind.{Kind}
 pub use Rattle.hd_model.specs.declared.data.Slot.{Slot}
 pub use Rattle.hd_seg.specs.Rewriting.{Rewrites}
-pub use Rattle.hd_model.specs.declared.limits.TheConstants.{BLOCKS, CLUMP, CLUMPS, ROWS}
+pub use Rattle.hd_model.specs.declared.limits.TheConstants.{HOST_BLOCKS, CLUMP, CLUMPS, ROWS}
 pub use Rattle.hd_tiers.specs.Sets.{HasNoneFrom, IsLeastFrom, NumberSet}

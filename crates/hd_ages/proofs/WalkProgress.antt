@@ -1,5 +1,5 @@
 -- A walk that is under way, and the rows that it has visited.
-use Rattle.hd_ages.proofs.Basics.{Addr, AllPairs, BLOCKS, Contains, DueRows, Ends, Gives, Handle, IsOn, IsSameTable, IsSome, IsTable, Kind, List, None, Option, ROWS, Rewrites, Slot, Some, Table, ap, arith, cases_eq, chain_of, clumps_to_come, due_clumps, due_slots, first_in, get, is_some, later_in, length, live_at, member_cases, member_same, not_in_none, option_map, pairs_first, pairs_rest, refl, row_at, slots_to_come, subst, sym, true, visits_of, ℕ, ⊎_elim, ◌+◌, ◌<◌, ◌∙◌, ◌∷◌, ◌≡◌, ◌≢◌, ◌≤◌, ◌*◌}
+use Rattle.hd_ages.proofs.Basics.{Addr, AllPairs, HOST_BLOCKS, Contains, DueRows, Ends, Gives, Handle, IsOn, IsSameTable, IsSome, IsTable, Kind, List, None, Option, ROWS, Rewrites, Slot, Some, Table, ap, arith, cases_eq, chain_of, clumps_to_come, due_clumps, due_slots, first_in, get, is_some, later_in, length, live_at, member_cases, member_same, not_in_none, option_map, pairs_first, pairs_rest, refl, row_at, slots_to_come, subst, sym, true, visits_of, ℕ, ⊎_elim, ◌+◌, ◌<◌, ◌∙◌, ◌∷◌, ◌≡◌, ◌≢◌, ◌≤◌, ◌*◌}
 use Rattle.hd_ages.proofs.WalkSlots.{IsDueRow}
 use Rattle.std.proofs.lemmas.Option.{same_Some}
 use Rattle.hd_model.specs.{Scene.Objects, Scene.is_object, Names.NamesObjects}
@@ -40,8 +40,9 @@ module _ (t : Table) (ages : List ℕ) (n : ℕ) (k : Kind) where
     pub all_to_come : HasAllToCome t ages n k w
     all_to_come slot r = member_same _ _ (sym slots) slot ((due_slots_list t is ages n k).all slot r)
 
-    pub few_to_come : length (slots_to_come t ages w) ≤ BLOCKS * ROWS
-    few_to_come = subst (λ xs. length xs ≤ BLOCKS * ROWS) (sym slots) (due_slots_few t is ages n k)
+    pub few_to_come : length (slots_to_come t ages w) ≤ HOST_BLOCKS * ROWS
+    few_to_come =
+        subst (λ xs. length xs ≤ HOST_BLOCKS * ROWS) (sym slots) (due_slots_few t is ages n k)
 
 module _ {t : Table} {ages : List ℕ} {n : ℕ} {k : Kind} where
   module _ {now : Table} {old new : DueRows} {before steps : ℕ}

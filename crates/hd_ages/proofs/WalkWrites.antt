@@ -1,5 +1,5 @@
 -- A walk that writes rows: f is what becomes of the row in a slot, and slots with the property P are counted.
-use Rattle.hd_ages.proofs.Basics.{Addr, BLOCKS, Bool, Contains, Counts, DueRows, Ends, Gives, Handle, IsOn, IsSome, IsTable, Kind, List, ROWS, Rewrites, Slot, Some, Table, ap, arith, chain_of, clumps_to_come, due_clumps, due_slots, false, get, length, option_map, refl, row_at, slots_to_come, subst, sym, true, visits_of, ℕ, ◌+◌, ◌<◌, ◌≡◌, ◌≤◌, ◌*◌}
+use Rattle.hd_ages.proofs.Basics.{Addr, HOST_BLOCKS, Bool, Contains, Counts, DueRows, Ends, Gives, Handle, IsOn, IsSome, IsTable, Kind, List, ROWS, Rewrites, Slot, Some, Table, ap, arith, chain_of, clumps_to_come, due_clumps, due_slots, false, get, length, option_map, refl, row_at, slots_to_come, subst, sym, true, visits_of, ℕ, ◌+◌, ◌<◌, ◌≡◌, ◌≤◌, ◌*◌}
 use Rattle.hd_ages.proofs.WalkSlots.{IsDueRow}
 use mir.Val.{bool_byte}
 use Rattle.hd_ages.proofs.WalkProgress.{IsUnderway, begins, all_to_come, few_to_come, row_due, row_live, row_past, fewer_left, goes_on, all_past, steps_at_end, rewritten, IsUpdated, updated_start, updated_more, updated_end}
@@ -13,7 +13,7 @@ module _ (t : Table) (ages : List ℕ) (n : ℕ) (k : Kind) (f : ℕ → Handle 
     pub under : IsUnderway t ages n k now w (before, steps)
     pub updated : IsUpdated f (slots_to_come now ages w) t now
     pub counted : Counts (IsPastWith P (slots_to_come now ages w)) count
-    pub few : count + length (slots_to_come now ages w) ≤ BLOCKS * ROWS
+    pub few : count + length (slots_to_come now ages w) ≤ HOST_BLOCKS * ROWS
 
   module _ (is : IsTable t) (w : DueRows) (before : ℕ) (on : IsOn t w)
       (slots : slots_to_come t ages w ≡ due_slots t ages n k)

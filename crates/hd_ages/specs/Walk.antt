@@ -5,7 +5,7 @@ use Rattle.std.specs.FinMap.{contains_key}
 use Rattle.hd_mask.specs.Mask.{set_bits}
 use Rattle.hd_model.specs.declared.data.Kind.{Kind}
 use Rattle.hd_model.specs.declared.data.Slot.{Slot}
-use Rattle.hd_model.specs.declared.limits.TheConstants.{BLOCKS, CLUMP, ROWS}
+use Rattle.hd_model.specs.declared.limits.TheConstants.{HOST_BLOCKS, CLUMP, ROWS}
 use Rattle.hd_model.specs.Ages.{due_clumps}
 use Rattle.hd_model.specs.Table.{Table, chain_of}
 use Rattle.hd_ages.specs.declared.due_rows.DueRows.{DueRows}
@@ -36,7 +36,7 @@ slots_to_come t ages w = map (λ row. w.first + row) (set_bits w.rows) ++ slots_
 -- a walk is at a block of the table, or before the first
 pub record IsOn (t : Table) (w : DueRows) : Type 0 where
   pub first : w.first ≤ ROWS * t.blocks
-  pub few : t.blocks ≤ BLOCKS
+  pub few : t.blocks ≤ HOST_BLOCKS
 
 -- no row was left to visit, and now neither a row nor a clump is
 pub record Ends (t : Table) (ages : List ℕ) (old new : DueRows) : Type 0 where

@@ -10,7 +10,7 @@ ghost use Rattle.hd_ages.specs.Inside.{AreAbove, IsWord, ages_in};
 use crate::word;
 use crate::word::ALL_OLDEST;
 use hd_mask::BITS;
-use hd_model::limits::{BLOCKS, CLUMPS, OLDEST};
+use hd_model::limits::{CLUMPS, HOST_BLOCKS, OLDEST};
 use hd_model::{Memory, filled};
 use hd_tiers::{Masks, Numbers, Tier};
 use std::alloc::Global;
@@ -29,14 +29,14 @@ pub struct AgeMap {
 
 impl Model for AgeMap {
     ghost use Rattle.std.specs.Prelude.{ℕ, List, All, length, ◌≤◌};
-    ghost use Rattle.hd_model.specs.declared.limits.TheConstants.{BLOCKS, OLDEST};
+    ghost use Rattle.hd_model.specs.declared.limits.TheConstants.{HOST_BLOCKS, OLDEST};
     ghost use Rattle.hd_ages.specs.{Inside.HasYoung, Inside.IsWord, Word.ages_of};
 
     ghost Value = { List ℕ };
 
     ghost view = { λ a. ages_of a.words.items };
 
-    ghost invariant = { λ a. (length a.words.items ≤ BLOCKS) × All IsWord a.words.items
+    ghost invariant = { λ a. (length a.words.items ≤ HOST_BLOCKS) × All IsWord a.words.items
         × (a.youngest ≤ OLDEST) × All (λ age. a.youngest ≤ age) (ages_of a.words.items)
         × HasYoung 0 a.words.items a.zero × HasYoung 1 a.words.items a.young };
 }
@@ -44,7 +44,7 @@ impl Model for AgeMap {
 impl AgeMap {
     /// The ages of a table of `blocks` blocks: each is 2. All memory is taken here.
     pub fn open(alloc: Global, blocks: u32) -> Result<AgeMap, Memory>
-        requires { blocks ≤ BLOCKS }
+        requires { blocks ≤ HOST_BLOCKS }
         ensures { IfOk result (λ ages. ages ≡ replicate (CLUMPS * blocks) OLDEST) }
     {
         let words = filled(alloc, ALL_OLDEST, blocks)?;
@@ -61,7 +61,7 @@ impl AgeMap {
     /// The number of blocks.
     pub fn blocks(&self) -> u32
         ensures value { length self.now ≡ CLUMPS * result }
-        ensures few { result ≤ BLOCKS }
+        ensures few { result ≤ HOST_BLOCKS }
         ensures ages { All (λ age. age ≤ OLDEST) self.now }
     {
         self.words.len() as u32
@@ -80,6 +80,7 @@ impl AgeMap {
     }
 
     /// Lowers the age of a block's clump to `g`. An age that is not above `g` stays.
+    #[inline(always)]
     pub fn lower(&mut self, block: u32, clump: u32, g: u8)
         requires low { 1 ≤ block }
         requires high { CLUMPS * block ≤ length self.old }
@@ -155,10 +156,10 @@ impl AgeMap {
     // The least block after `after` with a clump of age `n` or less.
     fn next_young(&self, n: u8, after: u32) -> Option<u32>
         requires young { n ≤ 1 }
-        requires few { after ≤ BLOCKS }
+        requires few { after ≤ HOST_BLOCKS }
         ensures low { IfSome result (λ block. after + 1 ≤ block) }
         ensures high { IfSome result (λ block. CLUMPS * block ≤ length self.now) }
-        ensures few { IfSome result (λ block. block ≤ BLOCKS) }
+        ensures few { IfSome result (λ block. block ≤ HOST_BLOCKS) }
         ensures above { IfSome result (λ block.
             AreAbove n self.now (CLUMPS * after) (CLUMPS * block - CLUMPS)) }
         ensures none { IfNone result (AreAbove n self.now (CLUMPS * after) (length self.now)) }
@@ -181,6 +182,7 @@ impl AgeMap {
     }
 
     // The word of a block's ages.
+    #[inline(always)]
     fn word(&self, block: u32) -> u8
         requires low { 1 ≤ block }
         requires high { CLUMPS * block ≤ length self.now }
@@ -191,6 +193,7 @@ impl AgeMap {
     }
 
     // Writes the word of a block's ages.
+    #[inline(never)]
     fn set_word(&mut self, block: u32, word: u8)
         requires low { 1 ≤ block }
         requires high { CLUMPS * block ≤ length self.old }

@@ -12,7 +12,7 @@ ghost use Rattle.hd_ages.specs.Walk.{clumps_to_come, slots_to_come, due_slots};
 use crate::age_map::AgeMap;
 use crate::word::rows_of;
 use hd_mask::{count, lowest, take_lowest};
-use hd_model::limits::{BLOCKS, CLUMPS, ROWS};
+use hd_model::limits::{CLUMPS, HOST_BLOCKS, ROWS};
 use hd_model::{Kind, Slot, Steps};
 use hd_seg::Seg;
 use std::sync::ledger::Ledger;
@@ -99,7 +99,7 @@ impl DueRows {
     // Takes the lowest row that is still to be visited.
     fn take_row(&mut self) -> Slot
         requires some { self.old.rows ≢ 0 }
-        requires first { self.old.first ≤ ROWS * BLOCKS }
+        requires first { self.old.first ≤ ROWS * HOST_BLOCKS }
         ensures after { self.new ≡ record self.old { rows = self.new.rows } }
         ensures rows { map (λ row. self.old.first + row) (set_bits self.old.rows)
             ≡ result.0 ∷ map (λ row. self.old.first + row) (set_bits self.new.rows) }
@@ -126,19 +126,19 @@ fn first_due(seg: &Seg, ages: &AgeMap, n: u8) -> u32
     ensures clumps { (kind : KindValue) →
         due_clumps ages.now n (drop result (chain_of seg.now kind))
         ≡ due_clumps ages.now n (chain_of seg.now kind) }
-    ensures few { result ≤ BLOCKS }
+    ensures few { result ≤ HOST_BLOCKS }
     ensures table { IsTable seg.now }
 {
     // The read brings what holds of every table.
     let _given = seg.given();
-    if ages.may_be_due(n) { 0 } else { BLOCKS }
+    if ages.may_be_due(n) { 0 } else { HOST_BLOCKS }
 }
 
 /// The number of clumps that a walk over the rows of a kind visits. It looks at no row.
 pub fn count_due(seg: &Seg, ages: &AgeMap, kind: Kind, n: u8) -> u32
     requires blocks { CoversTable ages.now seg.now }
     ensures value { result ≡ visits_of seg.now ages.now n kind }
-    ensures few { result ≤ CLUMPS * BLOCKS }
+    ensures few { result ≤ CLUMPS * HOST_BLOCKS }
 {
     let mut clumps = 0;
     let mut index = first_due(seg, ages, n);

@@ -54,6 +54,7 @@ pub(crate) fn age(word: u8, clump: u32) -> u8
 
 /// The word after the age of a clump was lowered to `g`, where it was above.
 #[tactic(auto, using(crate::proofs::AgeWord::lows))]
+#[inline(always)]
 pub(crate) fn lower(word: u8, clump: u32, g: u8) -> u8
     requires word { IsWord word }
     requires clump { clump < CLUMPS }

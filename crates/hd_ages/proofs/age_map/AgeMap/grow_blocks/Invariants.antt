@@ -1,10 +1,10 @@
-use Rattle.hd_ages.proofs.Basics.{BLOCKS, CLUMPS, length, raised, ◌*◌, ◌-◌, ◌≡◌, ◌≤◌}
+use Rattle.hd_ages.proofs.Basics.{HOST_BLOCKS, CLUMPS, length, raised, ◌*◌, ◌-◌, ◌≡◌, ◌≤◌}
 use Rattle.hd_ages.proofs.MappedPrefixes.{mapped_to}
 use Rattle.hd_ages.proofs.age_map.AgeMap.grow_blocks.Given as goal
 
 abbrev pub invariant-loop-block : goal.invariant-loop-block
 invariant-loop-block l = record {
-  few : l.after ≤ BLOCKS;
+  few : l.after ≤ HOST_BLOCKS;
   within : CLUMPS * l.after ≤ length l.self;
   done : l.self ≡ mapped_to (raised l.n) (CLUMPS * l.after) l.fn.self;
 }

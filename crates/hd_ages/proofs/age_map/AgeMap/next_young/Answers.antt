@@ -1,4 +1,4 @@
-use Rattle.hd_ages.proofs.Basics.{BLOCKS, arith}
+use Rattle.hd_ages.proofs.Basics.{HOST_BLOCKS, arith}
 use Rattle.hd_ages.proofs.YoungBlocks.{all_small, next_above, next_few, next_high, next_low, next_none}
 use Rattle.hd_ages.proofs.age_map.AgeMap.next_young.Goals as goal
 
@@ -14,7 +14,7 @@ returns-then-n-eq0-clause-high c =
 
 pub returns-then-n-eq0-clause-few : goal.returns-then-n-eq0-clause-few
 returns-then-n-eq0-clause-few c =
-    next_few c.if-n-eq0.true c.self.view_is c.self.invariant.4 c.args.after BLOCKS c.self.invariant.0
+    next_few c.if-n-eq0.true c.self.view_is c.self.invariant.4 c.args.after HOST_BLOCKS c.self.invariant.0
     c.least_from.result c.least_from.ensures.found
 
 pub returns-then-n-eq0-clause-above : goal.returns-then-n-eq0-clause-above
@@ -42,7 +42,7 @@ returns-else-n-eq0-clause-high c =
 
 pub returns-else-n-eq0-clause-few : goal.returns-else-n-eq0-clause-few
 returns-else-n-eq0-clause-few c =
-    next_few {n = c.args.n} (omega (arith, c.requires.young, c.if-n-eq0.false)) c.self.view_is c.self.invariant.5 c.args.after BLOCKS c.self.invariant.0
+    next_few {n = c.args.n} (omega (arith, c.requires.young, c.if-n-eq0.false)) c.self.view_is c.self.invariant.5 c.args.after HOST_BLOCKS c.self.invariant.0
     c.least_from-else-n-eq0.result c.least_from-else-n-eq0.ensures.found
 
 pub returns-else-n-eq0-clause-above : goal.returns-else-n-eq0-clause-above
