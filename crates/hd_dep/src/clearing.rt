@@ -7,7 +7,7 @@ ghost use Rattle.hd_seg.specs.Rewriting.{Rewrites};
 ghost use Rattle.hd_dep.specs.Clearing.{IsDetached, IsAllDetached, IsDetachedAt, IsLostAt, detached};
 
 use hd_ages::{AgeMap, DueRows};
-use hd_model::limits::{BLOCKS, ROWS};
+use hd_model::limits::{HOST_BLOCKS, ROWS};
 use hd_model::{Kind, Marker, Slot, Steps, is_lost};
 use hd_seg::{Extra, Row, Seg, rewrite_row};
 use std::sync::ledger::Ledger;
@@ -30,7 +30,7 @@ pub fn clear<M: Marker, L: Ledger>(
     ensures table { IsSameTable seg.old seg.new }
     ensures count { Counts (IsDetachedAt (row_at seg.old) ages.now n (M.promoted marker.now))
         result }
-    ensures few { result ≤ BLOCKS * ROWS }
+    ensures few { result ≤ HOST_BLOCKS * ROWS }
     ensures steps { steps.new ≡ steps.old + visits_of seg.old ages.now n kind.Dependent }
 
     // The handles that are not visited would have stayed as they are.

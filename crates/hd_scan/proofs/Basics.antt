@@ -29,7 +29,7 @@ pub use Rattle.hd_model.specs.State.{BlockUse, Extra, Handle, count, extra_data,
 pub use Rattle.hd_model.specs.Table.{IsTable, Table, chain_of, live_at, row_at}
 pub use Rattle.hd_model.specs.declared.data.Addr.{Addr}
 pub use Rattle.hd_model.specs.declared.data.Kind.{Kind}
-pub use Rattle.hd_model.specs.declared.limits.TheConstants.{BLOCKS, ROWS}
+pub use Rattle.hd_model.specs.declared.limits.TheConstants.{HOST_BLOCKS, ROWS}
 pub use Rattle.hd_scan.specs.{Inside.root_at, Inside.roots_of_block, Gathering.root_by, Gathering.roots_of}
 pub use Rattle.hd_scan.specs.{Passes.ClearPass, Passes.IsPinnedBy, Passes.IsRootAt, Passes.IsSweptAt, Passes.IsTaken, Passes.PassView, Passes.RootPass, Passes.view_at, Inside.IsTargetBy, Inside.PinsBy}
 pub use Rattle.hd_scan.specs.Tasks.{is_role, long_tasks, root_tasks, short_tasks, swept, takes, takes_any, task_kind, task_role}

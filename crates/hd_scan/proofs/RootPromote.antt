@@ -1,5 +1,5 @@
 -- What a root task promotes and pins along a walk.
-use Rattle.hd_scan.proofs.Basics.{Addr, BLOCKS, Bool, Contains, Counts, DueRows, Ends, Gives, Grows, Handle, HasSoundAges, IsDueRow, IsOn, IsPinnedBy, IsRootAt, IsSettled, IsTable, IsTaken, IsTargetBy, IsTargetOf, IsUnderway, IsYoungField, Leads, List, Objects, PinsBy, ROWS, RootPass, Some, Table, Task, WholeRoots, all_past, all_to_come, and_from, and_parts, ap, arith, begins, both_ways, cases_Bool, cases_eq, chain_of, clumps_to_come, due_clumps, due_slots, false, few_to_come, generation_at, goes_on, grows_like, grows_none, grows_on, inl, inr, is_due, is_some, length, live_at, pins, refl, row_at, row_due, row_past, row_same, same_Some, slots_to_come, subst, sym, takes, task_kind, true, undue_target, view_at, ℕ, ⊎_elim, ◌&&◌, ◌+◌, ◌<◌, ◌∙◌, ◌≡◌, ◌≢◌, ◌≤◌, ◌⊎◌, ◌*◌}
+use Rattle.hd_scan.proofs.Basics.{Addr, HOST_BLOCKS, Bool, Contains, Counts, DueRows, Ends, Gives, Grows, Handle, HasSoundAges, IsDueRow, IsOn, IsPinnedBy, IsRootAt, IsSettled, IsTable, IsTaken, IsTargetBy, IsTargetOf, IsUnderway, IsYoungField, Leads, List, Objects, PinsBy, ROWS, RootPass, Some, Table, Task, WholeRoots, all_past, all_to_come, and_from, and_parts, ap, arith, begins, both_ways, cases_Bool, cases_eq, chain_of, clumps_to_come, due_clumps, due_slots, false, few_to_come, generation_at, goes_on, grows_like, grows_none, grows_on, inl, inr, is_due, is_some, length, live_at, pins, refl, row_at, row_due, row_past, row_same, same_Some, slots_to_come, subst, sym, takes, task_kind, true, undue_target, view_at, ℕ, ⊎_elim, ◌&&◌, ◌+◌, ◌<◌, ◌∙◌, ◌≡◌, ◌≢◌, ◌≤◌, ◌⊎◌, ◌*◌}
 use mir.Val.{bool_byte}
 use Rattle.hd_model.specs.declared.data.Slot.{Slot}
 use Rattle.hd_model.proofs.MapEntries.{some_value}
@@ -22,7 +22,7 @@ module _ (o : Objects Addr) (t : Table) (ages : List ℕ) (n : ℕ) (task : Task
     pub pin_joins : (x : Addr) → IsPastPinned (slots_to_come t ages w) x → pin x ≡ true
     pub pin_only : (x : Addr) → pin x ≡ true → (pin0 x ≡ true) ⊎ IsPinnedBy (row_at t) ages n task x
     pub counted : Counts (IsPastWith (IsRootAt (row_at t) ages n task) (slots_to_come t ages w)) held
-    pub few : held + length (slots_to_come t ages w) ≤ BLOCKS * ROWS
+    pub few : held + length (slots_to_come t ages w) ≤ HOST_BLOCKS * ROWS
 
 module _ {t : Table} {ages : List ℕ} {n : ℕ} {task : Task} where
   taken_due : (x : Addr) (r : IsTaken (row_at t) ages n task x) → IsDueRow t ages n (task_kind task) r.slot

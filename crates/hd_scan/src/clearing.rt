@@ -7,7 +7,7 @@ ghost use Rattle.hd_scan.specs.{Passes.ClearPass, Passes.view_at, Whole.WholeCle
 
 use crate::task::Task;
 use hd_ages::{AgeMap, DueRows};
-use hd_model::limits::{BLOCKS, ROWS};
+use hd_model::limits::{HOST_BLOCKS, ROWS};
 use hd_model::{Marker, Slot, Steps, is_lost};
 use hd_seg::Seg;
 use std::sync::ledger::Ledger;
@@ -30,7 +30,7 @@ pub fn clear<M: Marker, L: Ledger>(
         (view_at seg.old (M.promoted marker.now) (M.pinned marker.now))
         (view_at seg.new (M.promoted marker.now) (M.pinned marker.now)) result }
     ensures steps { steps.new ≡ steps.old + visits_of seg.old ages.now n (task_kind task) }
-    ensures few { result ≤ BLOCKS * ROWS }
+    ensures few { result ≤ HOST_BLOCKS * ROWS }
     ensures whole { HasSoundAges (objects_of (M.basis marker.now)) (row_at seg.old) ages.now →
         WholeClear (takes task) (view_at seg.old (M.promoted marker.now) (M.pinned marker.now))
         seg.new result }
@@ -60,7 +60,7 @@ fn clear_rows<M: Marker, L: Ledger>(
         (view_at seg.old (M.promoted marker.now) (M.pinned marker.now))
         (view_at seg.new (M.promoted marker.now) (M.pinned marker.now)) result }
     ensures steps { steps.new ≡ steps.old + visits_of seg.old ages.now n (task_kind task) }
-    ensures few { result ≤ BLOCKS * ROWS }
+    ensures few { result ≤ HOST_BLOCKS * ROWS }
     ensures whole { HasSoundAges (objects_of (M.basis marker.now)) (row_at seg.old) ages.now →
         WholeClear (takes task) (view_at seg.old (M.promoted marker.now) (M.pinned marker.now))
         seg.new result }

@@ -6,7 +6,7 @@ use crate::clearing::clear;
 use crate::roots::promote;
 use crate::task::Task;
 use hd_ages::AgeMap;
-use hd_model::limits::{BLOCKS, ROWS};
+use hd_model::limits::{HOST_BLOCKS, ROWS};
 use hd_model::{Marker, Steps};
 use hd_seg::Seg;
 use std::sync::ledger::Ledger;
@@ -33,7 +33,7 @@ pub fn pass<M: Marker, L: Ledger>(
         (view_at seg.old (M.promoted marker.old) (M.pinned marker.old))
         (view_at seg.new (M.promoted marker.new) (M.pinned marker.new)) result }
     ensures steps { steps.new ≡ steps.old + visits_of seg.old ages.now n (task_kind task) }
-    ensures few { result ≤ BLOCKS * ROWS }
+    ensures few { result ≤ HOST_BLOCKS * ROWS }
 
     // Where the ages are sound, what it promotes, pins and clears, and the number of those it
     // clears, is as if it had looked at all rows. The number of a root task is of the visited ones

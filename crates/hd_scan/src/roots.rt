@@ -6,7 +6,7 @@ ghost use Rattle.hd_scan.specs.{Inside.IsTargetBy, Inside.PinsBy, Passes.RootPas
 
 use crate::task::Task;
 use hd_ages::{AgeMap, DueRows};
-use hd_model::limits::{BLOCKS, ROWS};
+use hd_model::limits::{HOST_BLOCKS, ROWS};
 use hd_model::{Marker, Slot, Steps, pins_by};
 use hd_seg::Seg;
 use std::sync::ledger::Ledger;
@@ -31,7 +31,7 @@ pub fn promote<M: Marker, L: Ledger>(
         (view_at seg.now (M.promoted marker.old) (M.pinned marker.old))
         (view_at seg.now (M.promoted marker.new) (M.pinned marker.new)) result }
     ensures steps { steps.new ≡ steps.old + visits_of seg.now ages.now n (task_kind task) }
-    ensures few { result ≤ BLOCKS * ROWS }
+    ensures few { result ≤ HOST_BLOCKS * ROWS }
     ensures whole { HasSoundAges (objects_of (M.basis marker.old)) (row_at seg.now) ages.now →
         WholeRoots (objects_of (M.basis marker.old)) n (takes task)
         (view_at seg.now (M.promoted marker.old) (M.pinned marker.old))
@@ -73,7 +73,7 @@ fn promote_rows<M: Marker, L: Ledger>(
         (view_at seg.now (M.promoted marker.old) (M.pinned marker.old))
         (view_at seg.now (M.promoted marker.new) (M.pinned marker.new)) result }
     ensures steps { steps.new ≡ steps.old + visits_of seg.now ages.now n (task_kind task) }
-    ensures few { result ≤ BLOCKS * ROWS }
+    ensures few { result ≤ HOST_BLOCKS * ROWS }
     ensures whole { HasSoundAges (objects_of (M.basis marker.old)) (row_at seg.now) ages.now →
         WholeRoots (objects_of (M.basis marker.old)) n (takes task)
         (view_at seg.now (M.promoted marker.old) (M.pinned marker.old))
