@@ -1,6 +1,6 @@
 -- The names that most proofs of this crate cite, passed on from one place.
 pub use Rattle.std.proofs.Common.{Bool, List, None, Option, Some, [], ap, arith, bit_or, cond, drop, false, filter, get_or, inl, inr, length, length-append, not, refl, rules, set, subst, sym, take, true, ℕ, ⊎_elim, ◌%◌, ◌*◌, ◌++◌, ◌+◌, ◌-◌, ◌/◌, ◌<◌, ◌==◌, ◌^◌, ◌||◌, ◌∙◌, ◌∷◌, ◌≡◌, ◌≢◌, ◌≤◌, ◌⊎◌}
-pub use Rattle.std.proofs.lemmas.Bool.{and_from, and_parts, both_ways, cases_Bool, cases_eq, cases_lt, cond_both, le-leb, le-ltb, leb-true, lt-ltb, ltb-false, ltb-true, not-true, not_from_false, or_cases, or_left, or_parts, or_right}
+pub use Rattle.std.proofs.lemmas.Bool.{and_from, and_parts, both_ways, cases_Bool, cases_eq, cases_lt, cond_both, eqb-true, le-leb, le-ltb, leb-true, lt-ltb, ltb-false, ltb-true, not-true, not_from_false, or_cases, or_left, or_parts, or_right}
 pub use Rattle.std.proofs.lemmas.List.{append-nil, append_assoc, drop-append-le, drop_more, get_or-set_other, get_or-set_same, get_or_default, length-drop, nil_from_length, take-append-drop, take-append-le, take_more}
 pub use Rattle.std.proofs.lemmas.List.Elements.{Contains-append_cases, Contains-append_left, Contains-append_right, Contains-push, Contains-push_cases}
 pub use Rattle.std.specs.FinSet.{FinSet, contains, contains-empty, contains-insert, empty, insert, same_set}

@@ -1,6 +1,9 @@
 -- Bits read as sets of addresses: what a bit more does to them.
-use Rattle.hd_mark.proofs.Basics.{Addr, BITS, Bool, FinSet, Gains, IsTable, List, None, Option, REGION, Some, ap, arith, bit_or, cases_eq, contains, contains-empty, contains-insert, empty, false, get_or, get_or-set_other, get_or-set_same, index_of, inl, inr, insert, is_set, is_set_in, length, map, nat_cmp, or_cases, or_left, or_right, index_at, refl, same_address, same_set, set, sym, true, ℕ, ⊎_elim, ◌%◌, ◌*◌, ◌+◌, ◌/◌, ◌<◌, ◌==◌, ◌^◌, ◌||◌, ◌∙◌, ◌≡◌, ◌≢◌}
+use Rattle.hd_mark.proofs.Basics.{Addr, BITS, Bool, FinSet, Gains, IsTable, List, None, Option, REGION, Some, ap, arith, bit_or, cases_eq, cases_lt, contains, contains-empty, contains-insert, empty, false, get_or, get_or-set_other, get_or-set_same, index_of, inl, inr, insert, is_set, is_set_in, length, map, nat_cmp, not, or_cases, or_left, or_right, index_at, refl, same_address, same_set, set, sym, true, ℕ, ⊎_elim, ◌%◌, ◌*◌, ◌+◌, ◌/◌, ◌<◌, ◌==◌, ◌^◌, ◌||◌, ◌∙◌, ◌≡◌, ◌≢◌}
 use Rattle.std.proofs.Math.ListN.{get_or-map}
+use Rattle.std.proofs.lemmas.Nat.{le_or_l, le_or_r}
+use Rattle.std.proofs.lemmas.Nat.Bits.{bit_at-zero}
+use Rattle.hd_mark.specs.declared.bits.TheConstants.{WORDS}
 use Rattle.std.proofs.lemmas.Grind.{get_or_default_zero}
 use Rattle.std.specs.{Int.bit_at, FinMap.nat_cmp-IsAntisymmetric, Cmp.nat_cmp_total}
 use Rattle.hd_mask.proofs.Bits.{set_same, set_other}
@@ -31,6 +34,54 @@ module _ (words : List ℕ) (i word bit : ℕ) (low : i < BITS * length words)
     | inr other ↦ ap (λ w. bit_at w (k % BITS) == 1)
         (get_or-set_other words (i / BITS) (k / BITS) (bit_or word bit) 0 other)
   ]
+
+-- ---- the bits of one region
+
+unset : (words : List ℕ) (i : ℕ) → get_or words (i / BITS) 0 ≡ 0 → is_set words i ≡ false
+unset words i zero = ap (λ w. bit_at w (i % BITS) == 1) zero ∙ ap (λ b. b == 1) (bit_at-zero (i % BITS))
+
+-- the words of a region are 0
+pub all_unset : (words : List ℕ) (index : ℕ)
+    → ((j : ℕ) → j < WORDS → get_or words (WORDS * index + j) 0 ≡ 0) → (k : ℕ) → k < REGION
+    → is_set words (index * REGION + k) ≡ false
+all_unset words index zeros k low =
+    unset words (index * REGION + k)
+    (ap (λ j. get_or words j 0)
+    (let e : (index * REGION + k) / BITS ≡ WORDS * index + k / BITS = omega arith in e)
+    ∙ zeros (k / BITS) (omega arith))
+
+-- a test that does not fail
+pub unnegated : (b : Bool) → not b ≡ false → b ≡ true
+unnegated true e = refl
+unnegated false e = absurd (cc e)
+
+-- one word of all is 0 where all of them together are
+or_zero : (a b : ℕ) → bit_or a b ≡ 0 → (a ≡ 0) × (b ≡ 0)
+or_zero a b e = (omega (arith, e, le_or_l a b), omega (arith, e, le_or_r a b))
+
+pub four_zero : (words : List ℕ) (first a b c d : ℕ) → a ≡ get_or words first 0
+    → b ≡ get_or words (first + 1) 0
+    → c ≡ get_or words (first + 2) 0
+    → d ≡ get_or words (first + 3) 0 → bit_or (bit_or (bit_or a b) c) d ≡ 0 → (j : ℕ)
+    → j < WORDS
+    → get_or words (first + j) 0 ≡ 0
+four_zero words first a b c d at_a at_b at_c at_d e j low =
+    let three = or_zero (bit_or (bit_or a b) c) d e in
+    let two = or_zero (bit_or a b) c three.0 in
+    let one = or_zero a b two.0 in
+    elim (cases_lt j 2) [
+      | inl below ↦ elim (cases_eq j 0) [
+        | inl is ↦ ap (λ n. get_or words n 0) (let s : first + j ≡ first = omega arith in s) ∙ sym at_a ∙ one.0
+        | inr not ↦ ap (λ n. get_or words n 0) (let s : first + j ≡ first + 1 = omega arith in s) ∙ sym at_b
+            ∙ one.1
+      ]
+      | inr above ↦ elim (cases_eq j 2) [
+        | inl is ↦ ap (λ n. get_or words n 0) (let s : first + j ≡ first + 2 = omega arith in s) ∙ sym at_c
+            ∙ two.1
+        | inr not ↦ ap (λ n. get_or words n 0) (let s : first + j ≡ first + 3 = omega arith in s) ∙ sym at_d
+            ∙ three.1
+      ]
+    ]
 
 -- ---- members of sets of numbers
 

@@ -1,10 +1,15 @@
 -- What marks keep of their bits and their log.
-use Rattle.hd_mark.proofs.Basics.{Addr, AreMarks, Basis, FinSet, Heap, IsNextDone, IsTraced, List, MarksOf, REGION, Some, [], advanced, and_parts, ap, arith, bit_of, contains, drop, drop-append-le, drop_more, false, first_marks, if◌then◌else◌, insert, is_condemned, is_object, is_older, is_set, is_some, le-ltb, leb-true, left, length, length-append, length-drop, mapped_value, marked_also, nat_cmp, objects_of, offset_of, or_parts, pinned_also, pinned_in, index_at, promoted_in, pushed, refl, seen, set_of, subst, sym, take, take-append-le, take_more, true, ℕ, ◌*◌, ◌++◌, ◌+◌, ◌<◌, ◌||◌, ◌∙◌, ◌∷◌, ◌≡◌, ◌≢◌, ◌≤◌}
-use Rattle.hd_model.specs.Heap.{region_of}
+use Rattle.hd_mark.proofs.Basics.{Addr, AreMarks, Basis, FinSet, Heap, IsNextDone, IsTraced, List, MarksOf, None, Option, REGION, Some, WORDS, [], advanced, and_parts, ap, arith, bit_of, cases_Bool, contains, drop, drop-append-le, drop_more, false, first_marks, generation_in, if◌then◌else◌, inl, inr, insert, is_condemned, is_object, is_older, is_set, is_some, le-ltb, leb-true, left, length, length-append, length-drop, mapped_value, marked_also, nat_cmp, objects_of, offset_of, or_parts, pinned_also, pinned_in, index_at, promoted_in, pushed, refl, seen, set_of, subst, sym, take, take-append-le, take_more, true, ℕ, ◌%◌, ◌*◌, ◌++◌, ◌+◌, ◌<◌, ◌||◌, ◌∙◌, ◌∷◌, ◌≡◌, ◌≢◌, ◌≤◌}
+use Rattle.hd_model.specs.{Heap.region_of, State.Object}
 use Rattle.hd_mark.specs.declared.indexes.Indexes.{Indexes}
 use Rattle.hd_mark.proofs.MarkBits.{bit_read, bit_joins, set_of_none}
 use Rattle.hd_mark.proofs.{UnmarkedCount.left_falls, MarkPush.mark_traced}
 use Rattle.hd_mark.proofs.MarkDrain.{advance_traced, pin_traced}
+
+-- what is no object has generation 0
+no_generation : (o : Option (Object Addr)) → is_some o ≡ false → generation_in o ≡ 0
+no_generation None e = refl
+no_generation (Some x) e = absurd (cc e)
 
 -- no bit is set at first, and nothing is logged
 pub first_seen : (h : Heap) (n : ℕ) (indexes marks pins : List ℕ) {log : List Addr}
@@ -80,6 +85,34 @@ module _ {b : Basis} {p : Indexes} {marks pins : List ℕ} {log : List Addr} {ne
 
       pub last_kept : AreMarks b p marks pins log end room
       last_kept = subst (λ (k : ℕ). AreMarks b p marks pins log k room) passed advance_kept
+
+  -- where no bit of a condemned region is set, no object of it is promoted
+  module _ (r index : ℕ) (is : index_at indexes r ≡ Some index)
+      (none : (k : ℕ) → k < REGION → is_set marks (index * REGION + k) ≡ false) where
+    unmarked : (a : Addr) → region_of a ≡ r → contains m.marks a.0 ≡ false
+    unfolding region_of
+    unmarked a here =
+        ap (λ (k : MarksOf). contains k.marks a.0) (sym view)
+        ∙ sym (bit_read indexes a.0 index (ap (index_at indexes) here ∙ is) refl marks)
+        ∙ none (a.0 % REGION) (omega arith)
+
+    not_old : (a : Addr) → region_of a ≡ r → is_older b a ≡ false
+    not_old a here = elim (cases_Bool (is_object (objects_of b) a)) [
+      | inl there ↦
+          let young : is_condemned b.heap b.condemned a ≡ true =
+          sym (t.indexes.covers a there) ∙ ap is_some (ap (index_at indexes) here ∙ is) in
+          le-ltb _ _ (leb-true _ _ (and_parts _ _ young).1)
+      | inr missing ↦ le-ltb _ _ (omega (arith, no_generation (objects_of b a) missing))
+    ]
+
+    pub unpromoted : (a : Addr) → region_of a ≡ r → promoted_in m a ≡ false
+    unpromoted a here =
+        ap (λ (k : MarksOf). is_older k.basis a || contains m.marks a.0) (sym view)
+        ∙ ap (λ b. b || contains m.marks a.0) (not_old a here) ∙ unmarked a here
+
+  -- and all bits of a region of an index are there
+  pub words_there : (r index : ℕ) → index_at indexes r ≡ Some index → WORDS * (index + 1) ≤ length marks
+  words_there r index is = omega (arith, t.indexes.table.within r index is, t.marks_long)
 
   module _ (at : Addr) (object : is_object (objects_of m.basis) at ≡ true) where
     there : is_object (objects_of b) at ≡ true

@@ -1,5 +1,5 @@
 // Sets of small numbers, a bit for each.
-ghost use Rattle.std.specs.Prelude.{◌≡◌, ◌≢◌, ℕ, ◌*◌, ◌<◌, ◌≤◌, true, false, length, IfOk};
+ghost use Rattle.std.specs.Prelude.{◌≡◌, ◌≢◌, ℕ, ◌+◌, ◌*◌, ◌<◌, ◌≤◌, true, false, length, slice_index, IfOk};
 ghost use Rattle.hd_mark.specs.Fields.{is_set};
 
 use hd_mask::bit;
@@ -37,6 +37,28 @@ impl Bits {
         ensures { result ≡ is_set self.now.words.items i }
     {
         self.words[(i / BITS) as usize] & bit(i % BITS) != 0
+    }
+
+    /// Whether there is a member among the numbers of a region of this index.
+    pub(crate) fn has_some(&self, index: u32) -> bool
+        requires { WORDS * (index + 1) ≤ length self.now.words.items }
+        ensures { result ≡ false → (k : ℕ) → k < REGION →
+            is_set self.now.words.items (index * REGION + k) ≡ false }
+    {
+        let first = WORDS as usize * index as usize;
+        let a = self.word(first);
+        let b = self.word(first + 1);
+        let c = self.word(first + 2);
+        let d = self.word(first + 3);
+        a | b | c | d != 0
+    }
+
+    // The word at an index.
+    fn word(&self, at: usize) -> u64
+        requires { at < length self.now.words.items }
+        ensures { result ≡ slice_index self.now.words.items at }
+    {
+        self.words[at]
     }
 
     /// Adds a number.

@@ -2,7 +2,7 @@
 ghost use Rattle.std.specs.Prelude.{◌≡◌, ◌<◌, length, IfOk};
 ghost use Rattle.hd_model.specs.Heap.{region_of};
 ghost use Rattle.hd_heap.specs.Calls.{IsExtent};
-ghost use Rattle.hd_mark.specs.Inside.{bit_of, IsTable, HasIndexes};
+ghost use Rattle.hd_mark.specs.Inside.{bit_of, index_at, IsTable, HasIndexes};
 
 use hd_heap::{Extent, Heap};
 use hd_model::limits::REGION;
@@ -43,6 +43,19 @@ impl Indexes {
             after = region;
         }
         Ok(Indexes { indexes, regions })
+    }
+
+    /// The index of a region, which may be any number, if it is condemned.
+    pub(crate) fn index(&self, region: u32) -> Option<u32>
+        ensures { result ≡ index_at self.now.indexes.items region }
+    {
+        if region as usize >= self.indexes.len() {
+            return None;
+        }
+        match self.indexes[region as usize] {
+            0 => None,
+            index => Some(index),
+        }
     }
 
     /// The number of the bit of an address, if it lies in a condemned region.

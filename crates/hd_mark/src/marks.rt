@@ -226,6 +226,15 @@ impl<'h> Marker for Marks<'h> {
         }
     }
 
+    // Of a region that is not condemned nothing is known.
+    #[inline(always)]
+    fn may_keep(&self, region: u32) -> bool {
+        let Some(index) = self.indexes.index(region) else {
+            return true;
+        };
+        self.marks.has_some(index)
+    }
+
     #[inline(always)]
     fn promote(&mut self, at: Addr) {
         self.mark(at);
