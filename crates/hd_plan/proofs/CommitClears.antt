@@ -1,6 +1,6 @@
 -- What is removed singly and what is given up with its region come to all that is left.
-use Rattle.hd_plan.proofs.Basics.{Addr, AreGivenUp, AreRemovedIn, AreSettledRegions, Bool, HasForwards, HasStay, Heap, IsCondemnedRegion, IsLeft, List, None, Option, PlanOf, Some, ap, arith, both_ways, cases_Bool, cases_eq, condemned_at, false, false_from_ne_true, first_at, has-get, has_object, inl, inr, is_in_use, is_pinned, is_some, length, move_at, refl, region_of, subst, sym, true, ℕ, ◌-◌, ◌<◌, ◌∙◌, ◌≡◌, ◌≤◌}
-use Rattle.hd_plan.proofs.{KeptObjectSteps.left_there, KeptObjectSteps.put_all, CommitShape.AreAtNewAddresses, CommitShape.AreCleared, CommitShape.IsCommitting, CommitShape.move_listed, CommitShape.regions_now, CommitGenerations.forwards_same}
+use Rattle.hd_plan.proofs.Basics.{Addr, AreGivenUp, AreRemovedIn, AreSettledRegions, Bool, HasForwards, HasStay, Heap, IsCondemnedRegion, IsGone, List, None, Option, PlanOf, Some, ap, arith, both_ways, cases_Bool, cases_eq, condemned_at, false, false_from_ne_true, first_at, has-get, has_object, inl, inr, is_condemned, is_in_use, is_pinned, is_some, length, move_at, refl, region_of, subst, sym, true, ℕ, ◌-◌, ◌<◌, ◌∙◌, ◌≡◌, ◌≤◌}
+use Rattle.hd_plan.proofs.{KeptObjectSteps.left_there, KeptObjectSteps.put_all, CommitShape.AreAtNewAddresses, CommitShape.AreCleared, CommitShape.IsCommitting, CommitShape.listed_at, CommitShape.move_listed, CommitShape.regions_now, CommitShape.shape_condemned, CondemnedAddresses.condemned_of, CommitGenerations.forwards_same}
 use Rattle.std.specs.FinMap as fin
 
 none_at : (h : Heap) (a : Addr) → has_object h a ≡ false → fin.get h.objects a.0 ≡ None
@@ -55,8 +55,8 @@ module _ {p : PlanOf} {old h1 h2 h3 : Heap} (c : IsCommitting p old) (m : AreAtN
           both_ways _ unpinned (ap (λ i. (condemned_at p.regions i).pinned)
           (same_entry j k within low (other ∙ sym same)) ∙ pinned))
 
-      gone_all : (a : Addr) → IsLeft p.moves (length p.moves) a → fin.get h5.objects a.0 ≡ None
-      gone_all a e =
+      gone_all : (a : Addr) → IsGone p a → fin.get h5.objects a.0 ≡ None
+      gone_all a (inl e) =
           let (k, at) = move_listed c e.at e.before in
           let inside : (condemned_at p.regions k).region ≡ region_of a = at.1 ∙ ap region_of e.is in
           elim (cases_Bool (condemned_at p.regions k).pinned) [
@@ -64,8 +64,16 @@ module _ {p : PlanOf} {old h1 h2 h3 : Heap} (c : IsCommitting p old) (m : AreAtN
                 ∙ r4.gone a e (ap here (sym inside) ∙ here_at k at.0 ∙ pinned)
             | inr unpinned ↦ r5.gone k at.0 unpinned a (sym inside)
           ]
+      gone_all a (inr (gone, none)) =
+          let is : is_condemned old p.basis.condemned a ≡ true =
+          shape_condemned c.same p.basis.condemned a ∙ gone in
+          let (k, at) = listed_at c a (condemned_of old p.basis.condemned a is) in
+          let unpinned : (condemned_at p.regions k).pinned ≡ false =
+          false_from_ne_true _ (λ pinned. let stay = ((regions_now c).pinned k at.0).0 pinned in
+          none stay.at stay.within (stay.region ∙ at.1)) in
+          r5.gone k at.0 unpinned a (sym at.1)
 
-      others_all : (a : Addr) → (IsLeft p.moves (length p.moves) a → ⊥)
+      others_all : (a : Addr) → (IsGone p a → ⊥)
           → fin.get h5.objects a.0 ≡ fin.get h3.objects a.0
       others_all a none =
           elim (cases_eq (first_at firsts (region_of a)) 0) [
@@ -88,7 +96,7 @@ module _ {p : PlanOf} {old h1 h2 h3 : Heap} (c : IsCommitting p old) (m : AreAtN
           ]
         where
           before : fin.get hr.objects a.0 ≡ fin.get h3.objects a.0
-          before = r4.others a (λ e. absurd (none e))
+          before = r4.others a (λ e. absurd (none (inl e)))
 
       pub cleared : AreCleared p h3 h5
       cleared = record {

@@ -1,5 +1,5 @@
 -- A plan is valid for each heap of the same shape as the one for which it was laid.
-use Rattle.hd_plan.proofs.Basics.{Addr, AllocCursors, AreMoves, AreCopied, AreRegions, AreRewritten, AreSettledRegions, CanCopy, Condemned, Fits, HEADER, HasSoundCards, HasStay, Heap, IsCondemned, IsField, IsLaid, IsLeft, IsSameShape, IsStayedAt, IsSound, List, Move, None, PlanOf, Room, Some, ap, arith, cells_of, condemned_at, fields_at, fields_placed, find_move, generation_at, is_carded, is_condemned, is_in_use, is_old_carded, is_kept_by, is_staying, has_object, kept_in, length, member_same, move_at, nat_le, nat_lt, object_at, forwarding_in, placed_at, put_fate, raised, region_generation, region_of, room_of, subst, suc, sym, true, zero, ℕ, ◌&&◌, ◌+◌, ◌<◌, ◌||◌, ◌∙◌, ◌≡◌}
+use Rattle.hd_plan.proofs.Basics.{Addr, AllocCursors, AreMoves, AreCopied, AreRegions, AreRewritten, AreSettledRegions, CanCopy, Condemned, Fits, HEADER, HasSoundCards, HasStay, Heap, IsCondemned, IsField, IsGone, IsLaid, IsSameShape, IsStayedAt, IsSound, List, Move, None, PlanOf, Room, Some, ap, arith, cells_of, condemned_at, fields_at, fields_placed, find_move, generation_at, is_carded, is_condemned, is_in_use, is_old_carded, is_kept_by, is_staying, has_object, kept_in, length, member_same, move_at, nat_le, nat_lt, object_at, forwarding_in, placed_at, put_fate, raised, region_generation, region_of, room_of, subst, suc, sym, true, zero, ℕ, ◌&&◌, ◌+◌, ◌<◌, ◌||◌, ◌∙◌, ◌≡◌}
 use Rattle.hd_plan.specs.Layout.{room_at}
 use Rattle.hd_plan.proofs.{CommitCopies.generation_alike, CommitCards.has_from, KeptMoves.generation_some, KeptMoves.are_put, KeptMoves.is_condemned_at, KeptMoves.kept, CondemnedAddresses.region_young}
 use Rattle.std.specs.FinMap as fin
@@ -10,11 +10,11 @@ pub record AreAtNewAddresses (p : PlanOf) (old h1 h2 h3 : Heap) : Type 0 where
   pub carded : AreRewritten (λ a. is_old_carded h1 p.basis.condemned a ≡ true) (forwarding_in p) h1 h2
   pub stayed : AreRewritten (IsStayedAt p.moves (length p.moves)) (forwarding_in p) h2 h3
 
--- the objects that do not stay are gone from their old addresses, and the condemned regions are settled;
--- cards of objects are as before
+-- the objects that no move leaves in place are gone from their old addresses, and the condemned regions are
+-- settled; cards of objects are as before
 pub record AreCleared (p : PlanOf) (old h : Heap) : Type 0 where
-  pub gone : (a : Addr) → IsLeft p.moves (length p.moves) a → fin.get h.objects a.0 ≡ None
-  pub others : (a : Addr) → (IsLeft p.moves (length p.moves) a → ⊥)
+  pub gone : (a : Addr) → IsGone p a → fin.get h.objects a.0 ≡ None
+  pub others : (a : Addr) → (IsGone p a → ⊥)
       → fin.get h.objects a.0 ≡ fin.get old.objects a.0
   pub cards : (a : Addr) → has_object h a ≡ true → is_carded h a ≡ is_carded old a
   pub regions : AreSettledRegions old.regions h.regions p.regions (length p.regions)
@@ -26,7 +26,7 @@ module _ {h k : Heap} (s : IsSameShape h k) where
       generation_alike h k a (s.objects a)
       (ap (λ rs. region_generation (record h { regions = rs }) (region_of a)) s.regions)
 
-  shape_condemned : (n : ℕ) (a : Addr) → is_condemned k n a ≡ is_condemned h n a
+  pub shape_condemned : (n : ℕ) (a : Addr) → is_condemned k n a ≡ is_condemned h n a
   shape_condemned n a =
       (let there = s.objects a in let generation = shape_generation a in
       λ i. there i && nat_le (generation i) n)

@@ -1,6 +1,6 @@
 -- What is kept by moves, and where it goes: objects alone, all that is older and in place, and no two to one
 -- address.
-use Rattle.hd_plan.proofs.Basics.{Addr, AreMoves, ArePut, Bool, Dead, FIELDS, Fate, Fits, HEADER, Heap, IsCondemned, IsKeeping, IsPut, IsSound, List, Move, Moves, MovesToNewRegion, None, Object, Option, Pinned, Some, ap, arith, both_ways, cases_Bool, cases_eq, cases_order, cells_of, false, find_move, generation_at, generation_in, has_object, inl, inr, is_condemned, is_kept_by, is_kept_fate, is_moving, is_some, is_staying, le-ltb, length, lt-ltb, ltb-true, move_at, nat_lt, object_at, or_cases, or_left, forwarding_by, placed_at, raised, refl, subst, suc, sym, true, true≢false, young_raised, zero, ℕ, ◌+◌, ◌<◌, ◌||◌, ◌∙◌, ◌≡◌, ◌≢◌, ◌≤◌, ◌⊎◌}
+use Rattle.hd_plan.proofs.Basics.{Addr, AreMoves, ArePut, Bool, Dead, FIELDS, Fate, Fits, HEADER, Heap, IsCondemned, IsKeeping, IsPut, IsSound, List, Move, Moves, MovesToNewRegion, None, Object, Option, Pinned, Some, ap, arith, both_ways, cases_Bool, cases_eq, cases_order, cells_of, false, find_move, generation_at, generation_in, has_object, inl, inr, is_condemned, is_kept_by, is_kept_fate, is_moving, is_some, is_staying, le-ltb, length, lt-ltb, ltb-true, move_at, nat_lt, object_at, or_cases, or_left, forwarding_by, placed_at, raised, refl, region_of, subst, suc, sym, true, true≢false, young_raised, zero, ℕ, ◌+◌, ◌<◌, ◌||◌, ◌∙◌, ◌≡◌, ◌≢◌, ◌≤◌, ◌⊎◌}
 use Rattle.hd_plan.specs.Layout.{room_at}
 use Rattle.hd_plan.proofs.{CondemnedAddresses.condemned_of, MoveEnds.find_at, MoveEnds.find_none, RoomSteps.room_start, RoomSteps.goes}
 
@@ -140,11 +140,17 @@ module _ {h : Heap} {n : ℕ} (sound : IsSound h) {ms : List Move} (moves : AreM
   pub kept_cases : (a : Addr) → kept h n ms a ≡ true → (n < generation_at (object_at h) a)
       ⊎ ((k : ℕ) × IsKeptBy ms a k)
   kept_cases a e = elim (cases_Bool (is_condemned h n a)) [
-    | inl is ↦
-        let (k, at) = moves.all a is in
-        let goes = sym (move_kept k at.0) ∙ ap (kept h n ms) at.1 ∙ e in
-        let to = ap (forwarding ms) (sym at.1) ∙ move_forwarding k at.0 in
-        inr (k, record { within = at.0; from = at.1; kept = goes; to = to })
+    | inl is ↦ elim (moves.all a is) [
+      | inl (k, at) ↦
+          let goes = sym (move_kept k at.0) ∙ ap (kept h n ms) at.1 ∙ e in
+          let to = ap (forwarding ms) (sym at.1) ∙ move_forwarding k at.0 in
+          inr (k, record { within = at.0; from = at.1; kept = goes; to = to })
+      | inr none ↦ elim (or_cases _ _ e) [
+        | inl older ↦ inl (ltb-true n (generation_at (object_at h) a) older)
+        | inr moved ↦ absurd (true≢false (sym moved ∙ ap is_kept_by (find_none ms a (λ k low same.
+            none k low (ap region_of same)))))
+      ]
+    ]
     | inr other ↦ elim (or_cases _ _ e) [
       | inl older ↦ inl (ltb-true n (generation_at (object_at h) a) older)
       | inr moved ↦ absurd (true≢false (sym moved ∙ ap is_kept_by (find_none ms a (λ k low same.

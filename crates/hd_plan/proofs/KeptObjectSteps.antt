@@ -1,8 +1,8 @@
 -- The kept objects at their new addresses: what each step leaves for the next.
 use Rattle.hd_heap.proofs.NextObjects.{generation_is}
-use Rattle.hd_plan.proofs.Basics.{Addr, AreCopied, ArePut, AreRewritten, Contains, HasStay, Heap, IsCondemned, IsCondemnedRegion, IsField, IsLeft, IsStayedAt, List, None, Option, Pinned, PlanOf, Region, Some, [], and_from, and_parts, ap, arith, both_ways, cases_Bool, cases_lt, false, fields_at, fields_placed, first_in, forwarded, generation_at, has-get, has_object, inl, inr, is_carded, is_in_use, is_kept_fate, is_moving, is_old_carded, is_set, is_some, is_staying, kept_in, later_in, length, lt-ltb, ltb-true, map, member_same, move_at, not, object_at, option_map, forwarding_in, placed_at, refl, region_generation, subst, sym, true, true≢false, unwrap_or, ℕ, ◌<◌, ◌∙◌, ◌∷◌, ◌≡◌, ◌≢◌, ◌⊎◌}
+use Rattle.hd_plan.proofs.Basics.{Addr, AreCopied, ArePut, AreRewritten, Contains, HasStay, Heap, IsCondemned, IsCondemnedRegion, IsField, IsGone, IsStayedAt, List, None, Option, Pinned, PlanOf, Region, Some, [], and_from, and_parts, ap, arith, both_ways, cases_Bool, cases_lt, false, fields_at, fields_placed, first_in, forwarded, generation_at, has-get, has_object, inl, inr, is_carded, is_condemned, is_in_use, is_kept_fate, is_moving, is_old_carded, is_set, is_some, is_staying, kept_in, later_in, length, lt-ltb, ltb-true, map, member_same, move_at, not, object_at, option_map, forwarding_in, placed_at, refl, region_generation, subst, sym, true, true≢false, unwrap_or, ℕ, ◌<◌, ◌∙◌, ◌∷◌, ◌≡◌, ◌≢◌, ◌⊎◌}
 use Rattle.hd_model.specs.Heap.{region_of, card_of}
-use Rattle.hd_plan.proofs.{LayStep.address_low, RoomSteps.region_low, MoveWeights.froms_apart, CondemnedAddresses.older_or_young, CondemnedAddresses.condemned_is, CondemnedAddresses.condemned_of, KeptMoves.IsKeptBy, KeptMoves.moving_or_staying, KeptMoves.moving_kept, KeptMoves.staying_is, KeptMoves.kept_cases, KeptMoves.older_kept, KeptMoves.older_forwarding, KeptMoves.move_kept, KeptMoves.move_forwarding, KeptMoves.pinned_address, KeptMoves.put_new, KeptMoves.all_put, KeptMoves.is_condemned_at, KeptMoves.rests, KeptMoves.moves_by, KeptMoves.rests_or_moves, CommitCopies.get_placed, CommitCopies.has_alike, CommitCopies.field_alike, CommitCopies.generation_alike, CommitCopies.no_region, CommitShape.AreCleared, CommitShape.IsCommitting, CommitShape.moves_now, CommitShape.kept_now, CommitShape.closed_now}
+use Rattle.hd_plan.proofs.{LayStep.address_low, RoomSteps.region_low, MoveWeights.froms_apart, CondemnedAddresses.older_or_young, CondemnedAddresses.condemned_is, CondemnedAddresses.condemned_of, KeptMoves.IsKeptBy, KeptMoves.moving_or_staying, KeptMoves.moving_kept, KeptMoves.staying_is, KeptMoves.kept_cases, KeptMoves.older_kept, KeptMoves.older_forwarding, KeptMoves.move_kept, KeptMoves.move_forwarding, KeptMoves.pinned_address, KeptMoves.put_new, KeptMoves.all_put, KeptMoves.is_condemned_at, KeptMoves.rests, KeptMoves.moves_by, KeptMoves.rests_or_moves, CommitCopies.get_placed, CommitCopies.has_alike, CommitCopies.field_alike, CommitCopies.generation_alike, CommitCopies.no_region, CommitShape.AreCleared, CommitShape.IsCommitting, CommitShape.moves_now, CommitShape.kept_now, CommitShape.closed_now, CommitShape.shape_condemned}
 use Rattle.hd_plan.specs.Inside.{IsCopiedTo}
 use Rattle.std.specs.FinMap as fin
 
@@ -163,22 +163,26 @@ module _ {p : PlanOf} {old : Heap} (c : IsCommitting p old) where
         third_only a there =
             c1.only a (sym (r2.there a) ∙ sym (r3.there a) ∙ there)
 
-        -- a condemned object is left, or one stays in its region
+        -- a condemned object is left, or it stays
         young_left : (a : Addr) → IsCondemned (object_at old) p.basis.condemned a
-            → IsLeft p.moves (length p.moves) a
+            → IsGone p a
             ⊎ ((k : ℕ) × ((k < length p.moves) × (((move_at p.moves k).from ≡ a)
             × (is_staying (move_at p.moves k).fate ≡ true))))
         young_left a young =
-            let (k, listed) = (moves_now c).all a (condemned_is old p.basis.condemned a young) in
-            elim (cases_Bool (is_staying (move_at p.moves k).fate)) [
-              | inl stays ↦ inr (k, (listed.0, (listed.1, stays)))
-              | inr goes ↦ inl (record { at = k; before = listed.0; goes = ap not goes; is = listed.1 })
+            let is = condemned_is old p.basis.condemned a young in
+            elim ((moves_now c).all a is) [
+              | inl (k, listed) ↦ elim (cases_Bool (is_staying (move_at p.moves k).fate)) [
+                | inl stays ↦ inr (k, (listed.0, (listed.1, stays)))
+                | inr goes ↦
+                    inl (inl (record { at = k; before = listed.0; goes = ap not goes; is = listed.1 }))
+              ]
+              | inr none ↦ inl (inr (sym (shape_condemned c.same p.basis.condemned a) ∙ is, none))
             ]
 
         -- all in a condemned region in which nothing stays is left
         pub left_there : (a : Addr) → has_object h3 a ≡ true
             → IsCondemnedRegion old p.basis.condemned (region_of a) → (HasStay p.moves (region_of a) → ⊥)
-            → IsLeft p.moves (length p.moves) a
+            → IsGone p a
         left_there a there young none = elim (third_only a there) [
           | inl was ↦ elim (young_left a (record {
             object = was;
@@ -266,8 +270,8 @@ module _ {p : PlanOf} {old : Heap} (c : IsCommitting p old) where
         -- and what does not stay is gone from its old address
         module _ {h5 : Heap} (r5 : AreCleared p h3 h5) where
           forwarding_left : (a : Addr) → kept_in p a ≡ true
-              → IsLeft p.moves (length p.moves) (forwarding_in p a) → ⊥
-          forwarding_left a kept e =
+              → IsGone p (forwarding_in p a) → ⊥
+          forwarding_left a kept (inl e) =
               let young = from_condemned e.at e.before in
               elim (kept_by a kept) [
                 | inl older ↦
@@ -284,6 +288,21 @@ module _ {p : PlanOf} {old : Heap} (c : IsCommitting p old) where
                       ∙ ap (λ w. not (is_staying w)) pinned)
                 ]
               ]
+          forwarding_left a kept (inr (gone, none)) =
+              let is : is_condemned old p.basis.condemned (forwarding_in p a) ≡ true =
+              shape_condemned c.same p.basis.condemned (forwarding_in p a) ∙ gone in
+              let young = condemned_of old p.basis.condemned (forwarding_in p a) is in
+              elim (kept_by a kept) [
+                | inl older ↦
+                    let same = ap (generation_at (object_at old)) (forwarding_older a older) in
+                    omega (arith, same, young.young, older)
+                | inr (k, by) ↦ elim (moving_or_staying (move_at p.moves k).fate by.kept) [
+                  | inl moving ↦ both_ways _ (put_new c.sound (moves_now c) k by.within moving)
+                      (ap (has_object old) (sym by.to) ∙ young.object)
+                  | inr pinned ↦
+                      none k by.within (ap region_of (sym (by.to ∙ stays_there k by.within pinned)))
+                ]
+              ]
 
           pub image_at : (a : Addr) → kept_in p a ≡ true
               → fin.get h5.objects (forwarding_in p a).0 ≡ option_map (forwarded (forwarding_in p))
@@ -293,7 +312,7 @@ module _ {p : PlanOf} {old : Heap} (c : IsCommitting p old) where
           pub image_only : (b : Addr) → has_object h5 b ≡ true
               → (a : Addr) × ((kept_in p a ≡ true) × (forwarding_in p a ≡ b))
           image_only b there =
-              let stays : IsLeft p.moves (length p.moves) b → ⊥ =
+              let stays : IsGone p b → ⊥ =
               λ left. true≢false (sym there ∙ has-get h5 b ∙ ap is_some (r5.gone b left)) in
               elim (third_only b (sym (has_alike h3 h5 b (r5.others b stays)) ∙ there)) [
                 | inl was ↦ elim (older_or_young old p.basis.condemned b was) [

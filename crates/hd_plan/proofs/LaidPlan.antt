@@ -1,10 +1,10 @@
--- All that is condemned has a move, and all regions are listed: the plan is laid.
-use Rattle.std.proofs.lemmas.List.Filters.{length-filter_both}
+-- All that is kept has a move, and all regions are listed: the plan is laid.
 use Rattle.hd_heap.proofs.NextObjects.{condemned_has, generation_is}
+use Rattle.hd_model.proofs.PropertyCounts.{counts_join, counts_once}
 use Rattle.hd_model.specs.declared.limits.TheConstants.{REGIONS}
-use Rattle.hd_plan.specs.Inside.{HasForwards, IsLaidTo, forwarding_from}
-use Rattle.hd_plan.proofs.Basics.{Addr, AllocCursors, AreMoves, Bool, Counts, HasNoEmptyCondemned, Heap, IsClosed, IsCondemned, IsField, IsLaid, IsSettled, IsSound, List, Move, PlanOf, REGION, and_from, and_parts, ap, arith, cases_eq, count_by, false, first_at, has_object, inl, inr, is_kept_fate, is_staying, kept_in, length, length-filter, move_at, not, not-true, object_at, objects_of, forwarding_among, forwarding_in, refl, region_generation, region_of, stays_in, subst, suc, sym, true, true≢false, zero, ℕ, ◌+◌, ◌-◌, ◌<◌, ◌^◌, ◌∙◌, ◌≡◌, ◌≤◌}
-use Rattle.hd_plan.proofs.{CondemnedAddresses.condemned_is, CondemnedAddresses.condemned_of, CondemnedAddresses.older_or_young, CondemnedAddresses.region_young, CondemnedAddresses.same_tests, KeptMoves.is_condemned_at, KeptMoves.older_kept, KeptMoves.older_forwarding, KeptMoves.move_kept, KeptMoves.move_forwarding, KeptMoves.kept_cases, KeptMoves.keeping, KeptMoves.pinned_address, KeptMoves.staying_is, MoveWeights.counts_moves, LayStep.address_low, LayStep.moves_like, RegionList.region_condemned, RegionList.regions_like}
+use Rattle.hd_plan.specs.{Inside.HasForwards, Inside.IsLaidTo, Inside.forwarding_from, Layout.HasMove}
+use Rattle.hd_plan.proofs.Basics.{Addr, AllocCursors, AreMoves, Bool, Counts, Extent, HasNoEmptyCondemned, Heap, IsClosed, IsCondemned, IsExtent, IsField, IsLaid, IsSettled, IsSound, List, PlanOf, REGION, and_from, and_parts, ap, arith, both_ways, cases_Bool, cases_eq, count_by, counts_le, counts_like, counts_where, false, first_at, has_object, inl, inr, is_condemned, is_kept_fate, is_staying, kept_in, length, move_at, not, not-true, object_at, objects_of, forwarding_among, forwarding_in, region_generation, region_of, stays_in, subst, suc, sym, true, true≢false, zero, ℕ, ⊎_elim, ◌+◌, ◌-◌, ◌<◌, ◌^◌, ◌∙◌, ◌≡◌, ◌≤◌, ◌⊎◌}
+use Rattle.hd_plan.proofs.{CondemnedAddresses.condemned_is, CondemnedAddresses.condemned_of, CondemnedAddresses.older_or_young, CondemnedAddresses.region_young, CondemnedAddresses.same_tests, KeptMoves.IsKeptBy, KeptMoves.is_condemned_at, KeptMoves.older_kept, KeptMoves.older_forwarding, KeptMoves.move_kept, KeptMoves.move_forwarding, KeptMoves.kept_cases, KeptMoves.keeping, KeptMoves.pinned_address, KeptMoves.staying_is, MoveWeights.counts_moves, LayStep.address_low, LayStep.moves_like, RegionList.region_condemned, RegionList.regions_like}
 
 -- what a plan that was laid promises
 pub record IsLaidFrom (p : PlanOf) (promoted pinned : Addr → Bool) : Type 0 where
@@ -29,6 +29,13 @@ module _ {p : PlanOf} {promoted pinned : Addr → Bool} {firsts : List ℕ} {cel
   moves : AreMoves h n p.moves
   moves = moves_like laid.laying.to (λ a is. is.0)
       (λ a of. (of, let low = (address_low h sound a (condemned_has h n a of)).1 in omega arith))
+      (λ a passed. passed.none)
+
+  -- a condemned object that is promoted has a move
+  moved : (a : Addr) → is_condemned h n a ≡ true → promoted a ≡ true → HasMove p.moves a
+  moved a is e =
+      ⊎_elim (λ at. at) (λ passed. absurd (both_ways _ passed.unkept e))
+      (laid.laying.to.all a (is, (let low = (address_low h sound a (condemned_has h n a is)).1 in omega arith)))
 
   kept_promoted : (a : Addr) → kept_in p a ≡ true → promoted a ≡ true
   kept_promoted a e = elim (kept_cases sound moves a e) [
@@ -41,7 +48,7 @@ module _ {p : PlanOf} {promoted pinned : Addr → Bool} {firsts : List ℕ} {cel
   promoted_kept a e = elim (older_or_young h n a (settled.objects a e)) [
     | inl older ↦ older_kept sound moves a older
     | inr young ↦
-        let (k, at) = moves.all a young in
+        let (k, at) = moved a young e in
         subst (λ (x : Addr). kept_in p x ≡ true) at.1
         (move_kept sound moves k at.0 ∙ laid.laying.chosen.kept k at.0 ∙ ap promoted at.1 ∙ e)
   ]
@@ -77,7 +84,7 @@ module _ {p : PlanOf} {promoted pinned : Addr → Bool} {firsts : List ℕ} {cel
         in_place = λ a e f. elim (older_or_young h n a (settled.objects a e)) [
           | inl older ↦ older_forwarding sound moves a older
           | inr young ↦
-              let (k, at) = moves.all a young in
+              let (k, at) = moved a young e in
               subst (λ (x : Addr). forwarding_in p x ≡ x) at.1 (move_forwarding sound moves k at.0
               ∙ pinned_address sound moves k at.0 (staying_is _ (stays_at k at.0 a at.1 e f)))
         ];
@@ -85,7 +92,7 @@ module _ {p : PlanOf} {promoted pinned : Addr → Bool} {firsts : List ℕ} {cel
             (λ a. IsCondemned (object_at h) n a × (promoted a ≡ true) × (pinned a ≡ true))
             (λ k low stays. let both = and_parts _ _ (sym (laid.laying.chosen.stays k low) ∙ stays) in
             (is_condemned_at sound moves k low, both.0, both.1))
-            (λ a is. let (k, at) = moves.all a (condemned_is h n a is.0) in
+            (λ a is. let (k, at) = moved a (condemned_is h n a is.0) is.1 in
             (k, (at.0, (at.1, stays_at k at.0 a at.1 is.1 is.2))));
       }
 
@@ -139,37 +146,62 @@ module _ {p : PlanOf} (laid : IsLaid p) where
         omega arith
   ]
 
-  -- the moves whose fate passes are those of objects for which what is kept does
-  passing_counted : (test : Bool → Bool) (P : Addr → Type 0)
-      → ((a : Addr) → IsCondemned (objects_of p.basis) p.basis.condemned a → test (kept_in p a) ≡ true → P a)
-      → ((a : Addr) → P a
-      → IsCondemned (objects_of p.basis) p.basis.condemned a × (test (kept_in p a) ≡ true))
-      → Counts P (count_by (λ m. test (is_kept_fate m.fate)) p.moves)
-  passing_counted test P each all =
-      counts_moves p.moves laid.moves.rising (λ m. test (is_kept_fate m.fate)) P
-      (λ k low is. each _ (is_condemned_at laid.sound laid.moves k low)
-      (ap test (move_kept laid.sound laid.moves k low) ∙ is))
-      (λ a has. let is = all a has in
-      let (k, at) = laid.moves.all a (condemned_is p.basis.heap p.basis.condemned a is.0) in
-      let same = sym (move_kept laid.sound laid.moves k at.0) ∙ ap (kept_in p) at.1 in
-      (k, (at.0, (at.1, ap test same ∙ is.1))))
+  -- a condemned object without a move is not kept
+  kept_moved : (a : Addr) → IsCondemned (objects_of p.basis) p.basis.condemned a → kept_in p a ≡ true
+      → (k : ℕ) × IsKeptBy p.moves a k
+  kept_moved a is kept = elim (kept_cases laid.sound laid.moves a kept) [
+    | inl older ↦ absurd (omega (arith, older, is.young))
+    | inr by ↦ by
+  ]
 
   pub kept_counted : (kept_ones : ℕ) → kept_ones ≡ count_by (λ m. is_kept_fate m.fate) p.moves
       → Counts (λ a. IsCondemned (objects_of p.basis) p.basis.condemned a × (kept_in p a ≡ true)) kept_ones
   kept_counted kept_ones e =
-      subst (Counts _) (sym e) (passing_counted (λ b. b) _ (λ a is kept. (is, kept)) (λ a is. is))
+      subst (Counts _) (sym e) (counts_moves p.moves laid.moves.rising (λ m. is_kept_fate m.fate)
+      (λ a. IsCondemned (objects_of p.basis) p.basis.condemned a × (kept_in p a ≡ true))
+      (λ k low is. (is_condemned_at laid.sound laid.moves k low, move_kept laid.sound laid.moves k low ∙ is))
+      (λ a is. let (k, by) = kept_moved a is.0 is.1 in (k, (by.within, (by.from, by.kept)))))
 
-  pub removed_counted : (kept_ones removed : ℕ) → kept_ones ≡ count_by (λ m. is_kept_fate m.fate) p.moves
-      → removed ≡ length p.moves - kept_ones
-      → Counts (λ a. (has_object p.basis.heap a ≡ true) × (kept_in p a ≡ false)) removed
-  removed_counted kept_ones removed e f =
-      let kept = length-filter (λ (m : Move). is_kept_fate m.fate) p.moves in
-      let gone = length-filter (λ (m : Move). not (is_kept_fate m.fate)) p.moves in
-      let both = length-filter_both (λ (m : Move). is_kept_fate m.fate) (λ m. not (is_kept_fate m.fate))
-      (λ m. refl) p.moves in
-      subst (Counts _) (sym (f ∙ omega (arith, e, kept, gone, both)))
-      (passing_counted not _ (λ a is gone. (is.object, not-true _ gone))
-      (λ a is. elim (older_or_young p.basis.heap p.basis.condemned a is.0) [
-        | inl older ↦ absurd (true≢false (sym (older_kept laid.sound laid.moves a older) ∙ is.1))
-        | inr young ↦ (condemned_of p.basis.heap p.basis.condemned a young, ap not is.1)
-      ]))
+  -- of what is condemned, what is not kept is the rest
+  module _ {e : Extent} (extent : IsExtent p.basis.heap p.basis.condemned e) (kept_ones : ℕ)
+      (kept_is : kept_ones ≡ count_by (λ m. is_kept_fate m.fate) p.moves) where
+    abbrev young : Addr → Type 0
+    young = IsCondemned (objects_of p.basis) p.basis.condemned
+
+    all_young : Counts young e.objects
+    all_young = record {
+      members = extent.objects.members;
+      apart = extent.objects.apart;
+      each = λ a c. condemned_of p.basis.heap p.basis.condemned a (extent.objects.each a c);
+      all = λ a is. extent.objects.all a (condemned_is p.basis.heap p.basis.condemned a is);
+      number = extent.objects.number;
+    }
+
+    pub kept_most : kept_ones ≤ e.objects
+    kept_most =
+        counts_le (λ a. young a × (kept_in p a ≡ true)) young kept_ones e.objects (λ a is. is.0)
+        (kept_counted kept_ones kept_is) all_young
+
+    pub removed_counted : (removed : ℕ) → removed ≡ e.objects - kept_ones
+        → Counts (λ a. (has_object p.basis.heap a ≡ true) × (kept_in p a ≡ false)) removed
+    removed_counted removed f =
+        let (rest, gone) = counts_where young (λ a. not (kept_in p a)) e.objects all_young in
+        let both = counts_join (λ a. young a × (kept_in p a ≡ true)) (λ a. young a × (not (kept_in p a) ≡ true))
+        kept_ones rest (λ a is other. true≢false (sym is.1 ∙ not-true _ other.1))
+        (kept_counted kept_ones kept_is) gone in
+        let sum : kept_ones + rest ≡ e.objects = counts_once young (kept_ones + rest) e.objects
+        (counts_like (λ a. (young a × (kept_in p a ≡ true)) ⊎ (young a × (not (kept_in p a) ≡ true))) young
+        (kept_ones + rest) (λ a. ⊎_elim (λ is. is.0) (λ is. is.0))
+        (λ a is. elim (cases_Bool (kept_in p a)) [
+          | inl kept ↦ inl (is, kept)
+          | inr gone ↦ inr (is, ap not gone)
+        ]) both) all_young in
+        let same : rest ≡ removed = omega (arith, sum, f) in
+        subst (Counts (λ a. (has_object p.basis.heap a ≡ true) × (kept_in p a ≡ false))) same
+        (counts_like (λ a. young a × (not (kept_in p a) ≡ true))
+        (λ a. (has_object p.basis.heap a ≡ true) × (kept_in p a ≡ false)) rest
+        (λ a is. (is.0.object, not-true _ is.1))
+        (λ a is. elim (older_or_young p.basis.heap p.basis.condemned a is.0) [
+          | inl older ↦ absurd (true≢false (sym (older_kept laid.sound laid.moves a older) ∙ is.1))
+          | inr condemned ↦ (condemned_of p.basis.heap p.basis.condemned a condemned, ap not is.1)
+        ]) gone)

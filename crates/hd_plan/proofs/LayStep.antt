@@ -1,5 +1,5 @@
 -- One object more is laid, and at the end all are.
-use Rattle.hd_plan.proofs.Basics.{Addr, AllocCursors, AreMovesOf, AreMovesTo, Bool, CanPutAt, Dead, Fits, FitsMove, HasFreeRegions, Heap, IsCondemned, IsLaying, IsMoveOf, IsNext, IsRoom, IsSound, List, Move, None, Option, REGION, Room, Some, [], ap, arith, cases_Bool, cases_eq, cases_lt, cells_of, cond, cursor_of, false, generation_at, get_or_append_left, get_or_at, has_object, inl, inr, is_after, is_condemned, is_kept_fate, is_moving, is_staying, length, length-append, ltb-false, ltb-true, move_at, object_at, placed_at, put_cursors, put_move, raised, refl, region_of, same_address, slice_index_or, subst, suc, sum_by_push, sym, true, true≢false, zero, ℕ, ◌&&◌, ◌++◌, ◌+◌, ◌<◌, ◌^◌, ◌∙◌, ◌∷◌, ◌≡◌, ◌≤◌, ◌⊎◌}
+use Rattle.hd_plan.proofs.Basics.{Addr, AllocCursors, AreMovesOf, AreMovesTo, Bool, CanPutAt, Dead, Fits, FitsMove, HasFreeRegions, Heap, IsCondemned, IsLaying, IsMoveOf, IsNext, IsPassed, IsRoom, IsSound, List, Move, None, Option, REGION, Room, Some, [], ap, arith, cases_Bool, cases_eq, cases_lt, cells_of, cond, cursor_of, false, generation_at, get_or_append_left, get_or_at, has_object, inl, inr, is_after, is_condemned, is_kept_fate, is_moving, is_staying, length, length-append, ltb-false, ltb-true, move_at, object_at, placed_at, put_cursors, put_move, raised, refl, region_of, same_address, slice_index_or, subst, suc, sum_by_push, sym, true, true≢false, zero, ℕ, ⊎_elim, ◌&&◌, ◌*◌, ◌++◌, ◌+◌, ◌<◌, ◌^◌, ◌∙◌, ◌∷◌, ◌≡◌, ◌≢◌, ◌≤◌, ◌⊎◌}
 use Rattle.hd_plan.specs.Layout.{room_at}
 use Rattle.hd_heap.proofs.NextObjects.{IsNextFrom}
 use Rattle.hd_plan.proofs.{CondemnedAddresses.condemned_of, KeptMoves.raised_most, KeptMoves.cells_some, MoveWeights.cells_fit, RoomSteps.region_low, RoomSteps.region_high, RoomSteps.goes, RoomSteps.can_put, RoomSteps.room_start}
@@ -88,19 +88,19 @@ reach_on None at e = omega arith
 reach_on (Some b) at e = let l = ltb-true b.0 at.0 e in omega arith
 
 -- moves of some objects are moves of others where these are the same
-pub moves_like : {P Q : Addr → Type 0} {h : Heap} {n : ℕ} {ms : List Move} → AreMovesOf P h n ms
-    → ((a : Addr) → P a → Q a) → ((a : Addr) → Q a → P a) → AreMovesOf Q h n ms
-moves_like to on back = record {
+pub moves_like : {P Q U V : Addr → Type 0} {h : Heap} {n : ℕ} {ms : List Move} → AreMovesOf P U h n ms
+    → ((a : Addr) → P a → Q a) → ((a : Addr) → Q a → P a) → ((a : Addr) → U a → V a) → AreMovesOf Q V h n ms
+moves_like to on back also = record {
   condemned = λ k low. on _ (to.condemned k low);
   rising = to.rising;
-  all = λ a is. to.all a (back a is);
+  all = λ a is. ⊎_elim (λ moved. inl moved) (λ not_moved. inr (also a not_moved)) (to.all a (back a is));
   generations = to.generations;
   fields = to.fields;
   fits = to.fits;
 }
 
-module _ (h : Heap) (n : ℕ) where
-  to_start : AreMovesTo h n [] 0
+module _ (h : Heap) (n : ℕ) (promoted : Addr → Bool) where
+  to_start : AreMovesTo h n promoted [] 0
   to_start = record {
     condemned = λ k low. absurd (omega arith);
     rising = λ j k less low. absurd (omega arith);
@@ -110,21 +110,34 @@ module _ (h : Heap) (n : ℕ) where
     fits = λ k low. absurd (omega arith);
   }
 
+  -- a region that was passed has no move of a later object
+  passed_still : (ms : List Move) (bound : ℕ) (m : Move) (a : Addr) → IsPassed promoted ms bound a
+      → bound ≤ m.from.0
+      → IsPassed promoted (ms ++ m ∷ []) (m.from.0 + 1) a
+  passed_still ms bound m a is from = record {
+    none = push_each no_move ms m (λ k x. region_of x.from ≢ region_of a) is.none
+        (λ same. omega (arith, same, is.whole, from, region_high m.from));
+    whole = omega (arith, is.whole, from);
+    unkept = is.unkept;
+  }
+
   -- the next object has a move too
-  to_next : (ms : List Move) (bound : ℕ) (m : Move) → AreMovesTo h n ms bound
+  to_next : (ms : List Move) (bound : ℕ) (m : Move) → AreMovesTo h n promoted ms bound
       → IsNextFrom h n bound m.from → m.generation ≡ raised n (generation_at (object_at h) m.from)
       → m.fields ≡ length (placed_at h m.from).fields
-      → FitsMove h (room_at h ms (length ms)) m → AreMovesTo h n (ms ++ m ∷ []) (m.from.0 + 1)
+      → FitsMove h (room_at h ms (length ms)) m → AreMovesTo h n promoted (ms ++ m ∷ []) (m.from.0 + 1)
   to_next ms bound m to next generation fields fits = record {
     condemned = push_each _ ms m (λ k x. (is_condemned h n x.from ≡ true) × (x.from.0 < m.from.0 + 1))
         (λ k low. let was = to.condemned k low in (was.0, omega (arith, was.1, next.from)))
         (next.member, omega arith);
     rising = push_rising _ ms m (λ x. x.from.0) to.rising
         (λ j low. omega (arith, (to.condemned j low).1, next.from));
-    all = λ a is. push_found _ ms m (λ x. x.from ≡ a) (elim (cases_lt a.0 bound) [
-      | inl before ↦ inr (to.all a (is.0, before))
-      | inr from ↦ inl (same_address m.from a (omega (arith, next.least a is.0 from, is.1)))
-    ]);
+    all = λ a is. elim (cases_lt a.0 bound) [
+      | inl before ↦ ⊎_elim (λ was. inl (push_found no_move ms m (λ x. x.from ≡ a) (inr was)))
+          (λ passed. inr (passed_still ms bound m a passed next.from)) (to.all a (is.0, before))
+      | inr from ↦ inl (push_found no_move ms m (λ x. x.from ≡ a)
+          (inl (same_address m.from a (omega (arith, next.least a is.0 from, is.1)))))
+    ];
     generations = push_each _ ms m (λ k x. x.generation ≡ raised n (generation_at (object_at h) x.from))
         to.generations generation;
     fields = push_each _ ms m (λ k x. x.fields ≡ length (placed_at h x.from).fields) to.fields fields;
@@ -139,7 +152,7 @@ pub laying_start : (h : Heap) (n : ℕ) (promoted pinned : Addr → Bool) → Is
     0
 unfolding room_at
 laying_start h n promoted pinned = record {
-  to = to_start h n;
+  to = to_start h n promoted;
   chosen = record { kept = λ k low. absurd (omega arith); stays = λ k low. absurd (omega arith) };
   room = room_start h;
   cursors_are = refl;
@@ -178,7 +191,7 @@ module _ {h : Heap} {n : ℕ} (sound : IsSound h) {promoted pinned : Addr → Bo
       Fits m.fate h.free s m.from m.to m.generation cells) (sym laying.cursors_are) is.fits in
       let more = room_pushed h ms m in
       record {
-        to = to_next h n ms bound m laying.to next is.generation is.fields fits;
+        to = to_next h n promoted ms bound m laying.to next is.generation is.fields fits;
         chosen = record {
           kept = push_each _ ms m (λ k x. is_kept_fate x.fate ≡ promoted x.from) laying.chosen.kept is.kept;
           stays = push_each _ ms m (λ k x. is_staying x.fate ≡ (promoted x.from && pinned x.from))
@@ -198,6 +211,44 @@ module _ {h : Heap} {n : ℕ} (sound : IsSound h) {promoted pinned : Addr → Bo
       part true x = omega arith
       part false x = omega arith
 
+  -- a region in which nothing is kept is passed
+  pub laying_passed : (r : ℕ) → bound ≡ r * REGION → ((a : Addr) → region_of a ≡ r → promoted a ≡ false)
+      → IsLaying h n promoted pinned ms cursors ((r + 1) * REGION)
+  laying_passed r at unkept = record {
+    to = record {
+      condemned = λ k low. let was = laying.to.condemned k low in (was.0, omega (arith, was.1, at));
+      rising = laying.to.rising;
+      all = λ a is. elim (cases_lt a.0 bound) [
+        | inl before ↦ ⊎_elim (λ moved. inl moved) (λ passed. inr (record {
+          none = passed.none;
+          whole = omega (arith, passed.whole, at);
+          unkept = passed.unkept;
+        })) (laying.to.all a (is.0, before))
+        | inr from ↦
+            let here : region_of a ≡ r = omega (arith, from, is.1, at, region_low a, region_high a) in
+            inr (record {
+              none = λ k low same. omega (
+                arith,
+                (laying.to.condemned k low).1,
+                at,
+                same,
+                here,
+                region_low (move_at ms k).from,
+              );
+              whole = omega (arith, here);
+              unkept = unkept a here;
+            })
+      ];
+      generations = laying.to.generations;
+      fields = laying.to.fields;
+      fits = laying.to.fits;
+    };
+    chosen = laying.chosen;
+    room = laying.room;
+    cursors_are = laying.cursors_are;
+    laid = laying.laid;
+  }
+
   pub laying_past : (high : ℕ) → bound ≤ high
       → ((a : Addr) → is_condemned h n a ≡ true → bound ≤ a.0 → high ≤ a.0)
       → IsLaying h n promoted pinned ms cursors high
@@ -208,7 +259,11 @@ module _ {h : Heap} {n : ℕ} (sound : IsSound h) {promoted pinned : Addr → Bo
         | inl before ↦ before
         | inr from ↦ absurd (omega (arith, none a is.0 from, is.1))
       ],
-    ));
+    )) (λ a passed. record {
+      none = passed.none;
+      whole = omega (arith, passed.whole, up);
+      unkept = passed.unkept;
+    });
     chosen = laying.chosen;
     room = laying.room;
     cursors_are = laying.cursors_are;

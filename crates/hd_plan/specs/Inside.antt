@@ -10,7 +10,7 @@ use Rattle.hd_heap.specs.Calls.{HasCondemned, IsExtent, is_condemned, NamesBelow
 use Rattle.hd_heap.specs.Moves.{is_kept_fate, is_moving, is_staying, move_at, is_opening}
 use Rattle.hd_heap.specs.Runs.{IsRun, MayRun, run_copied}
 use Rattle.hd_plan.specs.{declared.cursors.AllocCursor.AllocCursor, declared.cursors.AllocCursors.AllocCursors, declared.moves.Condemned.Condemned, Plan.PlanOf, Plan.Takes}
-use Rattle.hd_plan.specs.Layout.{Room, region_in, room_at, put_cursors, with_cursor, condemned_at, AreMovesOf, AreRegionsOf, Fits, HasStay, FitsMove}
+use Rattle.hd_plan.specs.Layout.{Room, region_in, room_at, put_cursors, with_cursor, condemned_at, AreMovesOf, AreRegionsOf, Fits, HasNoMove, HasStay, FitsMove}
 use Rattle.std.specs.FinMap as map
 
 -- whether a region is among these, and its record
@@ -168,14 +168,22 @@ pub record CanPutAt (h : Heap) (c : AllocCursor) (opened : ℕ) : Type 0 where
 abbrev pub cells_laid : Heap → List Move → ℕ
 cells_laid h ms = sum_by (λ m. cells_of (placed_at h m.from)) ms
 
--- the condemned objects below an address have moves, and those of them that are kept have new addresses
-abbrev pub AreMovesTo : Heap → ℕ → List Move → ℕ → Type 0
-AreMovesTo h n ms bound = AreMovesOf (λ a. (is_condemned h n a ≡ true) × (a.0 < bound)) h n ms
+-- an object that is not kept, in a region below an address in which none is
+pub record IsPassed (promoted : Addr → Bool) (ms : List Move) (bound : ℕ) (a : Addr) : Type 0 where
+  pub none : HasNoMove ms (region_of a)
+  pub whole : region_of a * REGION + REGION ≤ bound
+  pub unkept : promoted a ≡ false
+
+-- the condemned objects below an address have moves, but for those of regions in which none is kept, and those
+-- of them that are kept have new addresses
+abbrev pub AreMovesTo : Heap → ℕ → (Addr → Bool) → List Move → ℕ → Type 0
+AreMovesTo h n promoted ms bound =
+    AreMovesOf (λ a. (is_condemned h n a ≡ true) × (a.0 < bound)) (IsPassed promoted ms bound) h n ms
 
 -- what holds between two objects while a heap is laid
 pub record IsLaying (h : Heap) (n : ℕ) (promoted pinned : Addr → Bool) (ms : List Move)
     (cursors : AllocCursors) (bound : ℕ) : Type 0 where
-  pub to : AreMovesTo h n ms bound
+  pub to : AreMovesTo h n promoted ms bound
   pub chosen : AreChosen promoted pinned ms
   pub room : IsRoom h (room_at h ms (length ms))
   pub cursors_are : (room_at h ms (length ms)).cursors ≡ cursors
@@ -240,6 +248,12 @@ IsStayedAt = HasEnd is_staying (λ m. m.from)
 -- the old address of an object that does not stay
 abbrev pub IsLeft : List Move → ℕ → Addr → Type 0
 IsLeft = HasEnd (λ w. not (is_staying w)) (λ m. m.from)
+
+-- an object that no move leaves in place: its move is another, or no object of its region has one
+abbrev pub IsGone : PlanOf → Addr → Type 0
+IsGone p a =
+    IsLeft p.moves (length p.moves) a
+    ⊎ ((is_condemned p.basis.heap p.basis.condemned a ≡ true) × HasNoMove p.moves (region_of a))
 
 -- a card that is set stays set
 abbrev pub MoreCards : Heap → Heap → Type 0

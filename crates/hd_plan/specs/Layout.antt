@@ -1,5 +1,5 @@
--- Where the objects of a collection go: one move for each condemned object, in rising address, and one entry
--- for each condemned region.
+-- Where the objects of a collection go: one move for each condemned object, in rising address, but for those
+-- of regions in which none is kept, and one entry for each condemned region.
 -- Kept objects are copied into fresh regions, one row of regions for each generation, but for those that
 -- stay because they are pinned.
 -- Regions are this project's own, after the plan and the compact phase of CoreCLR's collector in outline.
@@ -137,21 +137,30 @@ is_kept_by (Some m) = is_kept_fate m.fate
 abbrev pub IsRising : List Move → Type 0
 IsRising ms = (j k : ℕ) → j < k → k < length ms → (move_at ms j).from.0 < (move_at ms k).from.0
 
--- one move for each of these objects, in rising address, with the generation to which it is promoted and the
--- number of its fields; each goes where the room allows it
-pub record AreMovesOf (These : Addr → Type 0) (h : Heap) (n : ℕ) (ms : List Move) : Type 0 where
+-- a move is of this object
+abbrev pub HasMove : List Move → Addr → Type 0
+HasMove ms a = (k : ℕ) × ((k < length ms) × ((move_at ms k).from ≡ a))
+
+-- no move is of an object of this region
+abbrev pub HasNoMove : List Move → ℕ → Type 0
+HasNoMove ms r = (k : ℕ) → k < length ms → region_of (move_at ms k).from ≢ r
+
+-- one move for each of these objects but for some, in rising address, with the generation to which it is
+-- promoted and the number of its fields; each goes where the room allows it
+pub record AreMovesOf (These Unmoved : Addr → Type 0) (h : Heap) (n : ℕ) (ms : List Move) : Type 0 where
   pub condemned : (k : ℕ) → k < length ms → These (move_at ms k).from
   pub rising : IsRising ms
-  pub all : (a : Addr) → These a → (k : ℕ) × ((k < length ms) × ((move_at ms k).from ≡ a))
+  pub all : (a : Addr) → These a → HasMove ms a ⊎ Unmoved a
   pub generations : (k : ℕ) → k < length ms
       → (move_at ms k).generation ≡ raised n (generation_at (object_at h) (move_at ms k).from)
   pub fields : (k : ℕ) → k < length ms
       → (move_at ms k).fields ≡ length (placed_at h (move_at ms k).from).fields
   pub fits : (k : ℕ) → k < length ms → FitsMove h (room_at h ms k) (move_at ms k)
 
--- one for each condemned object
+-- one for each condemned object, or none for all of its region: what has no move is not kept
 abbrev pub AreMoves : Heap → ℕ → List Move → Type 0
-AreMoves h n ms = AreMovesOf (λ a. is_condemned h n a ≡ true) h n ms
+AreMoves h n ms =
+    AreMovesOf (λ a. is_condemned h n a ≡ true) (λ a. HasNoMove ms (region_of a)) h n ms
 
 -- an object of a region stays where it is
 pub record HasStay (ms : List Move) (r : ℕ) : Type 0 where

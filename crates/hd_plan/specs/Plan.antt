@@ -9,7 +9,8 @@ use Rattle.hd_heap.specs.contracts.moves.Move as move_contract
 use Rattle.hd_plan.specs.contracts.moves.Condemned as condemned_contract
 use Rattle.hd_plan.specs.Layout.{find_move, forwarding_by, is_kept_by, stays_among, AreMoves, AreRegions, IsCondemnedRegion}
 
--- what it was taken for, a move for each condemned object, and what becomes of each condemned region
+-- what it was taken for, a move for each condemned object of each region in which one is kept, and what
+-- becomes of each condemned region
 pub record PlanOf : Type 0 where
   pub basis : Basis
   pub moves : List Move

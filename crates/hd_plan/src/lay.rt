@@ -17,7 +17,8 @@ use hd_model::{Addr, Marker};
 impl Plan {
     /// Gives each promoted object its new address: what is pinned stays, and all else is copied
     /// into fresh regions, one row of them for each generation, in rising address. A region is left
-    /// only where the next object does not fit.
+    /// only where the next object does not fit. Where no object of a region is promoted, none of it
+    /// is looked at.
     pub fn lay<M: Marker>(&mut self, heap: &Heap, marker: &M)
         requires taken { IsTakenPlan self.old }
         requires heap { self.old.basis.heap ≡ heap.now }
@@ -128,8 +129,8 @@ fn lay_region<M: Marker>(
     });
 }
 
-// Lists the objects of a region with their new addresses, which all are of one generation. Returns
-// whether one stays.
+// Lists the objects of a region with their new addresses, which all are of one generation, if one
+// of them may be kept. Returns whether one stays.
 fn lay_objects<M: Marker>(
     heap: &Heap,
     marker: &M,
@@ -158,6 +159,9 @@ fn lay_objects<M: Marker>(
     ensures firsts { forwards.new.firsts.items ≡ forwards.old.firsts.items }
     ensures capacity { vec_capacity moves.new ≡ vec_capacity moves.old }
 {
+    if !marker.may_keep(region) {
+        return false;
+    }
     let mut cursor = cursors.cursor(generation);
     let mut opened = cursors.opened;
     let mut pinned = false;

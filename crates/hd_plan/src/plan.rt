@@ -122,7 +122,7 @@ impl Plan {
             Counts (λ a. (is_object (objects_of of) a ≡ true)
             × (kept_in self.now a ≡ false)) result }
     {
-        self.moves.len() as u32 - count_kept(&self.moves)
+        self.extent.objects - count_kept(&self.moves)
     }
 }
 

@@ -2,11 +2,21 @@ use Rattle.hd_plan.proofs.Basics.{AllocCursors, IsFirstIn, IsFirstObject, IsLayi
 use Rattle.hd_heap.specs.Walks.{WalkOf, end_in}
 use Rattle.hd_heap.proofs.NextObjects.{end_within, none_left}
 use Rattle.hd_plan.specs.{Inside.CanPutAt, Inside.with_cursor_at, declared.cursors.AllocCursor.AllocCursor}
-use Rattle.hd_plan.proofs.{KeptMoves.raised_most, LayStep.laying_past, LayStep.may_put}
+use Rattle.hd_plan.proofs.{KeptMoves.raised_most, LayStep.laying_passed, LayStep.laying_past, LayStep.may_put}
 use Rattle.hd_plan.proofs.RegionLay.{cursor_again, laid_none, laying_on, laying_upto, move_fits, same_cursor, these_on, with_again}
 use Rattle.hd_plan.proofs.lay.lay_objects.Given.{Over}
 use Rattle.hd_plan.proofs.lay.lay_objects.Goals.{After-lay_object-laid, After-put, In-Some}
 use Rattle.hd_plan.proofs.lay.lay_objects.Goals as goal
+
+pub returns-then-not-may_keep-clause-laying : goal.returns-then-not-may_keep-clause-laying
+returns-then-not-may_keep-clause-laying g c =
+    laying_passed c.requires.sound c.requires.so_far c.args.region refl
+    (c.may_keep.ensures c.if-not-may_keep.true)
+
+pub returns-then-not-may_keep-clause-these : goal.returns-then-not-may_keep-clause-these
+returns-then-not-may_keep-clause-these g c =
+    laid_none c.args.moves.now.items c.args.region c.args.k c.args.forwards.now.cells.items
+    (λ j low. (c.requires.so_far.to.condemned j low).1)
 
 pub loop-object-init : goal.loop-object-init
 loop-object-init g c =

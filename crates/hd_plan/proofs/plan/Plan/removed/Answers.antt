@@ -1,20 +1,31 @@
-use Rattle.hd_plan.proofs.Basics.{Move, PlanOf, ap, arith, count_by, is_kept_fate, length, subst, sym, ◌-◌, ◌<◌, ◌^◌, ◌∙◌}
-use Rattle.hd_plan.proofs.LaidPlan.{few_moves, removed_counted}
-use Rattle.hd_plan.proofs.plan.Plan.removed.Goals.{After-len}
+use Rattle.hd_plan.proofs.Basics.{Basis, IsExtent, Move, PlanOf, ap, arith, count_by, is_kept_fate, length, refl, subst, sym, ◌-◌, ◌<◌, ◌^◌, ◌∙◌, ◌≡◌}
+use Rattle.hd_plan.proofs.LaidPlan.{few_moves, kept_most, removed_counted}
+use Rattle.hd_plan.proofs.plan.Plan.removed.Goals.{After-count_kept}
 use Rattle.hd_plan.proofs.plan.Plan.removed.Goals as goal
 
-few : (c : After-len) → length c.self.inside.moves.items < 2 ^ 32
-few c = subst (λ (p : PlanOf). length p.moves < 2 ^ 32) (sym c.self.view_is) (few_moves c.requires)
-
-pub overflow_cast-result : goal.overflow_cast-result
-overflow_cast-result c =
-    omega (arith, few (goal.at.overflow_cast-result c).After-len, c.len.ensures, c.self.inside.moves.ok.0)
-
 pub count_kept-requires : goal.count_kept-requires
-count_kept-requires c = few (goal.at.count_kept-requires c).After-len
+count_kept-requires c =
+    subst (λ (p : PlanOf). length p.moves < 2 ^ 32) (sym c.self.view_is) (few_moves c.requires)
+
+-- how much is condemned, and the number of objects that are kept
+extent : (c : After-count_kept)
+    → IsExtent c.args.self.now.basis.heap c.args.self.now.basis.condemned c.self.inside.extent
+extent c =
+    subst (λ (b : Basis). IsExtent b.heap b.condemned c.self.inside.extent)
+    (ap (λ (p : PlanOf). p.basis) c.self.view_is) c.self.invariant.extent
+
+kept_is : (c : After-count_kept)
+    → c.count_kept.result ≡ count_by (λ (m : Move). is_kept_fate m.fate) c.args.self.now.moves
+kept_is c = c.count_kept.ensures
+    ∙ ap (λ (p : PlanOf). count_by (λ (m : Move). is_kept_fate m.fate) p.moves) c.self.view_is
+
+pub overflow_sub-result : goal.overflow_sub-result
+overflow_sub-result c =
+    let d = (goal.at.overflow_sub-result c).After-count_kept in
+    omega (arith, kept_most c.requires (extent d) c.count_kept.result (kept_is d))
 
 pub returns : goal.returns
-returns c = removed_counted c.requires c.count_kept.result _ (c.count_kept.ensures
-    ∙ ap (λ (p : PlanOf). count_by (λ (m : Move). is_kept_fate m.fate) p.moves) c.self.view_is)
-    (ap (λ n. n - c.count_kept.result)
-    (c.len.ensures ∙ c.self.inside.moves.ok.0 ∙ ap (λ (p : PlanOf). length p.moves) c.self.view_is))
+returns c =
+    let d = (goal.at.returns c).After-count_kept in
+    removed_counted c.requires (extent d) c.count_kept.result (kept_is d)
+    (c.self.inside.extent.objects - c.count_kept.result) refl
