@@ -2,6 +2,7 @@
 pub use Rattle.std.proofs.Common.{Bool, List, None, Option, Some, [], ap, arith, cond, drop, false, get_or, inl, inr, is_some, le_trans, length, map, not, refl, set, slice_index_or, subst, suc, sym, true, zero, ℕ, ⊎_elim, ◌&&◌, ◌*◌, ◌++◌, ◌+◌, ◌-◌, ◌/◌, ◌<◌, ◌==◌, ◌^◌, ◌||◌, ◌∙◌, ◌∷◌, ◌≡◌, ◌≤◌, ◌⊎◌}
 pub use Rattle.std.proofs.Math.Seq.{drop-append_seam, take-length}
 pub use Rattle.std.proofs.lemmas.Bool.{and_from, and_parts, cases_Bool, cases_eq, cases_lt, cond-false, cond-true, eq-eqb, eqb-true, false≢true, le-leb, le-ltb, leb-true, lt-ltb, ltb-false, ltb-true, not-true, not_from_false, or_cases, or_left, or_right, true≢false}
+pub use Rattle.std.proofs.lemmas.Option.{none-some}
 pub use Rattle.std.proofs.lemmas.List.{length-map, nil_from_length, take_all, take_more}
 pub use Rattle.std.proofs.lemmas.List.Elements.{Contains-append_left, Contains-get_or, Contains-push, Contains-push_cases}
 pub use Rattle.std.proofs.lemmas.List.Sums.{sum_by_more}
@@ -11,7 +12,7 @@ pub use Rattle.std.specs.Prelude.{Contains, nat_le, nat_lt, option_map, sum_by, 
 pub use Rattle.hd_dep.specs.Clearing.{IsAllDetached, IsLostAt, detached}
 pub use Rattle.hd_final.specs.Resurrection.{IsOut, Resurrects}
 pub use Rattle.hd_final.specs.Settling.{Unregisters, unregistered}
-pub use Rattle.hd_gc.specs.Inside.{Clears, marked_table}
+pub use Rattle.hd_gc.specs.Inside.{AreFourNull, AreNull, Clears, marked_table}
 pub use Rattle.hd_gc.specs.Collected.{Collected, LeavesPacked}
 pub use Rattle.hd_gc.specs.Inside.{Holds, IsOldField, MayPromote, Promotes}
 pub use Rattle.hd_gc.specs.Inside.{FoundSets, MarkedAndCleared, Reports}
@@ -29,7 +30,7 @@ pub use Rattle.hd_model.proofs.EqualTables.{due_again, due_faded, same_table_on,
 pub use Rattle.hd_model.proofs.KindExtras.{pins_hold}
 pub use Rattle.hd_model.proofs.KindTests.{few_kinds, listed_kind}
 pub use Rattle.hd_model.proofs.MarkReach.{decides_kept, decides_reached, settled_closed, undue_in_place}
-pub use Rattle.hd_model.proofs.Members.{not_in_none}
+pub use Rattle.hd_model.proofs.Members.{first_in, later_in, member_cases, not_in_none}
 pub use Rattle.hd_model.proofs.MovedScenes.{moved_ages, moved_by_identity, moved_whole, whole_in_place}
 pub use Rattle.hd_model.proofs.PinTest.{pinned_held}
 pub use Rattle.hd_model.proofs.PropertyCounts.{counts_le, counts_like, counts_named, counts_once, counts_where}
@@ -56,4 +57,4 @@ pub use Rattle.hd_plan.specs.Plan.{HasNoEmptyRegion, IsLaid, PlanOf, StartsInReg
 pub use Rattle.hd_scan.specs.Tasks.{is_role, long_tasks, role_number, root_tasks, short_tasks, swept, takes, takes_any, task_kind}
 pub use Rattle.hd_scan.proofs.TaskRoles.{has_role}
 pub use Rattle.hd_scan.specs.declared.task.Task.{Task}
-pub use Rattle.hd_model.specs.declared.limits.TheConstants.{BLOCKS, CLUMP, CLUMPS, LEFT, OPEN, REGION, ROWS}
+pub use Rattle.hd_model.specs.declared.limits.TheConstants.{HOST_BLOCKS, CLUMP, CLUMPS, LEFT, OPEN, REGION, ROWS}

@@ -3,6 +3,7 @@ pub mod HandleRoles
 pub mod ClearedRows
 pub mod MarkParts
 pub mod PromoteSteps
+pub mod NullRoots
 pub mod CardWalk
 pub mod HoldTasks
 pub mod TraceMarks

@@ -1,5 +1,5 @@
 -- What private clauses alone cite.
-use Rattle.std.specs.Prelude.{ℕ, Bool, ◌+◌, ◌*◌, List, ◌≡◌, ◌↔◌, ◌⊎◌, true, ◌<◌, false, ◌++◌, option_map, Contains, AllPairs, ◌≤◌, cond, Some}
+use Rattle.std.specs.Prelude.{ℕ, Bool, ◌+◌, ◌*◌, List, ◌≡◌, ◌↔◌, ◌⊎◌, true, ◌<◌, false, ◌++◌, option_map, length, slice_index_or, Contains, AllPairs, ◌≤◌, cond, Option, Some, None}
 use Rattle.std.specs.{Bool.Decides, FinMap.len}
 use Rattle.hd_model.specs.{declared.data.Addr.Addr, declared.data.Report.Report, Counting.Counts, Marking.IsKeeping, Ages.HasSoundCards, Ages.is_due}
 use Rattle.hd_model.specs.State.{Handle, secondary_of, rename_handle}
@@ -24,6 +24,14 @@ use Rattle.hd_model.specs.declared.data.Kind.TheVariants as kind
 -- what the marks of a collection of generation n are of
 abbrev pub basis_of : Parts → ℕ → Basis
 basis_of p n = record { heap = p.heap; condemned = n }
+
+-- roots from an index on and below another are null
+abbrev pub AreNull : List (Option Addr) → ℕ → ℕ → Type 0
+AreNull roots from to = (k : ℕ) → from ≤ k → k < to → slice_index_or roots k None ≡ None
+
+-- there are four from an index on, and they are null
+abbrev pub AreFourNull : List (Option Addr) → ℕ → Type 0
+AreFourNull roots at = (at + 4 ≤ length roots) × AreNull roots at (at + 4)
 
 -- ---- the clearing of weak handles
 

@@ -12,5 +12,6 @@ mod collection;
 mod marking;
 mod moving;
 mod phases;
+mod roots;
 
 pub use collection::collect;

@@ -10,6 +10,7 @@ ghost use Rattle.hd_gc.specs.Inside.{MayPromote, Promotes, IsOldField, Holds};
 ghost use Rattle.hd_gc.specs.Inside.{IsTracing, basis_in, parts_in};
 
 use crate::phases::{Context, Marked, Tracer};
+use crate::roots::skip_null;
 use hd_dep::follow;
 use hd_final::Final;
 use hd_heap::Heap;
@@ -34,8 +35,10 @@ fn promote_roots(roots: &[Option<Addr>], marks: &mut Marks)
     requires { MayPromote (λ x. Contains roots.now (Some x)) marks.old }
     ensures { Promotes (λ x. Contains roots.now (Some x)) marks.old marks.new }
 {
-    for root in roots {
-        promote_named(*root, marks);
+    let mut at = skip_null(roots, 0);
+    while at < roots.len() {
+        promote_named(roots[at], marks);
+        at = skip_null(roots, at + 1);
     }
 }
 

@@ -5,6 +5,7 @@ ghost use Rattle.hd_model.specs.{Table.row_at, Kinds.all_kinds, Visits.IsSameTab
 ghost use Rattle.hd_plan.specs.Plan.{IsLaid, kept_in, forwarding_in};
 ghost use Rattle.hd_gc.specs.Inside.{NamesKept, IsRenamed};
 
+use crate::roots::skip_null;
 use hd_ages::AgeMap;
 use hd_model::limits::CLUMPS;
 use hd_model::{Addr, Forward, Kind, Steps};
@@ -51,7 +52,9 @@ pub(crate) fn relocate_roots(roots: &mut [Option<Addr>], plan: &Plan)
     requires kept { (x : Addr) → Contains roots.old (Some x) → kept_in plan.now x ≡ true }
     ensures { roots.new ≡ map (option_map (forwarding_in plan.now)) roots.old }
 {
-    for root in roots.iter_mut() {
-        *root = moved(*root, plan);
+    let mut at = skip_null(roots, 0);
+    while at < roots.len() {
+        roots[at] = moved(roots[at], plan);
+        at = skip_null(roots, at + 1);
     }
 }

@@ -1,6 +1,12 @@
-use Rattle.hd_gc.proofs.Basics.{option_map, forwarding_in, ◌≡◌}
+use Rattle.hd_gc.proofs.Basics.{forwarding_in, length, option_map, ◌-◌, ◌≡◌, ◌≤◌}
 use Rattle.hd_ages.proofs.MappedPrefixes.{mapped_to}
 use Rattle.hd_gc.proofs.moving.relocate_roots.Given as goal
 
-abbrev pub invariant-loop-root : goal.invariant-loop-root
-invariant-loop-root l = l.roots ≡ mapped_to (option_map (forwarding_in l.plan)) l.root-index l.fn.roots
+abbrev pub invariant-loop-at : goal.invariant-loop-at
+invariant-loop-at l = record {
+  moved : l.roots ≡ mapped_to (option_map (forwarding_in l.plan)) l.at l.fn.roots;
+  within : l.at ≤ length l.roots;
+}
+
+abbrev pub decreases-loop-at : goal.decreases-loop-at
+decreases-loop-at l = length l.roots - l.at
