@@ -1,20 +1,27 @@
 -- What each call of a pool does to its fields and to the set of free slots.
-use Rattle.hd_pool.proofs.Basics.{BLOCKS, Bool, FinSet, FreeSlots, HasAllOf, HasNoneBetween, HasNoneFor, HasNoneOf, HasSomeOf, NumberSet, IfNone, IfSome, IsFreeFor, IsLeastBetween, IsLeastFreeFor, IsLeastOf, IsPool, IsSome, IsWholeOf, List, None, Option, KINDS, ROWS, STRIDE, Some, ap, arith, both_ways, by_index-clear, by_index-put, cases_eq, cases_lt, contains, contains-empty, difference, empty, false, get, get-by_index, get_or, get_or-set_other, get_or-set_same, get_or_past, get_or_read, inl, inr, insert, is_some, kind_at, length, length-set, nat_cmp, numbers_of, index_of, refl, remove, same_Some, set, subst, sym, true, union, ℕ, ◌*◌, ◌+◌, ◌-◌, ◌/◌, ◌<◌, ◌∙◌, ◌≡◌, ◌≢◌, ◌≤◌, ◌⊎◌}
+use Rattle.hd_pool.proofs.Basics.{HOST_BLOCKS, Bool, FinSet, FreeSlots, HasAllOf, HasNoneBetween, HasNoneFor, HasNoneOf, HasSomeOf, NumberSet, IfNone, IfSome, IsFreeFor, IsLeastBetween, IsLeastFreeFor, IsLeastOf, IsPool, IsSome, IsWholeOf, List, None, Option, KINDS, ROWS, Some, ap, arith, both_ways, by_index-clear, by_index-put, cases_eq, cases_lt, contains, contains-empty, difference, empty, false, get, get-by_index, get_or, get_or-set_other, get_or-set_same, get_or_past, get_or_read, inl, inr, insert, is_some, kind_at, length, length-set, nat_cmp, numbers_of, index_of, KindBlocks, refl, remove, same_Some, same_from_place, set, subst, sym, true, union, ℕ, ◌*◌, ◌+◌, ◌-◌, ◌/◌, ◌<◌, ◌∙◌, ◌≡◌, ◌≢◌, ◌≤◌, ◌⊎◌}
 use Rattle.hd_model.specs.{declared.data.Kind.Kind, declared.data.Slot.Slot, Kinds.kind_number, Indexed.by_index}
 use Rattle.hd_model.proofs.KindTests.{same_number}
 use Rattle.hd_tiers.proofs.SetMembers.{insert_same, insert_other, insert_keeps, remove_same, remove_other, union_same, union_other, difference_same, difference_other}
 use Rattle.std.specs.FinMap as map
 
 -- two numbers in `ready` are equal only for the same kind and block
-pub same_index : (j k : Kind) (a b : ℕ) → a < STRIDE → b < STRIDE → index_of j a ≡ index_of k b → (j ≡ k) × (a ≡ b)
-same_index j k a b small small' e =
-    let number : kind_number j ≡ kind_number k = omega arith in
-    (same_number j k number, omega arith)
+pub same_index : (stride : ℕ) (j k : Kind) (a b : ℕ) → a < stride → b < stride
+    → index_of stride j a ≡ index_of stride k b → (j ≡ k) × (a ≡ b)
+same_index stride j k a b small small' e =
+    let same = same_from_place (kind_number j) a (kind_number k) b stride small small' e in
+    (same_number j k same.0, same.1)
 
 -- a number of a kind, as `Ready` asks for it
-pub is_of : (k : Kind) (block : ℕ) {index room : ℕ} → index ≡ index_of k block → block ≤ BLOCKS → index < room
-    → (index < room) × (index_of k 0 ≤ index) × (index < index_of k STRIDE)
+pub is_of : {stride : ℕ} (k : Kind) (block : ℕ) {index room : ℕ} → index ≡ index_of stride k block → block < stride
+    → index < room → (index < room) × (index_of stride k 0 ≤ index) × (index < index_of stride k stride)
 is_of k block is small within = (within, omega (arith, is), omega (arith, is, small))
+
+-- each kind has as many numbers after a change of members that is made where it is wanted
+pub same_stride : (wanted : Bool) {ready after changed : KindBlocks} → (wanted ≡ true → after ≡ changed)
+    → (wanted ≡ false → after ≡ ready) → changed.stride ≡ ready.stride → after.stride ≡ ready.stride
+same_stride true is kept like = ap (λ (r : KindBlocks). r.stride) (is refl) ∙ like
+same_stride false is kept like = ap (λ (r : KindBlocks). r.stride) (kept refl)
 
 -- ---- a read of the kinds
 
@@ -37,26 +44,33 @@ abbrev pub seen : List (Option Kind) → NumberSet → FreeSlots
 seen kinds free = record { blocks = length kinds - 1; kinds = by_index kinds; free = free.members }
 
 -- a pool of the same sets
-pub along : {kinds : List (Option Kind)} {free ready free' ready' : NumberSet} → free' ≡ free → ready' ≡ ready →
-    IsPool kinds free ready → IsPool kinds free' ready'
-along {kinds} {free} {ready} {free'} {ready'} e f inv =
+pub along : {kinds : List (Option Kind)} {free free' : NumberSet} {ready ready' : KindBlocks} → free' ≡ free
+    → ready' ≡ ready → IsPool kinds free ready → IsPool kinds free' ready'
+along {kinds} {free} {free'} {ready} {ready'} e f inv =
     subst (λ (s : NumberSet). IsPool kinds s ready') (sym e)
-    (subst (λ (s : NumberSet). IsPool kinds free s) (sym f) inv)
+    (subst (λ (r : KindBlocks). IsPool kinds free r) (sym f) inv)
 
-module _ {kinds : List (Option Kind)} {free ready : NumberSet} (inv : IsPool kinds free ready) where
+module _ {kinds : List (Option Kind)} {free : NumberSet} {ready : KindBlocks} (inv : IsPool kinds free ready) where
+  abbrev index : Kind → ℕ → ℕ
+  index j b = index_of ready.stride j b
+
   -- a block that was added is small
-  pub block_small : (block : ℕ) → IsSome (kind_at kinds block) → block ≤ BLOCKS
+  pub block_small : (block : ℕ) → IsSome (kind_at kinds block) → block ≤ HOST_BLOCKS
   block_small block there = omega (arith, kind_within kinds block there, inv.limit)
+
+  pub block_low : (block : ℕ) → IsSome (kind_at kinds block) → block < ready.stride
+  block_low block there = omega (arith, kind_within kinds block there, inv.wide)
 
   -- ---- a block is added
 
   module _ (block : ℕ) (k : Kind) (within : block < length kinds) (new : kind_at kinds block ≡ None) where
     pub added : IsPool (set kinds block (Some k)) (record free
         { members = union free.members (numbers_of block) })
-        (record ready { members = insert ready.members (index_of k block) })
+        (record ready { members = insert ready.members (index k block) })
     added = record {
       some = omega (arith, inv.some, length-set kinds block (Some k));
       limit = omega (arith, inv.limit, length-set kinds block (Some k));
+      wide = omega (arith, inv.wide, length-set kinds block (Some k));
       room = omega (arith, inv.room, length-set kinds block (Some k));
       ready_room = inv.ready_room;
       added = λ slot member. elim (cases_eq (slot / ROWS) block) [
@@ -65,14 +79,14 @@ module _ {kinds : List (Option Kind)} {free ready : NumberSet} (inv : IsPool kin
             ∙ inv.added slot (sym (union_other block slot free.members apart) ∙ member)
       ];
       opened = λ j slot of_kind member. elim (cases_eq (slot / ROWS) block) [
-        | inl e ↦ insert_same ready.members (index_of k block) (index_of j (slot / ROWS))
-            (λ i. index_of (same_Some j k (sym of_kind ∙ here (slot / ROWS) e) i) (e i))
-        | inr apart ↦ insert_keeps ready.members (index_of k block) (index_of j (slot / ROWS))
+        | inl e ↦ insert_same ready.members (index k block) (index j (slot / ROWS))
+            (λ i. index (same_Some j k (sym of_kind ∙ here (slot / ROWS) e) i) (e i))
+        | inr apart ↦ insert_keeps ready.members (index k block) (index j (slot / ROWS))
             (inv.opened j slot (sym (other (slot / ROWS) apart) ∙ of_kind)
             (sym (union_other block slot free.members apart) ∙ member))
       ];
-      has_free = λ j b small member. elim (cases_eq (index_of j b) (index_of k block)) [
-        | inl e ↦ let same = same_index j k b block small (omega (arith, inv.limit)) e in (
+      has_free = λ j b small member. elim (cases_eq (index j b) (index k block)) [
+        | inl e ↦ let same = same_index ready.stride j k b block small (omega (arith, inv.wide)) e in (
           here b same.1 ∙ ap Some (sym same.0),
           record {
             number = ROWS * b;
@@ -81,7 +95,7 @@ module _ {kinds : List (Option Kind)} {free ready : NumberSet} (inv : IsPool kin
           },
         )
         | inr apart ↦ let old = inv.has_free j b small
-            (sym (insert_other ready.members (index_of k block) (index_of j b) apart) ∙ member) in
+            (sym (insert_other ready.members (index k block) (index j b) apart) ∙ member) in
             let differs : b ≢ block = λ e. not_both (is_some (kind_at kinds b))
             (ap (λ x. is_some (kind_at kinds x)) e ∙ ap is_some new) (ap is_some old.0) in (
               other b differs ∙ old.0,
@@ -118,6 +132,7 @@ module _ {kinds : List (Option Kind)} {free ready : NumberSet} (inv : IsPool kin
     taken left = record {
       some = inv.some;
       limit = inv.limit;
+      wide = inv.wide;
       room = inv.room;
       ready_room = inv.ready_room;
       added = λ q member. inv.added q (kept_member q member);
@@ -139,26 +154,27 @@ module _ {kinds : List (Option Kind)} {free ready : NumberSet} (inv : IsPool kin
     -- it was the last free slot of its block
     pub taken_last : HasNoneOf (remove free.members slot) (slot / ROWS)
         → IsPool kinds (record free { members = remove free.members slot })
-        (record ready { members = remove ready.members (index_of k (slot / ROWS)) })
+        (record ready { members = remove ready.members (index k (slot / ROWS)) })
     taken_last none = record {
       some = inv.some;
       limit = inv.limit;
+      wide = inv.wide;
       room = inv.room;
       ready_room = inv.ready_room;
       added = λ q member. inv.added q (kept_member q member);
       opened = λ j q is member.
           let apart : q / ROWS ≢ slot / ROWS = λ e. not_both _ (none q e) member in
-          let small = block_small (q / ROWS) (is_there kinds (q / ROWS) j is) in
-          let small' = block_small (slot / ROWS) (is_there kinds (slot / ROWS) k of_kind) in
-          remove_other ready.members (index_of k (slot / ROWS)) (index_of j (q / ROWS))
-          (λ e. apart (same_index j k (q / ROWS) (slot / ROWS) (omega arith) (omega arith) e).1)
+          let small = block_low (q / ROWS) (is_there kinds (q / ROWS) j is) in
+          let small' = block_low (slot / ROWS) (is_there kinds (slot / ROWS) k of_kind) in
+          remove_other ready.members (index k (slot / ROWS)) (index j (q / ROWS))
+          (λ e. apart (same_index ready.stride j k (q / ROWS) (slot / ROWS) (omega arith) (omega arith) e).1)
           ∙ inv.opened j q is (kept_member q member);
-      has_free = λ j b small member. elim (cases_eq (index_of j b) (index_of k (slot / ROWS))) [
-        | inl e ↦ not_both _ (remove_same ready.members (index_of k (slot / ROWS)) (index_of j b) e) member
+      has_free = λ j b small member. elim (cases_eq (index j b) (index k (slot / ROWS))) [
+        | inl e ↦ not_both _ (remove_same ready.members (index k (slot / ROWS)) (index j b) e) member
         | inr apart ↦ let old = inv.has_free j b small
-            (sym (remove_other ready.members (index_of k (slot / ROWS)) (index_of j b) apart) ∙ member) in
+            (sym (remove_other ready.members (index k (slot / ROWS)) (index j b) apart) ∙ member) in
             let differs : b ≢ slot / ROWS = λ e. apart
-            (λ i. index_of (same_Some j k (sym old.0 ∙ ap (kind_at kinds) e ∙ of_kind) i) (e i)) in (
+            (λ i. index (same_Some j k (sym old.0 ∙ ap (kind_at kinds) e ∙ of_kind) i) (e i)) in (
               old.0,
               record {
                 number = old.1.number;
@@ -173,10 +189,11 @@ module _ {kinds : List (Option Kind)} {free ready : NumberSet} (inv : IsPool kin
     -- ---- a slot is put back
 
     pub put : IsPool kinds (record free { members = insert free.members slot })
-        (record ready { members = insert ready.members (index_of k (slot / ROWS)) })
+        (record ready { members = insert ready.members (index k (slot / ROWS)) })
     put = record {
       some = inv.some;
       limit = inv.limit;
+      wide = inv.wide;
       room = inv.room;
       ready_room = inv.ready_room;
       added = λ q member. elim (cases_eq q slot) [
@@ -184,20 +201,20 @@ module _ {kinds : List (Option Kind)} {free ready : NumberSet} (inv : IsPool kin
         | inr apart ↦ inv.added q (sym (insert_other free.members slot q apart) ∙ member)
       ];
       opened = λ j q is member. elim (cases_eq q slot) [
-        | inl e ↦ insert_same ready.members (index_of k (slot / ROWS)) (index_of j (q / ROWS))
-            (λ i. index_of (same_Some j k (sym is ∙ ap (λ x. kind_at kinds (x / ROWS)) e ∙ of_kind) i)
+        | inl e ↦ insert_same ready.members (index k (slot / ROWS)) (index j (q / ROWS))
+            (λ i. index (same_Some j k (sym is ∙ ap (λ x. kind_at kinds (x / ROWS)) e ∙ of_kind) i)
             (e i / ROWS))
-        | inr apart ↦ insert_keeps ready.members (index_of k (slot / ROWS)) (index_of j (q / ROWS))
+        | inr apart ↦ insert_keeps ready.members (index k (slot / ROWS)) (index j (q / ROWS))
             (inv.opened j q is (sym (insert_other free.members slot q apart) ∙ member))
       ];
-      has_free = λ j b small member. elim (cases_eq (index_of j b) (index_of k (slot / ROWS))) [
-        | inl e ↦ let small' = block_small (slot / ROWS) (is_there kinds (slot / ROWS) k of_kind) in
-            let same = same_index j k b (slot / ROWS) small (omega arith) e in (
+      has_free = λ j b small member. elim (cases_eq (index j b) (index k (slot / ROWS))) [
+        | inl e ↦ let small' = block_low (slot / ROWS) (is_there kinds (slot / ROWS) k of_kind) in
+            let same = same_index ready.stride j k b (slot / ROWS) small (omega arith) e in (
               ap (kind_at kinds) same.1 ∙ of_kind ∙ ap Some (sym same.0),
               record { number = slot; of_block = sym same.1; member = insert_same free.members slot slot refl },
             )
         | inr apart ↦ let old = inv.has_free j b small
-            (sym (insert_other ready.members (index_of k (slot / ROWS)) (index_of j b) apart) ∙ member) in (
+            (sym (insert_other ready.members (index k (slot / ROWS)) (index j b) apart) ∙ member) in (
               old.0,
               record {
                 number = old.1.number;
@@ -209,9 +226,9 @@ module _ {kinds : List (Option Kind)} {free ready : NumberSet} (inv : IsPool kin
     }
 
     -- a block with a free slot is listed already
-    listed : HasSomeOf free.members (slot / ROWS) → contains ready.members (index_of k (slot / ROWS)) ≡ true
+    listed : HasSomeOf free.members (slot / ROWS) → contains ready.members (index k (slot / ROWS)) ≡ true
     listed has =
-        ap (λ b. contains ready.members (index_of k b)) (sym has.of_block)
+        ap (λ b. contains ready.members (index k b)) (sym has.of_block)
         ∙ inv.opened k has.number (ap (kind_at kinds) has.of_block ∙ of_kind) has.member
 
     -- its block had a free slot
@@ -220,6 +237,7 @@ module _ {kinds : List (Option Kind)} {free ready : NumberSet} (inv : IsPool kin
     put_more has = record {
       some = inv.some;
       limit = inv.limit;
+      wide = inv.wide;
       room = inv.room;
       ready_room = inv.ready_room;
       added = λ q member. elim (cases_eq q slot) [
@@ -229,7 +247,7 @@ module _ {kinds : List (Option Kind)} {free ready : NumberSet} (inv : IsPool kin
       opened = λ j q is member. elim (cases_eq q slot) [
         | inl e ↦
             let its : j ≡ k = same_Some j k (sym is ∙ ap (λ x. kind_at kinds (x / ROWS)) e ∙ of_kind) in
-            let same : index_of j (q / ROWS) ≡ index_of k (slot / ROWS) = λ i. index_of (its i) (e i / ROWS) in
+            let same : index j (q / ROWS) ≡ index k (slot / ROWS) = λ i. index (its i) (e i / ROWS) in
             ap (contains ready.members) same ∙ listed has
         | inr apart ↦ inv.opened j q is (sym (insert_other free.members slot q apart) ∙ member)
       ];
@@ -244,7 +262,7 @@ module _ {kinds : List (Option Kind)} {free ready : NumberSet} (inv : IsPool kin
     }
 
     -- its block is listed where it had none
-    pub put_where : (after : NumberSet) (at : ℕ) → at ≡ index_of k (slot / ROWS) → (first : Bool)
+    pub put_where : (after : KindBlocks) (at : ℕ) → at ≡ index k (slot / ROWS) → (first : Bool)
         → (first ≡ false → HasSomeOf free.members (slot / ROWS))
         → (first ≡ true → after ≡ record ready { members = insert ready.members at })
         → (first ≡ false → after ≡ ready)
@@ -258,10 +276,11 @@ module _ {kinds : List (Option Kind)} {free ready : NumberSet} (inv : IsPool kin
   module _ (block : ℕ) {k : Kind} (of_kind : kind_at kinds block ≡ Some k) where
     pub dropped : IsPool (set kinds block None) (record free
         { members = difference free.members (numbers_of block) })
-        (record ready { members = remove ready.members (index_of k block) })
+        (record ready { members = remove ready.members (index k block) })
     dropped = record {
       some = omega (arith, inv.some, length-set kinds block None);
       limit = omega (arith, inv.limit, length-set kinds block None);
+      wide = omega (arith, inv.wide, length-set kinds block None);
       room = omega (arith, inv.room, length-set kinds block None);
       ready_room = inv.ready_room;
       added = λ q member. let apart = outside q member in ap is_some (other (q / ROWS) apart) ∙ inv.added q
@@ -269,16 +288,16 @@ module _ {kinds : List (Option Kind)} {free ready : NumberSet} (inv : IsPool kin
       opened = λ j q is member.
           let apart = outside q member in
           let was = sym (other (q / ROWS) apart) ∙ is in
-          let small = block_small (q / ROWS) (is_there kinds (q / ROWS) j was) in
-          let small' = block_small block (is_there kinds block k of_kind) in
-          remove_other ready.members (index_of k block) (index_of j (q / ROWS))
-          (λ e. apart (same_index j k (q / ROWS) block (omega arith) (omega arith) e).1)
+          let small = block_low (q / ROWS) (is_there kinds (q / ROWS) j was) in
+          let small' = block_low block (is_there kinds block k of_kind) in
+          remove_other ready.members (index k block) (index j (q / ROWS))
+          (λ e. apart (same_index ready.stride j k (q / ROWS) block (omega arith) (omega arith) e).1)
           ∙ inv.opened j q was (kept q apart member);
-      has_free = λ j b small member. elim (cases_eq (index_of j b) (index_of k block)) [
-        | inl e ↦ not_both _ (remove_same ready.members (index_of k block) (index_of j b) e) member
+      has_free = λ j b small member. elim (cases_eq (index j b) (index k block)) [
+        | inl e ↦ not_both _ (remove_same ready.members (index k block) (index j b) e) member
         | inr apart ↦ let old = inv.has_free j b small
-            (sym (remove_other ready.members (index_of k block) (index_of j b) apart) ∙ member) in
-            let differs : b ≢ block = λ e. apart (λ i. index_of
+            (sym (remove_other ready.members (index k block) (index j b) apart) ∙ member) in
+            let differs : b ≢ block = λ e. apart (λ i. index
             (same_Some j k (sym old.0 ∙ ap (kind_at kinds) e ∙ of_kind) i) (e i)) in (
               other b differs ∙ old.0,
               record {
@@ -308,25 +327,25 @@ module _ {kinds : List (Option Kind)} {free ready : NumberSet} (inv : IsPool kin
     kind_of_free slot is = sym (get-by_index kinds (slot.0 / ROWS)) ∙ is.1
 
     block_is_ready : (slot : Slot) → IsFreeFor (seen kinds free) k slot → contains ready.members
-        (index_of k (slot.0 / ROWS)) ≡ true
+        (index k (slot.0 / ROWS)) ≡ true
     block_is_ready slot is = inv.opened k slot.0 (kind_of_free slot is) is.0
 
-    low_block : (slot : Slot) → IsFreeFor (seen kinds free) k slot → slot.0 / ROWS ≤ BLOCKS
-    low_block slot is = block_small (slot.0 / ROWS) (is_there kinds (slot.0 / ROWS) k (kind_of_free slot is))
+    low_block : (slot : Slot) → IsFreeFor (seen kinds free) k slot → slot.0 / ROWS < ready.stride
+    low_block slot is = block_low (slot.0 / ROWS) (is_there kinds (slot.0 / ROWS) k (kind_of_free slot is))
 
     -- no block of the kind has a free slot
-    pub none_ready : HasNoneBetween ready.members (index_of k 0) (index_of k 0 + STRIDE)
+    pub none_ready : HasNoneBetween ready.members (index k 0) (index k 0 + ready.stride)
         → HasNoneFor (seen kinds free) k
     none_ready none slot is =
         let low = low_block slot is in
-        not_both _ (none (index_of k (slot.0 / ROWS)) (omega arith) (omega arith)) (block_is_ready slot is)
+        not_both _ (none (index k (slot.0 / ROWS)) (omega arith) (omega arith)) (block_is_ready slot is)
 
-    module _ {at : ℕ} (first : IsLeastBetween ready.members (index_of k 0) (index_of k 0 + STRIDE) at)
-        {block : ℕ} (block_is : block ≡ at - index_of k 0) where
-      at_is : at ≡ index_of k block
+    module _ {at : ℕ} (first : IsLeastBetween ready.members (index k 0) (index k 0 + ready.stride) at)
+        {block : ℕ} (block_is : block ≡ at - index k 0) where
+      at_is : at ≡ index k block
       at_is = omega (arith, first.low, first.high)
 
-      small : block < STRIDE
+      small : block < ready.stride
       small = omega (arith, first.low, first.high)
 
       pub block_has : (kind_at kinds block ≡ Some k) × HasSomeOf free.members block
@@ -350,40 +369,40 @@ module _ {kinds : List (Option Kind)} {free ready : NumberSet} (inv : IsPool kin
                 (block ≤ other.0 / ROWS) → (other.0 < slot) ⊎ (slot ≤ other.0) → slot ≤ other.0
             at_most other is _ (inr le) = le
             at_most other is (inl before) (inl less) =
-                not_both _ (first.least (index_of k (other.0 / ROWS)) (omega arith) (omega (arith, at_is)))
+                not_both _ (first.least (index k (other.0 / ROWS)) (omega arith) (omega (arith, at_is)))
                 (block_is_ready other is)
             at_most other is (inr after) (inl less) =
                 not_both _ (least.least other.0 (omega (arith, least.of_block)) less) is.0
 
 -- ---- the start
 
-pub opened_empty : (kinds : List (Option Kind)) (free ready : NumberSet) → ((b : ℕ) → kind_at kinds b ≡ None) → 1 ≤
-    length kinds → length kinds ≤ BLOCKS + 1
-    → free ≡ record { room = ROWS * length kinds; members = empty } → KINDS * STRIDE ≤ ready.room
-    → ready.members ≡ empty → IsPool kinds free ready
-opened_empty kinds free ready none some limit free_is wide ready_is = record {
+pub opened_empty : (kinds : List (Option Kind)) (free : NumberSet) (ready : KindBlocks)
+    → ((b : ℕ) → kind_at kinds b ≡ None) → 1 ≤ length kinds → length kinds ≤ HOST_BLOCKS + 1
+    → length kinds ≤ ready.stride → free ≡ record { room = ROWS * length kinds; members = empty }
+    → KINDS * ready.stride ≤ ready.room → ready.members ≡ empty → IsPool kinds free ready
+opened_empty kinds free ready none some limit wide free_is room ready_is = record {
   some = some;
   limit = limit;
+  wide = wide;
   room = ap (λ (s : NumberSet). s.room) free_is;
-  ready_room = wide;
-  added = λ slot member. not_both _ (no_member free (ap (λ (s : NumberSet). s.members) free_is) slot) member;
-  opened = λ j slot is member. not_both _ (no_member free (ap (λ (s : NumberSet). s.members) free_is) slot) member;
-  has_free = λ j b small member. not_both _ (no_member ready ready_is
-      (index_of j b)) member;
+  ready_room = room;
+  added = λ slot member. not_both _ (no_member (ap (λ (s : NumberSet). s.members) free_is) slot) member;
+  opened = λ j slot is member. not_both _ (no_member (ap (λ (s : NumberSet). s.members) free_is) slot) member;
+  has_free = λ j b small member. not_both _ (no_member ready_is (index_of ready.stride j b)) member;
 }
   where
-    no_member : (s : NumberSet) → s.members ≡ empty → (q : ℕ) → contains s.members q ≡ false
-    no_member s e q = ap (λ m. contains m q) e ∙ contains-empty nat_cmp q
+    no_member : {m : FinSet nat_cmp} → m ≡ empty → (q : ℕ) → contains m q ≡ false
+    no_member e q = ap (λ m. contains m q) e ∙ contains-empty nat_cmp q
 
 -- ---- what callers see of a change
 
 -- a pool by what was written at the index of a block
-pub with_left : (kinds : List (Option Kind)) {free ready : NumberSet} (block : ℕ) {left : Option Kind}
+pub with_left : (kinds : List (Option Kind)) {free : NumberSet} {ready : KindBlocks} (block : ℕ) {left : Option Kind}
     → left ≡ None → IsPool (set kinds block None) free ready → IsPool (set kinds block left) free ready
 with_left kinds {free} {ready} block none inv =
     subst (λ (o : Option Kind). IsPool (set kinds block o) free ready) (sym none) inv
 
-module _ {kinds : List (Option Kind)} {free ready : NumberSet} (inv : IsPool kinds free ready) {v : FreeSlots}
+module _ {kinds : List (Option Kind)} {free : NumberSet} {ready : KindBlocks} (inv : IsPool kinds free ready) {v : FreeSlots}
     (is : seen kinds free ≡ v) where
   pub blocks_is : length kinds - 1 ≡ v.blocks
   blocks_is = ap (λ (u : FreeSlots). u.blocks) is
@@ -441,8 +460,8 @@ module _ {kinds : List (Option Kind)} {free ready : NumberSet} (inv : IsPool kin
     pub in_list : block < length kinds
     in_list = kind_within kinds block (there block some)
 
-    pub low : block ≤ BLOCKS
-    low = block_small inv block (there block some)
+    pub low : block < ready.stride
+    low = block_low inv block (there block some)
 
     pub has_room : ROWS * block + 63 < free.room
     has_room = omega (arith, in_list, inv.room)
@@ -482,18 +501,18 @@ some_of : {A : Type 0} (o : Option A) (P : Type 0) → IfNone o P → (P → ⊥
 some_of None P p not_p = absurd (not_p p)
 some_of (Some x) P p not_p = refl
 
-module _ {kinds : List (Option Kind)} {free ready : NumberSet} (inv : IsPool kinds free ready) {v : FreeSlots}
-    (is : seen kinds free ≡ v) (k : Kind) {start : ℕ} (start_is : start ≡ index_of k 0) where
-  pub take_none : HasNoneBetween ready.members start (start + STRIDE) → HasNoneFor v k
+module _ {kinds : List (Option Kind)} {free : NumberSet} {ready : KindBlocks} (inv : IsPool kinds free ready) {v : FreeSlots}
+    (is : seen kinds free ≡ v) (k : Kind) {start : ℕ} (start_is : start ≡ index_of ready.stride k 0) where
+  pub take_none : HasNoneBetween ready.members start (start + ready.stride) → HasNoneFor v k
   take_none none =
       subst (λ (u : FreeSlots). HasNoneFor u k) is
-      (none_ready inv k (subst (λ m. HasNoneBetween ready.members m (m + STRIDE)) start_is none))
+      (none_ready inv k (subst (λ m. HasNoneBetween ready.members m (m + ready.stride)) start_is none))
 
-  module _ {at : ℕ} (found : IsLeastBetween ready.members start (start + STRIDE) at) where
-    first : IsLeastBetween ready.members (index_of k 0) (index_of k 0 + STRIDE) at
-    first = subst (λ m. IsLeastBetween ready.members m (m + STRIDE) at) start_is found
+  module _ {at : ℕ} (found : IsLeastBetween ready.members start (start + ready.stride) at) where
+    first : IsLeastBetween ready.members (index_of ready.stride k 0) (index_of ready.stride k 0 + ready.stride) at
+    first = subst (λ m. IsLeastBetween ready.members m (m + ready.stride) at) start_is found
 
-    block_is : at - start ≡ at - index_of k 0
+    block_is : at - start ≡ at - index_of ready.stride k 0
     block_is = ap (λ m. at - m) start_is
 
     has : (kind_at kinds (at - start) ≡ Some k) × HasSomeOf free.members (at - start)
@@ -509,7 +528,7 @@ module _ {kinds : List (Option Kind)} {free ready : NumberSet} (inv : IsPool kin
       pub take_kind : kind_at kinds (slot / ROWS) ≡ Some k
       take_kind = slot_kind inv k first block_is least
 
-      pub take_index : at ≡ index_of k (slot / ROWS)
+      pub take_index : at ≡ index_of ready.stride k (slot / ROWS)
       take_index = omega (arith, first.low, least.of_block, start_is)
 
       pub take_least : IsLeastFreeFor v k (record { 0 = slot })
@@ -524,7 +543,7 @@ module _ {kinds : List (Option Kind)} {free ready : NumberSet} (inv : IsPool kin
             (subst (λ (s : NumberSet). HasSomeOf s.members (at - start)) after_is left)))
 
         take_last : HasNoneOf after.members (at - start)
-            → {ready' : NumberSet} → ready' ≡ record ready { members = remove ready.members at }
+            → {ready' : KindBlocks} → ready' ≡ record ready { members = remove ready.members at }
             → IsPool kinds after ready'
         take_last none ready_is =
             along after_is (ready_is ∙ ap (λ m. record ready { members = remove ready.members m }) take_index)
@@ -533,7 +552,7 @@ module _ {kinds : List (Option Kind)} {free ready : NumberSet} (inv : IsPool kin
             (subst (λ (s : NumberSet). HasNoneOf s.members (at - start)) after_is none)))
 
         -- its block is listed no more where that was its last free slot
-        pub take_ready : (ready' : NumberSet) (last : Bool) → (last ≡ true → HasNoneOf after.members (at - start))
+        pub take_ready : (ready' : KindBlocks) (last : Bool) → (last ≡ true → HasNoneOf after.members (at - start))
             → (last ≡ false → HasSomeOf after.members (at - start))
             → (last ≡ true → ready' ≡ record ready { members = remove ready.members at })
             → (last ≡ false → ready' ≡ ready) → IsPool kinds after ready'

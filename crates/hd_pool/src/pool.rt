@@ -4,19 +4,15 @@ ghost use Rattle.std.specs.FinMap as map;
 ghost use Rattle.std.specs.FinSet.{contains};
 ghost use Rattle.std.specs.FinSet as set;
 ghost use Rattle.hd_model.specs.State.{block_of};
-ghost use Rattle.hd_pool.specs.Inside.{index_of};
 ghost use Rattle.hd_pool.specs.Pool.{slots_of, IsLeastFreeFor, HasNoneFor, IsWhole, IsLeastWholeOf, HasNoWholeOf};
 
 use crate::ready::Ready;
 use hd_mask::BITS;
-use hd_model::limits::{BLOCKS, KINDS, ROWS};
+use hd_model::limits::{HOST_BLOCKS, KINDS, ROWS};
 use hd_model::{Kind, Memory, Slot};
 use hd_tiers::{Masks, Numbers, Tier, least_between};
 use std::alloc::Global;
 use std::marker::Model;
-
-// The number of blocks, 0 to 256: each kind has so many numbers in the sets of blocks.
-pub(crate) const STRIDE: u32 = BLOCKS + 1;
 
 /// The free slots of a table, seen as the kind of each added block and the set of free slots. A
 /// block has 64 slots. All memory is taken by `open`.
@@ -30,7 +26,7 @@ pub struct Pool {
     // For each kind, the blocks that have a free slot.
     ready: Ready,
     // For each kind, the blocks whose slots are all free.
-    wholes: Tier<Masks>,
+    wholes: Tier<Tier<Masks>>,
 }
 
 impl Model for Pool {
@@ -50,19 +46,19 @@ impl Model for Pool {
     } };
 
     ghost invariant = { λ p. IsPool p.kinds.items p.free p.ready
-        × IsWholes p.kinds.items p.free p.wholes };
+        × IsWholes p.kinds.items p.free p.ready.stride p.wholes };
 }
 
 impl Pool {
     /// A pool for blocks numbered from 1 to `blocks`. Nothing is free.
     pub fn open(alloc: Global, blocks: u32) -> Result<Pool, Memory>
-        requires { blocks ≤ BLOCKS }
+        requires { blocks ≤ HOST_BLOCKS }
         ensures { IfOk result (λ p.
             p ≡ record { blocks = blocks; kinds = map.empty; free = set.empty }) }
     {
         let free = Masks::open(alloc, blocks + 1)?;
-        let ready = Ready::open(alloc)?;
-        let wholes = Tier::<Masks>::open(alloc, KINDS * STRIDE / BITS + 1)?;
+        let ready = Ready::open(alloc, blocks + 1)?;
+        let wholes = Tier::<Tier<Masks>>::open(alloc, KINDS * (blocks + 1) / BITS + 1)?;
         match vec![in alloc; None; blocks as usize + 1] {
             Ok(kinds) => Ok(Pool {
                 kinds,
@@ -85,12 +81,13 @@ impl Pool {
     {
         self.kinds[block as usize] = Some(kind);
         self.free.insert_block(block);
-        let index = index_of(kind, block);
+        let index = self.ready.number_of(kind, block);
         self.ready.insert(kind, index);
         self.wholes.insert(index);
     }
 
     /// Takes the lowest free slot of a kind.
+    #[inline(always)]
     pub fn take(&mut self, kind: Kind) -> Option<Slot>
         ensures least { IfSome result (IsLeastFreeFor self.old kind) }
         ensures taken { IfSome result (λ slot.
@@ -98,7 +95,7 @@ impl Pool {
         ensures none { IsNone result ↔ HasNoneFor self.old kind }
         ensures kept { IfNone result (self.new ≡ self.old) }
     {
-        let first = index_of(kind, 0);
+        let first = self.ready.number_of(kind, 0);
         let at = self.ready.least(kind, first)?;
         let taken = self.free.take_least(at - first).unwrap();
         remove_where(taken.full, &mut self.wholes, at);
@@ -107,6 +104,7 @@ impl Pool {
     }
 
     /// Makes a slot of an added block free again.
+    #[inline(always)]
     pub fn put(&mut self, slot: Slot)
         requires added { IsSome (get self.old.kinds (block_of slot)) }
         requires taken { contains self.old.free slot.0 ≡ false }
@@ -115,7 +113,7 @@ impl Pool {
         let block = slot.0 / ROWS;
         let kind = self.kinds[block as usize].unwrap();
         let added = self.free.add(slot.0);
-        let index = index_of(kind, block);
+        let index = self.ready.number_of(kind, block);
         self.ready.insert_where(added.first, kind, index);
         insert_where(added.full, &mut self.wholes, index);
     }
@@ -123,11 +121,11 @@ impl Pool {
     /// The lowest block of a kind whose slots are all free.
     pub fn whole(&self, kind: Kind) -> Option<u32>
         ensures least { IfSome result (IsLeastWholeOf self.now kind) }
-        ensures small { IfSome result (λ block. block ≤ BLOCKS) }
+        ensures small { IfSome result (λ block. block ≤ HOST_BLOCKS) }
         ensures none { IsNone result ↔ HasNoWholeOf self.now kind }
     {
-        let first = index_of(kind, 0);
-        let at = least_between(&self.wholes, first, first + STRIDE)?;
+        let first = self.ready.number_of(kind, 0);
+        let at = least_between(&self.wholes, first, first + self.ready.stride())?;
         Some(at - first)
     }
 
@@ -140,44 +138,66 @@ impl Pool {
           free = set.difference self.old.free (slots_of block);
         } }
     {
+        self.remove_block(block);
+    }
+
+    /// Removes a block, whichever of its slots are free: it is as if it were never added.
+    pub fn remove_block(&mut self, block: u32)
+        requires { IsSome (get self.old.kinds block) }
+        ensures { self.new ≡ record self.old {
+          kinds = map.remove self.old.kinds block;
+          free = set.difference self.old.free (slots_of block);
+        } }
+    {
         let kind = self.kinds[block as usize].unwrap();
         self.kinds[block as usize] = None;
         self.free.remove_block(block);
-        let index = index_of(kind, block);
+        let index = self.ready.number_of(kind, block);
         self.ready.remove(kind, index);
         self.wholes.remove(index);
     }
 }
 
-// The number of a block of a kind in `ready` and `wholes`.
-fn index_of(kind: Kind, block: u32) -> u32
-    requires { block ≤ BLOCKS }
-    ensures value { result ≡ index_of kind block }
-    ensures below { result < KINDS * STRIDE }
-{
-    kind.number() * STRIDE + block
-}
-
 // Adds a number if it is wanted.
-fn insert_where(wanted: bool, numbers: &mut Tier<Masks>, i: u32)
+#[inline(always)]
+fn insert_where(wanted: bool, numbers: &mut Tier<Tier<Masks>>, i: u32)
     requires { i < numbers.old.room }
     ensures added { wanted ≡ true → numbers.new ≡
         record numbers.old { members = set.insert numbers.old.members i } }
     ensures kept { wanted ≡ false → numbers.new ≡ numbers.old }
 {
     if wanted {
-        numbers.insert(i);
+        insert(numbers, i);
     }
 }
 
+// Adds a number: out of line, since it is rarely wanted.
+#[inline(never)]
+fn insert(numbers: &mut Tier<Tier<Masks>>, i: u32)
+    requires { i < numbers.old.room }
+    ensures { numbers.new ≡ record numbers.old { members = set.insert numbers.old.members i } }
+{
+    numbers.insert(i);
+}
+
 // Removes a number if that is wanted.
-fn remove_where(wanted: bool, numbers: &mut Tier<Masks>, i: u32)
+#[inline(always)]
+fn remove_where(wanted: bool, numbers: &mut Tier<Tier<Masks>>, i: u32)
     requires { i < numbers.old.room }
     ensures removed { wanted ≡ true → numbers.new ≡
         record numbers.old { members = set.remove numbers.old.members i } }
     ensures kept { wanted ≡ false → numbers.new ≡ numbers.old }
 {
     if wanted {
-        numbers.remove(i);
+        remove(numbers, i);
     }
+}
+
+// Removes a number: out of line, since that is rarely wanted.
+#[inline(never)]
+fn remove(numbers: &mut Tier<Tier<Masks>>, i: u32)
+    requires { i < numbers.old.room }
+    ensures { numbers.new ≡ record numbers.old { members = set.remove numbers.old.members i } }
+{
+    numbers.remove(i);
 }

@@ -1,4 +1,4 @@
-use Rattle.hd_pool.proofs.Basics.{BITS, NumberSet, KINDS, None, ROWS, STRIDE, ap, arith, by_index-empty, empty, get_or, get_or-replicate_None, kind_at, length, replicate, rules, sym, ℕ, ◌*◌, ◌+◌, ◌-◌, ◌/◌, ◌∙◌, ◌≡◌, ◌≤◌}
+use Rattle.hd_pool.proofs.Basics.{BITS, KINDS, KindBlocks, None, NumberSet, ROWS, ap, arith, by_index-empty, empty, get_or, get_or-replicate_None, kind_at, length, replicate, rules, sym, ℕ, ◌*◌, ◌+◌, ◌-◌, ◌/◌, ◌∙◌, ◌≡◌, ◌≤◌}
 use Rattle.hd_pool.proofs.PoolCalls.{opened_empty}
 use Rattle.hd_pool.proofs.WholeBlocks.{opened_wholes}
 use Rattle.hd_pool.proofs.pool.Pool.open.Goals as goal
@@ -16,20 +16,22 @@ room : (c : goal.In-Ok) → ◌≡◌ {A = NumberSet} (record { room = ROWS * (c
     (record { room = ROWS * length c.in-Ok.kinds.items; members = empty })
 room c = ap (λ n. record { room = ROWS * n; members = empty }) (sym (long c))
 
-wide : (s : NumberSet) → s ≡ record { room = BITS * (KINDS * STRIDE / BITS + 1); members = empty }
-    → KINDS * STRIDE ≤ s.room
-wide s e = omega (arith, ap (λ (t : NumberSet). t.room) e)
+wide : (stride : ℕ) (s : NumberSet) → s ≡ record { room = BITS * (KINDS * stride / BITS + 1); members = empty }
+    → KINDS * stride ≤ s.room
+wide stride s e = omega (arith, ap (λ (t : NumberSet). t.room) e)
 
 pub invariant_of-result : goal.invariant_of-result
-invariant_of-result c = (
-  opened_empty c.in-Ok.kinds.items c.in_ok-free.free c.in_ok-ready.ready (none c) (omega (arith, long c))
-      (omega (arith, long c, c.requires)) (c.in_ok-free.ensures ∙ room c)
-      (wide c.in_ok-ready.ready c.in_ok-ready.ensures)
-      (ap (λ (s : NumberSet). s.members) c.in_ok-ready.ensures),
-  opened_wholes c.in-Ok.kinds.items c.in_ok-free.free c.in_ok-wholes.wholes (none c)
-      (wide c.in_ok-wholes.wholes c.in_ok-wholes.ensures)
-      (ap (λ (s : NumberSet). s.members) c.in_ok-wholes.ensures),
-)
+invariant_of-result c =
+    let ready = c.in_ok-ready.ready in
+    let is = ap (λ (r : KindBlocks). r.stride) c.in_ok-ready.ensures in (
+      opened_empty c.in-Ok.kinds.items c.in_ok-free.free ready (none c) (omega (arith, long c))
+          (omega (arith, long c, c.requires)) (omega (arith, long c, is)) (c.in_ok-free.ensures ∙ room c)
+          (omega (arith, is, ap (λ (r : KindBlocks). r.room) c.in_ok-ready.ensures))
+          (ap (λ (r : KindBlocks). r.members) c.in_ok-ready.ensures),
+      opened_wholes c.in-Ok.kinds.items c.in_ok-free.free c.in_ok-wholes.wholes ready.stride (none c)
+          (omega (arith, is, wide (c.args.blocks + 1) c.in_ok-wholes.wholes c.in_ok-wholes.ensures))
+          (ap (λ (s : NumberSet). s.members) c.in_ok-wholes.ensures),
+    )
 
 pub returns-in-Ok : goal.returns-in-Ok
 returns-in-Ok c =

@@ -1,5 +1,5 @@
 use Rattle.hd_pool.proofs.Basics.{HasAllOf, HasSomeOf, IsTrue, NumberSet, ROWS, Some, ap, arith, false, insert, kind_at, refl, subst, sym, ◌/◌, ◌∙◌, ◌≡◌, ◌↔◌}
-use Rattle.hd_pool.proofs.PoolCalls.{along, in_list, is_of, low, has_room, read_kind, read_some}
+use Rattle.hd_pool.proofs.PoolCalls.{along, in_list, is_of, low, has_room, read_kind, read_some, same_stride}
 use Rattle.hd_pool.proofs.PoolCalls as pools
 use Rattle.hd_pool.proofs.WholeBlocks as wholes
 use Rattle.hd_pool.proofs.pool.Pool.put.Goals as goal
@@ -17,18 +17,20 @@ pub add-added-requires : goal.add-added-requires
 add-added-requires c =
     omega (arith, has_room c.self.invariant.0 c.self.view_is (c.args.slot.0 / ROWS) c.requires.added)
 
-pub index_of-index-requires : goal.index_of-index-requires
-index_of-index-requires c =
+pub number_of-index-requires : goal.number_of-index-requires
+number_of-index-requires c =
     low c.self.invariant.0 c.self.view_is (c.args.slot.0 / ROWS) c.requires.added
 
 pub insert_where-requires : goal.insert_where-requires
 insert_where-requires c =
-    is_of c.unwrap-kind.result (c.args.slot.0 / ROWS) c.index_of-index.ensures.value
-    (low c.self.invariant.0 c.self.view_is (c.args.slot.0 / ROWS) c.requires.added)
-    (omega (arith, c.self.invariant.0.ready_room, c.index_of-index.ensures.below))
+    let small = low c.self.invariant.0 c.self.view_is (c.args.slot.0 / ROWS) c.requires.added in
+    is_of c.unwrap-kind.result (c.args.slot.0 / ROWS) c.number_of-index.ensures.value small
+    (omega (arith, c.self.invariant.0.ready_room, c.number_of-index.ensures.below, small))
 
 pub insert_where-requires-2 : goal.insert_where-requires-2
-insert_where-requires-2 c = omega (arith, c.self.invariant.1.room, c.index_of-index.ensures.below)
+insert_where-requires-2 c =
+    let small = low c.self.invariant.0 c.self.view_is (c.args.slot.0 / ROWS) c.requires.added in
+    omega (arith, c.self.invariant.1.room, c.number_of-index.ensures.below, small)
 
 pub invariant_of-self : goal.invariant_of-self
 invariant_of-self c =
@@ -46,10 +48,12 @@ invariant_of-self c =
     λ e. subst (HasSomeOf old.members) (omega arith) (c.add-added.ensures.more e) in
     let full : IsTrue added.full ↔ HasAllOf after.members (slot / ROWS) =
     subst (λ b. IsTrue added.full ↔ HasAllOf after.members b) (omega arith) c.add-added.ensures.full in (
-      along free_is refl (pools.put_where c.self.invariant.0 slot its_kind _ _ c.index_of-index.ensures.value
+      along free_is refl (pools.put_where c.self.invariant.0 slot its_kind _ _ c.number_of-index.ensures.value
           added.first more c.insert_where.ensures.added c.insert_where.ensures.kept),
-      wholes.wholes_along free_is refl (wholes.put_where c.self.invariant.0 c.self.invariant.1 slot its_kind _ _
-          c.index_of-index.ensures.value added.full
+      wholes.wholes_along free_is
+          (same_stride added.first c.insert_where.ensures.added c.insert_where.ensures.kept refl) refl
+          (wholes.put_where c.self.invariant.0 c.self.invariant.1 slot its_kind _ _
+          c.number_of-index.ensures.value added.full
           (subst (λ (s : NumberSet). IsTrue added.full ↔ HasAllOf s.members (slot / ROWS)) free_is full)
           c.insert_where-2.ensures.added c.insert_where-2.ensures.kept),
     )
