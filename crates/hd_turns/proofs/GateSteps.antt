@@ -3,15 +3,11 @@ use Rattle.std.proofs.Common.{◌≡◌, ℕ, ◌+◌, ◌≤◌, true, List, []
 use mathlib.Core.Option.{none}
 use Rattle.atomic_table.specs.Table.{Allows, step, rest}
 use Rattle.hd_turns.specs.declared.rule.View.{View}
-use Rattle.hd_turns.specs.Views.{Enters, MayLeave, gave_back, handed_out, looked, took}
-use Rattle.hd_turns.specs.Rule.{Entered, HasFreed, Kept, MayFree, carried_by, left}
+use Rattle.hd_turns.specs.Views.{Enters, MayLeave, gave_back, handed_out, missed, took}
+use Rattle.hd_turns.specs.Rule.{Entered, HasFreed, Kept, MayFree, left}
 use Rattle.hd_turns.proofs.TableSteps.{Mine, leaves}
 
 module _ {W : Type 0} where
-  abbrev front : List (ℕ × Option W) → Option W
-  front [] = None
-  front (p ∷ l) = p.1
-
   -- what was carried, once the value is in the end's hands
   pub taken_out : {turn : ℕ → W → W → Type 0} {number : ℕ} {m m' : Mine W} → m.1 ≡ [] → Entered turn number m m'
       → (old : Option W) × (m'.1 ≡ (0, old) ∷ rest m'.1)
@@ -19,21 +15,10 @@ module _ {W : Type 0} where
       let listed = e.taken ∙ ap (λ (l : List (ℕ × Option W)). (0, Some e.value) ∷ l) bare in
       (Some e.value, listed ∙ ap (λ (l : List (ℕ × Option W)). (0, Some e.value) ∷ rest l) (sym listed))
 
-  -- it is the value of the last turn
-  pub value_is : {turn : ℕ → W → W → Type 0} {number : ℕ} {m m' : Mine W} {r : Option W}
-      → (e : Entered turn number m m') → m'.1 ≡ (0, r) ∷ rest m'.1 → r ≡ Some e.value
-  value_is e here = ap front (sym here ∙ e.taken)
-
-  -- and none is carried after it
-  pub carries_none : {turn : ℕ → W → W → Type 0} {number : ℕ} {m m' m'' : Mine W} → m.1 ≡ []
-      → Entered turn number m m' → m'' ≡ (m'.0, (0, None) ∷ rest m'.1) → m''.1 ≡ (0, None) ∷ []
-  carries_none bare e after =
-      ap (λ (x : Mine W). x.1) after
-      ∙ ap (λ (l : List (ℕ × Option W)). (0, None) ∷ rest l) (e.taken ∙ ap (λ (l : List (ℕ × Option W)). (0, Some e.value) ∷ l) bare)
-
-  -- looks before the one that won
-  pub enters_after : {turn : ℕ → W → W → Type 0} {most all number : ℕ} {value : W} (times : ℕ) (old : View W) {new : View W}
-      → times + most ≤ all → Enters turn most number value (looked times old) new → Enters turn all number value old new
+  -- misses before the look that won
+  pub enters_after : {turn : ℕ → W → W → Type 0} {most all number : ℕ} {value : W} (times : ℕ) (old : View W)
+      {new : View W} → times + most ≤ all → Enters turn most number value (missed times old) new
+      → Enters turn all number value old new
   enters_after {value = value} times old fits e = record {
     by = e.by;
     past = e.past;
@@ -43,33 +28,9 @@ module _ {W : Type 0} where
     times = times + e.times;
     few = (let f = e.few in omega arith);
     new_is =
-        let sum : old.looks + times + e.times ≡ old.looks + (times + e.times) = omega arith in
-        e.new_is ∙ ap (λ (k : ℕ). took ((e.by, value) ∷ e.past) (record old { looks = k })) sum;
+        let sum : old.misses + times + e.times ≡ old.misses + (times + e.times) = omega arith in
+        e.new_is ∙ ap (λ (k : ℕ). took ((e.by, value) ∷ e.past) (record old { misses = k })) sum;
   }
-
-  abbrev value_in : W → Option W → W
-  value_in d None = d
-  value_in d (Some value) = value
-
-  -- what an end knows after a look, a try that won and the exchange
-  pub has_turn : {turn : ℕ → W → W → Type 0} {number : ℕ} (m : Mine W) {m1 m2 m3 : Mine W} {r : Option W} {value : W}
-      → m.1 ≡ [] → m1 ≡ (looked 1 m.0, m.1) → Entered turn number m1 m2 → m2.1 ≡ (0, r) ∷ rest m2.1
-      → m3 ≡ (m2.0, (0, None) ∷ rest m2.1) → r ≡ Some value → Enters turn 1 number value m.0 m3.0
-  has_turn {turn} {number} m {m1} {m2} {m3} {r} {value} bare looked_is e here after some =
-      let same : e.value ≡ value =
-      ap (value_in e.value) (sym (value_is e here) ∙ some) in
-      let end : m2.0 ≡ m3.0 = ap (λ (x : Mine W). x.0) (sym after) in
-      enters_after 1 m.0 (omega arith)
-      (subst (λ (z : W × (View W × View W)). Enters turn 0 number z.0 z.1.0 z.1.1)
-      (λ i. (same i, ((looked_is i).0, end i))) e.enters)
-
-  -- what it carries then
-  pub has_seat : {turn : ℕ → W → W → Type 0} {number : ℕ} (m : Mine W) {m1 m2 m3 : Mine W} → m.1 ≡ []
-      → m1 ≡ (looked 1 m.0, m.1) → Entered turn number m1 m2 → m3 ≡ (m2.0, (0, None) ∷ rest m2.1)
-      → m3.1 ≡ carried_by m3.0.has_gate
-  has_seat m bare looked_is e after =
-      carries_none (ap (λ (x : Mine W). x.1) looked_is ∙ bare) e after
-      ∙ sym (ap (λ (v : View W). carried_by v.has_gate) (ap (λ (x : Mine W). x.0) after ∙ e.enters.new_is))
 
   -- the same of an end as it is handed out
   pub handed : {turn : ℕ → W → W → Type 0} {most number : ℕ} {value : W} (old new : View W)

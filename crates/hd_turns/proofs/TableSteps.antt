@@ -1,15 +1,17 @@
 -- Each step keeps the rule of the table.
-use Rattle.std.proofs.Common.{◌≡◌, ◌≢◌, ℕ, zero, suc, ◌+◌, ◌<◌, true, false, List, [], ◌∷◌, ◌++◌, length, get_or, set, sym, refl, ap, ◌∙◌, subst, ⊎_elim, inl, inr, ◌⊎◌, arith, Option, Some, get_or-set_same, length-set, length-append, eqb}
+use Rattle.std.proofs.Common.{◌≡◌, ◌≢◌, ℕ, zero, suc, ◌+◌, ◌<◌, true, false, List, [], ◌∷◌, ◌++◌, length, get_or, set, sym, refl, ap, ◌∙◌, subst, ⊎_elim, inl, inr, ◌⊎◌, arith, Option, Some, get_or-set_same, length-set, length-append, eqb, add-zero, ◌≤◌}
 use mathlib.Core.Option.{none, some, some-injective, some-ne-none}
 use mathlib.Core.Option as maybe
 use prog.Atomic.{either}
 use lib.ListN.{get_elem?}
 use lib.Seq.{set-get_or}
-use Rattle.atomic_table.specs.Table.{Act, Me, Valid, carried_after, step, stepped, keeps, takes, gives, Allows, Splits, opening}
+use Rattle.atomic_table.specs.Table.{Act, Me, State, Valid, carried_after, step, stepped, keeps, takes, gives, Allows, Splits, opening}
 use Rattle.atomic_table.proofs.Lists.{at_set, set_again, exchanged}
 use Rattle.hd_turns.specs.declared.rule.View.{View}
-use Rattle.hd_turns.specs.Views.{GoesOn, MayLeave, gave_back, looked, next_of, passed_on, starting, took}
-use Rattle.hd_turns.specs.Rule.{IsView, Kept, entered, left, looked_at}
+use Rattle.std.proofs.lemmas.Bool.{cases_lt}
+use Rattle.hd_turns.specs.declared.gate.TheConstants.{FULL}
+use Rattle.hd_turns.specs.Views.{GoesOn, MayLeave, gave_back, missed, next_of, passed_on, starting, took}
+use Rattle.hd_turns.specs.Rule.{IsFree, IsView, Kept, entered, left, looked_at}
 use Rattle.hd_turns.proofs.Histories.{below_more, sees_all, sees_as, sees_less}
 
 -- what is so of the element that was set and of all others is so of each
@@ -74,36 +76,53 @@ module _ {W : Type 0} (turn : ℕ → W → W → Type 0) where
       })
       first (suc i) v e = absurd (some-ne-none v (sym e))
 
+  -- a miss, which lets the gate be
+  misses : (id : ℕ) (v : View W) (s : State (Option W) (View W)) → Kept turn s → get_elem? s.views id ≡ some v
+      → Kept turn (record {
+        words = set s.words 0 (get_or s.words 0 0);
+        homes = s.homes;
+        views = set s.views id (missed 1 v);
+      })
+  misses id v s r at =
+      let w : View W = missed 1 v in
+      let gate : ℕ = get_or s.words 0 0 in
+      let is = r.each id v at in
+      subst (λ (z : List ℕ). Kept turn (record { words = z; homes = s.homes; views = set s.views id w }))
+      (sym (set-get_or s.words 0 0)) (record {
+        by = r.by;
+        value = r.value;
+        past = r.past;
+        holder = r.holder;
+        ends = r.ends;
+        one_word = r.one_word;
+        all_ends = length-set s.views id w ∙ r.all_ends;
+        gate = r.gate;
+        turns = r.turns;
+        below = r.below;
+        each = stay (IsView gate r.holder ((r.by, r.value) ∷ r.past) r.ends) s.views id w
+            (record { number_is = is.number_is; last = is.last; holding = is.holding; seeing = is.seeing })
+            (λ j d other e. r.each j d e);
+      })
+
+  free_or_not : (gate : ℕ) → IsFree gate ⊎ (IsFree gate → ⊥)
+  free_or_not gate = ⊎_elim
+      (λ (some : 0 < gate). ⊎_elim (λ (low : gate < FULL). inl (some, low))
+      (λ (high : FULL ≤ gate). inr (λ free. let low = free.1 in omega arith)) (cases_lt gate FULL))
+      (λ (none_left : gate ≤ 0). inr (λ free. let some = free.0 in omega arith)) (cases_lt 0 gate)
+
   -- a look
   pub looks : (slots id : ℕ) (me : Mine W)
       → Allows (Kept turn) slots id me 0 (λ n. n) (looked_at (step slots 0 0 0 none) me)
   looks slots id me s r deep at bound =
-      let v : View W = me.0 in
-      let w : View W = looked 1 v in
-      let gate : ℕ = get_or s.words 0 0 in
-      let same : set s.words 0 gate ≡ s.words = set-get_or s.words 0 0 in
-      let is = r.each id v at in (
-        w,
-        keeps,
-        tt,
-        subst (λ (z : List ℕ). Kept turn (record { words = z; homes = s.homes; views = set s.views id w })) (sym same)
-            (record {
-              by = r.by;
-              value = r.value;
-              past = r.past;
-              holder = r.holder;
-              ends = r.ends;
-              one_word = r.one_word;
-              all_ends = length-set s.views id w ∙ r.all_ends;
-              gate = r.gate;
-              turns = r.turns;
-              below = r.below;
-              each = stay (IsView gate r.holder ((r.by, r.value) ∷ r.past) r.ends) s.views id w
-                  (record { number_is = is.number_is; last = is.last; holding = is.holding; seeing = is.seeing })
-                  (λ j d other e. r.each j d e);
-            }),
-        refl,
-      )
+      let words = sym (set-get_or s.words 0 0) in
+      let views = sym (set_again s.views id me.0 at) in
+      let same = subst (Kept turn) (λ i. record { words = words i; homes = s.homes; views = views i }) r in
+      ⊎_elim
+      (λ (free : IsFree (get_or s.words 0 0)).
+      (me.0, keeps, tt, same, (λ _. refl, λ taken. absurd (taken free))))
+      (λ (taken : IsFree (get_or s.words 0 0) → ⊥).
+      (missed 1 me.0, keeps, tt, misses id me.0 s r at, (λ free. absurd (taken free), λ _. refl)))
+      (free_or_not (get_or s.words 0 0))
 
   -- a try: the gate was what was found, which is not 0, or it is let be
   pub enters : (slots id old : ℕ) (me : Mine W) → 0 < old
@@ -160,7 +179,7 @@ module _ {W : Type 0} (turn : ℕ → W → W → Type 0) where
               number_is = t.0;
               times = 0;
               few = omega arith;
-              new_is = let none_more : v.looks ≡ v.looks + 0 = omega arith in ap (λ (k : ℕ). record w { looks = k }) none_more;
+              new_is = ap (λ (k : ℕ). record w { misses = k }) (sym (add-zero v.misses));
             };
             taken = refl;
           },
@@ -168,14 +187,7 @@ module _ {W : Type 0} (turn : ℕ → W → W → Type 0) where
         ),
       ))
       (λ (t : (n ≡ 0) × (s.homes ≡ none ∷ [])). absurd (let z = t.0 in let y = hit in let p = positive in omega arith)) r.gate)
-      (λ miss. (
-        v,
-        keeps,
-        tt,
-        subst (λ (z : List ℕ × List (View W)). Kept turn (record { words = z.0; homes = s.homes; views = z.1 }))
-            (λ i. (sym (set-get_or s.words 0 0) i, sym (set_again s.views id v at) i)) r,
-        (λ hit. absurd (miss hit), λ _. refl),
-      ))
+      (λ miss. (missed 1 v, keeps, tt, misses id v s r at, (λ hit. absurd (miss hit), λ _. refl)))
 
   -- the gate is given back with a value, and is the history's length again
   pub leaves : (slots id number : ℕ) (v : View W) (w : W) → v.has_gate ≡ true → length v.seen ≡ number

@@ -4,7 +4,12 @@ use mathlib.Core.Option.{some, none}
 use lib.ListN.{get_elem?}
 use Rattle.atomic_table.specs.Table.{State, Me, Step}
 use Rattle.hd_turns.specs.declared.rule.View.{View}
-use Rattle.hd_turns.specs.Views.{AreTurns, Enters, GoesOn, MayLeave, gave_back, looked}
+use Rattle.hd_turns.specs.declared.gate.TheConstants.{FULL}
+use Rattle.hd_turns.specs.Views.{AreTurns, Enters, GoesOn, MayLeave, gave_back, missed}
+
+-- a gate is free, and a turn may follow
+abbrev pub IsFree : ℕ → Type 0
+IsFree gate = (0 < gate) × (gate < FULL)
 
 module _ {W : Type 0} where
   -- the slots that an end has taken, between two calls
@@ -47,20 +52,21 @@ module _ {W : Type 0} where
     pub each : (i : ℕ) (v : View W) → get_elem? s.views i ≡ some v
         → IsView (slice_index s.words 0) holder ((by, value) ∷ past) ends i v
 
-  -- a look at the gate changes nothing else
+  -- a look at the gate is a miss where it is not free, and changes nothing else
   abbrev pub looked_at : Step (Option W) → Me (Option W) (View W) → ℕ → Me (Option W) (View W) → Type 0
-  looked_at step m n m' = m' ≡ (looked 1 m.0, m.1)
+  looked_at step m n m' = (IsFree n → m' ≡ m) × ((IsFree n → ⊥) → m' ≡ (missed 1 m.0, m.1))
 
-  -- The gate was what the end had found at its look, before which it had looked once less, and the end has the
-  -- value; or nothing changed.
+  -- The gate was what the end had found at its look, and the end has the value; or another end took it since,
+  -- and the look was a miss.
   pub record Entered (turn : ℕ → W → W → Type 0) (number : ℕ) (m m' : Me (Option W) (View W)) : Type 0 where
     pub value : W
-    pub enters : Enters turn 0 number value m.0 m'.0
+    pub enters : Enters turn 1 number value m.0 m'.0
     pub taken : m'.1 ≡ (0, Some value) ∷ m.1
 
   abbrev pub entered : (ℕ → W → W → Type 0) → Step (Option W) → Me (Option W) (View W) → ℕ
       → Me (Option W) (View W) → Type 0
-  entered turn step m n m' = (n ≡ step.first → Entered turn n m m') × (n ≢ step.first → m' ≡ m)
+  entered turn step m n m' =
+      (n ≡ step.first → Entered turn n m m') × (n ≢ step.first → m' ≡ (missed 1 m.0, m.1))
 
   -- an end that has the gate may give it back with the value that it carries
   pub record MayFree (turn : ℕ → W → W → Type 0) (m : Me (Option W) (View W)) : Type 0 where

@@ -1,5 +1,5 @@
 -- What an end knows, and how each step that it makes changes that.
-use Rattle.std.specs.Prelude.{◌≡◌, ◌≢◌, ℕ, zero, suc, ◌+◌, ◌<◌, ◌≤◌, Bool, true, false, List, [], ◌∷◌, ◌++◌, length}
+use Rattle.std.specs.Prelude.{◌≡◌, ◌≢◌, ℕ, zero, suc, ◌+◌, ◌<◌, Bool, true, false, List, [], ◌∷◌, ◌++◌, length}
 use Rattle.atomic_table.specs.Seated.{TableId}
 use Rattle.hd_turns.specs.declared.rule.View.{View}
 use Rattle.hd_turns.specs.declared.gate.TheConstants.{FULL}
@@ -34,22 +34,22 @@ module _ {W : Type 0} where
   -- the end with a number, of a value to which nothing was done
   abbrev pub starting : W → ℕ → Bool → View W
   starting value number is_last =
-      record { number = number; seen = (0, value) ∷ []; has_gate = false; looks = 0; is_last = is_last }
+      record { number = number; seen = (0, value) ∷ []; has_gate = false; misses = 0; is_last = is_last }
 
   -- an end from which the next was made, and the next
   abbrev pub passed_on : View W → View W
   passed_on v = record v { is_last = false }
 
   abbrev pub next_of : View W → View W
-  next_of v = record v { number = v.number + 1; has_gate = false; looks = 0; is_last = true }
+  next_of v = record v { number = v.number + 1; has_gate = false; misses = 0; is_last = true }
 
   -- an end as it is handed out: no other is made from it
   abbrev pub handed_out : View W → View W
   handed_out = passed_on
 
-  -- it looked at the gate so many times
-  abbrev pub looked : ℕ → View W → View W
-  looked times v = record v { looks = v.looks + times }
+  -- it looked so many times in vain: another end had its turn, or came first, or no turn is left
+  abbrev pub missed : ℕ → View W → View W
+  missed times v = record v { misses = v.misses + times }
 
   -- it takes the gate, and sees the whole history
   abbrev pub took : List (ℕ × W) → View W → View W
@@ -59,7 +59,7 @@ module _ {W : Type 0} where
   abbrev pub gave_back : W → View W → View W
   gave_back value v = record v { seen = (v.number, value) ∷ v.seen; has_gate = false }
 
-  -- An end took the gate by the last of at most so many looks, with the value that the last turn of all left.
+  -- An end took the gate after less than so many misses, with the value that the last turn of all left.
   -- The history goes on from what the end had seen by turns of other ends, each from what the one before left,
   -- and its length is the number of the turn that the end has now.
   pub record Enters (turn : ℕ → W → W → Type 0) (most number : ℕ) (value : W) (old new : View W) : Type 0 where
@@ -69,8 +69,8 @@ module _ {W : Type 0} where
     pub turns : AreTurns turn by value past
     pub number_is : number ≡ length past + 1
     pub times : ℕ
-    pub few : times ≤ most
-    pub new_is : new ≡ took ((by, value) ∷ past) (looked times old)
+    pub few : times < most
+    pub new_is : new ≡ took ((by, value) ∷ past) (missed times old)
 
   -- a value is left by a turn of the end from what it took
   pub record MayLeave (turn : ℕ → W → W → Type 0) (value : W) (v : View W) : Type 0 where

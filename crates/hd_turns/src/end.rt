@@ -1,7 +1,7 @@
 ghost use Rattle.std.specs.Prelude.{◌≡◌, ℕ, false, true, length, IfOk, IfSome, IfNone};
 ghost use Rattle.std.specs.Arc.{arc_value};
 ghost use Rattle.atomic_table.specs.Seated.{TableId};
-ghost use Rattle.hd_turns.specs.Views.{Enters, MayLeave, ends_of, entries, gave_back, handed_out, looked};
+ghost use Rattle.hd_turns.specs.Views.{Enters, MayLeave, ends_of, entries, gave_back, handed_out, missed};
 
 use crate::gate::{Gate, LOOKS, Seat};
 use crate::rule::Turn;
@@ -89,12 +89,13 @@ impl<W: Turn> End<W> {
     }
 
     /// Takes the gate, and with it the value as the last turn of all left it; or none, where at
-    /// each of `LOOKS` looks another end had its turn, and after 2^64 - 2 turns. It makes no call
-    /// of the system. No end is promised a turn.
+    /// each of `LOOKS` looks another end had its turn or came first, and after 2^64 - 2 turns. It
+    /// makes no call of the system. No end is promised a turn.
+    #[inline(always)]
     pub fn try_enter(&mut self) -> Option<W>
         requires gate { self.old.view.has_gate ≡ false }
         ensures busy { IfNone result
-            (self.new ≡ record self.old { view = looked LOOKS self.old.view }) }
+            (self.new ≡ record self.old { view = missed LOOKS self.old.view }) }
         ensures table { self.new.table ≡ self.old.table }
         ensures turned { IfSome result (λ value. (number : ℕ)
             × Enters W.turn LOOKS number value self.old.view self.new.view) }
@@ -110,6 +111,7 @@ impl<W: Turn> End<W> {
     }
 
     /// Gives the gate back with the value that its turn leaves.
+    #[inline(always)]
     pub fn leave(&mut self, value: W)
         requires gate { self.old.view.has_gate ≡ true }
         requires turn { MayLeave W.turn value self.old.view }

@@ -1,9 +1,9 @@
 // The gate: one word of the table, and one slot with the value.
-ghost use Rattle.std.specs.Prelude.{◌≡◌, ◌<◌, ◌+◌, true, false, [], ◌∷◌, length, IfOk, IfSome, IfNone, Some, None};
+ghost use Rattle.std.specs.Prelude.{◌≡◌, ◌<◌, ◌+◌, true, false, [], ◌∷◌, length, IfOk, IfSome, IfNone, MatchOption, Some, None};
 ghost use Rattle.std.specs.Bool.{OnTrue, OnFalse};
-ghost use Rattle.hd_turns.specs.Rule.{Entered, HasFreed, MayFree};
+ghost use Rattle.hd_turns.specs.Rule.{Entered, HasFreed, IsFree, MayFree};
 ghost use Rattle.hd_turns.specs.declared.gate.TheConstants.{FULL, LOOKS};
-ghost use Rattle.hd_turns.specs.Views.{Enters, MayLeave, gave_back, looked, next_of, passed_on, starting};
+ghost use Rattle.hd_turns.specs.Views.{Enters, MayLeave, gave_back, missed, next_of, passed_on, starting};
 
 use crate::pauses::pause_after;
 use crate::rule::{Cut, Enter, Law, Leave, Look, Turn, View};
@@ -72,7 +72,8 @@ fn single<W: Turn>(alloc: Global, value: W) -> Result<Vec<Option<W>>, AllocError
 
 // Whether a gate is free, and a turn may follow.
 fn is_free(gate: u64) -> bool
-    ensures { OnTrue result ((0 < gate) × (gate < FULL)) }
+    ensures yes { OnTrue result (IsFree gate) }
+    ensures no { OnFalse result (IsFree gate → ⊥) }
 {
     TAKEN < gate && gate < FULL
 }
@@ -102,22 +103,28 @@ impl<W: Turn> Gate<W> {
         }
     }
 
-    // A look at the gate.
-    fn look_at(&self, place: &mut Place<Option<W>, View<W>>) -> u64
+    // The gate at a look, where it is free.
+    #[inline(always)]
+    fn look_at(&self, place: &mut Place<Option<W>, View<W>>) -> Option<u64>
         requires { place.old.table_id ≡ self.now }
         ensures table { place.new.table_id ≡ place.old.table_id }
-        ensures looked { place.new.me ≡ (looked 1 place.old.me.0, place.old.me.1) }
+        ensures looked { MatchOption result
+            (place.new.me ≡ (missed 1 place.old.me.0, place.old.me.1))
+            (λ found. IsFree found × (place.new.me ≡ place.old.me)) }
     {
-        self.table.shared.load::<Look>(place, GATE)
+        let found = self.table.shared.load::<Look>(place, GATE);
+        if is_free(found) { Some(found) } else { None }
     }
 
     // Whether the gate was what was found, and is taken by this end now.
+    #[inline(always)]
     fn win(&self, place: &mut Place<Option<W>, View<W>>, found: u64) -> bool
         requires table { place.old.table_id ≡ self.now }
         requires free { 0 < found }
         ensures table { place.new.table_id ≡ place.old.table_id }
         ensures won { OnTrue result (Entered W.turn found place.old.me place.new.me) }
-        ensures lost { OnFalse result (place.new.me ≡ place.old.me) }
+        ensures lost { OnFalse result
+            (place.new.me ≡ (missed 1 place.old.me.0, place.old.me.1)) }
     {
         let before = self
             .table
@@ -127,16 +134,17 @@ impl<W: Turn> Gate<W> {
     }
 
     // One look, and a try where the gate is free. The number is that of the turn.
+    #[inline(always)]
     fn look(&self, seat: &mut Seat<W>) -> Option<(u64, W)>
         requires seat { seat.old.table ≡ self.now }
         requires gate { seat.old.view.has_gate ≡ false }
         ensures lost { IfNone result
-            (seat.new ≡ record seat.old { view = looked 1 seat.old.view }) }
+            (seat.new ≡ record seat.old { view = missed 1 seat.old.view }) }
         ensures won { IfSome result (λ r. (seat.new.table ≡ seat.old.table) × (r.0 < FULL)
             × Enters W.turn 1 r.0 r.1 seat.old.view seat.new.view) }
     {
-        let found = self.look_at(&mut seat.place);
-        if !is_free(found) || !self.win(&mut seat.place, found) {
+        let found = self.look_at(&mut seat.place)?;
+        if !self.win(&mut seat.place, found) {
             return None;
         }
         let Some(value) = self.table.shared.exchange(&mut seat.place, VALUE, None) else {
@@ -146,11 +154,12 @@ impl<W: Turn> Gate<W> {
     }
 
     /// The value, with the number of the turn, where the gate was free at one of the looks.
+    #[inline(always)]
     pub(crate) fn try_enter(&self, seat: &mut Seat<W>) -> Option<(u64, W)>
         requires seat { seat.old.table ≡ self.now }
         requires gate { seat.old.view.has_gate ≡ false }
         ensures lost { IfNone result
-            (seat.new ≡ record seat.old { view = looked LOOKS seat.old.view }) }
+            (seat.new ≡ record seat.old { view = missed LOOKS seat.old.view }) }
         ensures won { IfSome result (λ r. (seat.new.table ≡ seat.old.table) × (r.0 < FULL)
             × Enters W.turn LOOKS r.0 r.1 seat.old.view seat.new.view) }
     {
@@ -164,6 +173,7 @@ impl<W: Turn> Gate<W> {
     }
 
     // The value that a turn leaves goes into its slot.
+    #[inline(always)]
     fn put_value(&self, place: &mut Place<Option<W>, View<W>>, value: W)
         requires table { place.old.table_id ≡ self.now }
         requires gate { place.old.me.0.has_gate ≡ true }
@@ -179,6 +189,7 @@ impl<W: Turn> Gate<W> {
     }
 
     // The gate is free, and the turn with this number is the newest of the history.
+    #[inline(always)]
     fn set_free(&self, place: &mut Place<Option<W>, View<W>>, turn: u64)
         requires table { place.old.table_id ≡ self.now }
         requires number { (length place.old.me.0.seen ≡ turn) × (turn < FULL) }
@@ -190,6 +201,7 @@ impl<W: Turn> Gate<W> {
     }
 
     // What `leave` does, of the token.
+    #[inline(always)]
     fn leave_at(&self, place: &mut Place<Option<W>, View<W>>, turn: u64, value: W)
         requires table { place.old.table_id ≡ self.now }
         requires gate { place.old.me.0.has_gate ≡ true }
@@ -204,6 +216,7 @@ impl<W: Turn> Gate<W> {
     }
 
     /// Gives the gate back with what a turn left, whose number this is.
+    #[inline(always)]
     pub(crate) fn leave(&self, seat: &mut Seat<W>, turn: u64, value: W)
         requires seat { seat.old.table ≡ self.now }
         requires gate { seat.old.view.has_gate ≡ true }

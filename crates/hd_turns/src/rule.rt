@@ -20,8 +20,8 @@ pub struct View<W> {
     /// The opening is the first of it, and counts as number 0's.
     pub seen: LinkedList<(u64, W)>,
     pub has_gate: bool,
-    /// How often it looked at the gate.
-    pub looks: u64,
+    /// How often it looked at the gate and had no turn by that, since another end had its own.
+    pub misses: u64,
     /// Whether the next end is made from it. That is so of no end that is handed out.
     pub is_last: bool,
 }

@@ -9,4 +9,5 @@ pub exchange-requires : goal.exchange-requires
 exchange-requires g c =
     let W = g.row.W.Denot in
     let bare = c.seat.invariant ∙ ap (λ (k : Known W). carried_by k.view.has_gate) c.seat.view_is ∙ ap carried_by c.requires.gate in
-    (search rules, taken_out (ap (λ (m : Mine W). m.1) c.look_at-found.ensures.looked ∙ bare) c.if-not-win.ensures.won)
+    let found = ap (λ (m : Mine W). m.1) c.in_ok-found.ensures.looked.1 ∙ bare in
+    (search rules, taken_out found c.if-not-win.ensures.won)
