@@ -1,6 +1,5 @@
 -- Registers of a caller are cleared, one by one.
-use Rattle.std.proofs.Common.{add-one}
-use Rattle.hd_store.proofs.StoreWords.{Id, List, Machine, None, Option, State, [], ap, arith, get_or, refl, set, suc, sym, with_register, zero, ℕ, ◌+◌, ◌∙◌, ◌∷◌, ◌≡◌}
+use Rattle.hd_store.proofs.StoreWords.{Id, List, None, Option, State, [], ap, arith, get_or, refl, set, suc, sym, with_register, zero, ℕ, ◌+◌, ◌∷◌, ◌≡◌}
 use Rattle.hd_store.specs.Hosted.{cleared, with_cleared}
 
 abbrev Row : Type 0
@@ -45,16 +44,3 @@ module _ (s : State) (caller first : ℕ) where
   pub clears-suc : (n : ℕ)
       → with_register (with_cleared s caller first n) caller (first + n) None ≡ with_cleared s caller first (suc n)
   clears-suc n = λ j. record s { registers = rows-next s.registers caller first n j }
-
-  pub clears-next : (n : ℕ)
-      → with_register (with_cleared s caller first n) caller (first + n) None ≡ with_cleared s caller first (n + 1)
-  clears-next n = clears-suc n ∙ ap (with_cleared s caller first) (sym (add-one n))
-
--- another register is cleared
-pub clears-more : (m u k : Machine) (caller first n : ℕ)
-    → u ≡ record m { state = with_cleared m.state caller first n }
-    → k ≡ record u { state = with_register u.state caller (first + n) None }
-    → k ≡ record m { state = with_cleared m.state caller first (n + 1) }
-clears-more m u k caller first n so_far wrote =
-    wrote ∙ ap (λ (x : Machine). record x { state = with_register x.state caller (first + n) None }) so_far
-    ∙ ap (λ s. record m { state = s }) (clears-next m.state caller first n)

@@ -36,6 +36,9 @@ module _ (f : Parts) (m : Machine) (view : machine_of f ≡ m) where
       by (Some None) e = e
       by (Some (Some k)) e = absurd (no_some _ (same_Some _ None (sym (read_of slot (Some (Some k)) e) ∙ is)))
 
+  pub idle-at : (slot : ℕ) → IsIdle f.weak slot → get m.state.weak slot ≡ Some None
+  idle-at slot is = read_of slot (Some None) is
+
   -- the slot with a key
   pub found-is : IsWeakTable f.weak → (key : Id) (r : Option Slot)
       → IfSome r (λ slot. HasKey f.weak key slot.0)

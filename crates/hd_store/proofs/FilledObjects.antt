@@ -3,36 +3,36 @@ use Rattle.std.proofs.Common.{add-one}
 use Rattle.hd_store.proofs.StoreWords.{Addr, Heap, Id, List, Machine, Object, Option, [], ap, arith, get_inserted, get_or, insert, length, map, name_in, named_in, object_by_id, object_named, put_twice, refl, register_of, set, subst, suc, sym, unwrap_or, with_object, zero, ℕ, ◌+◌, ◌<◌, ◌∙◌, ◌∷◌, ◌≡◌, false}
 
 -- a list whose first i items are what is read of i others
-unfoldable pub filled : {A : Type 0} → (ℕ → A) → ℕ → List ℕ → List A → List A
+unfoldable pub filled : {A B : Type 0} → (B → A) → ℕ → List B → List A → List A
 filled g zero src fields = fields
 filled g (suc i) [] fields = fields
 filled g (suc i) (r ∷ src) [] = []
 filled g (suc i) (r ∷ src) (x ∷ fields) = g r ∷ filled g i src fields
 
-module _ {A : Type 0} (g : ℕ → A) where
-  filled-first : (src : List ℕ) (fields : List A) → filled g 0 src fields ≡ fields
+module _ {A B : Type 0} (g : B → A) where
+  pub filled-first : (src : List B) (fields : List A) → filled g 0 src fields ≡ fields
   unfolding filled
   filled-first src fields = refl
 
-  filled-length : (i : ℕ) (src : List ℕ) (fields : List A) → length (filled g i src fields) ≡ length fields
+  pub filled-length : (i : ℕ) (src : List B) (fields : List A) → length (filled g i src fields) ≡ length fields
   unfolding filled
   filled-length zero src fields = refl
   filled-length (suc i) [] fields = refl
   filled-length (suc i) (r ∷ src) [] = refl
   filled-length (suc i) (r ∷ src) (x ∷ fields) = ap suc (filled-length i src fields)
 
-  filled-next : (i : ℕ) (src : List ℕ) (fields : List A) → i < length src
-      → set (filled g i src fields) i (g (get_or src i 0)) ≡ filled g (suc i) src fields
+  pub filled-next : (none : B) (i : ℕ) (src : List B) (fields : List A) → i < length src
+      → set (filled g i src fields) i (g (get_or src i none)) ≡ filled g (suc i) src fields
   unfolding filled
-  filled-next zero [] fields low = absurd (omega arith)
-  filled-next zero (r ∷ src) [] low = refl
-  filled-next zero (r ∷ src) (x ∷ fields) low = refl
-  filled-next (suc i) [] fields low = absurd (omega arith)
-  filled-next (suc i) (r ∷ src) [] low = refl
-  filled-next (suc i) (r ∷ src) (x ∷ fields) low =
-      ap (λ rest. g r ∷ rest) (filled-next i src fields (omega arith))
+  filled-next none zero [] fields low = absurd (omega arith)
+  filled-next none zero (r ∷ src) [] low = refl
+  filled-next none zero (r ∷ src) (x ∷ fields) low = refl
+  filled-next none (suc i) [] fields low = absurd (omega arith)
+  filled-next none (suc i) (r ∷ src) [] low = refl
+  filled-next none (suc i) (r ∷ src) (x ∷ fields) low =
+      ap (λ rest. g r ∷ rest) (filled-next none i src fields (omega arith))
 
-  filled-all : (src : List ℕ) (fields : List A) → length src ≡ length fields
+  pub filled-all : (src : List B) (fields : List A) → length src ≡ length fields
       → filled g (length src) src fields ≡ map g src
   unfolding filled
   filled-all [] [] same = refl
@@ -134,7 +134,7 @@ module _ (m : Machine) (at : Addr) (value caller : ℕ) (src : List ℕ) where
 
       step : set (filled g i src (object_named m at).fields) i (g (get_or src i 0))
           ≡ filled g (i + 1) src (object_named m at).fields
-      step = filled-next g i src (object_named m at).fields low
+      step = filled-next g 0 i src (object_named m at).fields low
           ∙ ap (λ n. filled g n src (object_named m at).fields) (sym (add-one i))
 
   pub fills-all : (i : ℕ) (u : Machine) → i ≡ length src → length src ≡ length (object_named m at).fields

@@ -1,9 +1,15 @@
 -- The weak table has room for each free slot in a block of dependent handles.
-use Rattle.hd_store.proofs.StoreWords.{BlockUse, Bool, Contains, Contains-append_left, Contains-append_right, Contains-get_or, Dependent, FinMap, Id, IfSome, IsSome, IsStored, IsTable, List, Machine, None, Option, Parts, Slot, Some, State, T, [], ap, arith, block_of, cond, counts_keys, entries, extra_data, false, fewer, get, handles_of, idle_found, idle_slot, insert, is_kind, is_some, key_found, len, len-entries, len-insert, length, length-append, machine_of, map, member_cases, nat_cmp, nat_cmp_total, not_in_none, one_dependent, one_extra, range_with_len, refl, slot_of_key, subst, sum_by, sum_by-cons, sym, true, ℕ, ⊎_elim, ◌%◌, ◌*◌, ◌++◌, ◌+◌, ◌/◌, ◌<◌, ◌∙◌, ◌∷◌, ◌≡◌, ◌≤◌, insert_cases}
+use Rattle.hd_store.proofs.StoreWords.{BlockUse, Contains, Contains-append_left, Contains-append_right, Contains-get_or, Dependent, FinMap, Id, IfSome, IsSome, IsStored, IsTable, List, Machine, None, Option, Parts, Slot, Some, State, T, [], ap, arith, block_of, cond, counts_keys, entries, extra_data, fewer, get, handles_of, idle_found, idle_slot, insert, is_kind, is_some, key_found, len, len-entries, len-insert, length, length-append, machine_of, map, member_cases, nat_cmp, nat_cmp_total, not_in_none, one_extra, one_paired, range_with_len, refl, slot_of_key, subst, sum_by, sum_by-cons, sym, ℕ, ⊎_elim, ◌%◌, ◌*◌, ◌++◌, ◌+◌, ◌/◌, ◌<◌, ◌∙◌, ◌∷◌, ◌≡◌, ◌≤◌, insert_cases}
 use Rattle.std.proofs.lemmas.List.FromFn.{length-range_with_len, get_or-range_with_len}
 use Rattle.hd_model.proofs.MapEntries.{entry_of}
 use Rattle.hd_store.proofs.EntrySearch.{at-idle}
+use Rattle.hd_model.specs.declared.data.Kind.TheVariants as kind
 use Rattle.hd_model.specs.declared.limits.TheConstants.{ROWS}
+
+-- 1 for a block of dependent handles
+abbrev one_dependent : BlockUse → ℕ
+one_dependent (handles_of k) = cond (is_kind k Dependent) 1 0
+one_dependent extra_data = 0
 
 -- the slots of the blocks of dependent handles, 64 for each
 abbrev slots_of : List (ℕ × BlockUse) → List ℕ
@@ -38,21 +44,31 @@ in_slots (e ∷ es) slot h =
     (λ later. Contains-append_right here (slots_of es) slot (in_slots es slot later))
     (member_cases e es (slot / ROWS, handles_of Dependent) h)
 
--- a block has dependent handles or extra data, not both
-one_use : (u : BlockUse) → one_dependent u + one_extra u ≤ 1
-one_use (handles_of k) = by (is_kind k Dependent)
-  where
-    by : (b : Bool) → cond b 1 0 + 0 ≤ 1
-    by true = omega arith
-    by false = omega arith
-one_use extra_data = omega arith
+-- dependent handles have extra data, and a block has handles with extra data or is extra data, not both
+one_use : (u : BlockUse) → (one_dependent u ≤ one_paired u) × (one_paired u + one_extra u ≤ 1)
+one_use (handles_of kind.Short) = (omega arith, omega arith)
+one_use (handles_of kind.Long) = (omega arith, omega arith)
+one_use (handles_of kind.Strong) = (omega arith, omega arith)
+one_use (handles_of kind.Pinned) = (omega arith, omega arith)
+one_use (handles_of kind.Variable) = (omega arith, omega arith)
+one_use (handles_of kind.Counted) = (omega arith, omega arith)
+one_use (handles_of kind.Dependent) = (omega arith, omega arith)
+one_use extra_data = (omega arith, omega arith)
 
-at_most_all : (es : List (ℕ × BlockUse)) → sum_by one_dependent (map (λ e. e.1) es)
-    + sum_by one_extra (map (λ e. e.1) es) ≤ length es
-at_most_all [] = omega arith
+abbrev sum_of : (BlockUse → ℕ) → List (ℕ × BlockUse) → ℕ
+sum_of w es = sum_by w (map (λ e. e.1) es)
+
+at_most_all : (es : List (ℕ × BlockUse)) → (sum_of one_dependent es ≤ sum_of one_paired es)
+    × (sum_of one_paired es + sum_of one_extra es ≤ length es)
+at_most_all [] = (omega arith, omega arith)
 at_most_all (e ∷ es) =
-    let known = sum_by-cons one_dependent e.1 (map (λ w. w.1) es) in
-    omega (arith, at_most_all es, one_use e.1, known, sum_by-cons one_extra e.1 (map (λ w. w.1) es))
+    let rest = at_most_all es in
+    let one = one_use e.1 in
+    let dependent = sum_by-cons one_dependent e.1 (map (λ w. w.1) es) in
+    let paired = sum_by-cons one_paired e.1 (map (λ w. w.1) es) in (
+      omega (arith, rest.0, one.0, dependent, paired),
+      omega (arith, rest.1, one.1, paired, sum_by-cons one_extra e.1 (map (λ w. w.1) es)),
+    )
 
 module _ (f : Parts) (stored : IsStored f) (table : IsTable f.table) where
   abbrev IsDependent : ℕ → Type 0
@@ -76,7 +92,17 @@ module _ (f : Parts) (stored : IsStored f) (table : IsTable f.table) where
       (each k (keys.each k h)))) in
       let known = length_slots (entries f.table.uses) in
       let also = at_most_all (entries f.table.uses) in
-      omega (arith, keys.number, most, known, also, len-entries f.table.uses, table.given, stored.uses.extras)
+      omega (
+        arith,
+        keys.number,
+        most,
+        known,
+        also.0,
+        also.1,
+        len-entries f.table.uses,
+        table.given,
+        stored.uses.extras,
+      )
 
   pub room-held : (slot : ℕ) → get f.weak.held slot ≡ None → IsDependent slot
       → len f.weak.held < ROWS * (f.weak.blocks / 2)

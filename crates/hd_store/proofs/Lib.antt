@@ -38,6 +38,10 @@ mod ValueCalls
 mod SlotCalls
 mod PartsCommands
 mod LoadedParts
-mod FilledObjects
-mod ClearedRegisters
+pub mod FilledObjects
+pub mod ClearedRegisters
+mod ClearedRoots
 mod HostedCalls
+mod StateSizes
+mod FreeSlots
+pub mod SpareBlocks

@@ -1,5 +1,5 @@
 -- A collection of a store's parts is one of its state, and leaves a store.
-use Rattle.hd_store.proofs.StoreWords.{Addr, AreAddresses, BlockUse, Bool, Collected, Collects, CollectsState, FinMap, Handle, HasCollected, Heap, Id, IsCompactStore, IsPinned, IsSome, IsStored, IsTied, List, Machine, None, Option, Parts, Placed, Report, Scene, Some, Table, WeakTable, [], ap, arith, callers_of, cleared, cond, counts_named, drop, entry_named, false, get, get-retain_keys, has_object, id_at, id_in, is_none, is_pinned, is_some, kept_key, kept_pinned, length, live_at, not, length-map, machine_of, map, names_of, nat_cmp, nat_cmp-IsAntisymmetric, objects_by_id, one_dependent, one_extra, option_map, pinned_decides, pins, pins_renamed, refl, rename_handle, rest_of, row_at, rows_by_id, rows_of, same_Some, scene_of, state_of, subst, sum_by, swept, sym, take, true, true≢false, values, weak_by_id, with_pinned, ℕ, ◌++◌, ◌∙◌, ◌∷◌, ◌≡◌, ◌≤◌}
+use Rattle.hd_store.proofs.StoreWords.{Addr, AreAddresses, BlockUse, Bool, Collected, Collects, CollectsState, FinMap, Handle, HasCollected, Heap, Id, IsCompactStore, IsPinned, IsSome, IsStored, IsTied, List, Machine, None, Option, Parts, Placed, Report, Scene, Some, Table, WeakTable, [], ap, arith, callers_of, cleared, cond, counts_named, drop, entry_named, false, get, get-retain_keys, has_object, id_at, id_in, is_none, is_pinned, is_some, kept_key, kept_pinned, length, live_at, not, length-map, machine_of, map, names_of, nat_cmp, nat_cmp-IsAntisymmetric, objects_by_id, one_extra, one_paired, option_map, pinned_decides, pins, pins_renamed, refl, rename_handle, rest_of, row_at, rows_by_id, rows_of, same_Some, scene_of, state_of, subst, sum_by, swept, sym, take, true, true≢false, values, weak_by_id, with_pinned, ℕ, ◌++◌, ◌∙◌, ◌∷◌, ◌≡◌}
 use Rattle.hd_model.specs.Compact.{IsCompact}
 use Rattle.hd_gc.specs.Ready.{parts, Parts as Lent}
 use Rattle.hd_store.proofs.EntryReadings.{handles-get, handle-get, handle-row, weak-get, tied-agrees}
@@ -270,7 +270,7 @@ module _ {f : Parts} {l : Lent} {w : WeakTable} {n : ℕ} {report : Report} {bef
           s.done.table.uses is) in
           (was.0, omega (arith, was.1, s.done.table.blocks));
       extras = subst
-          (λ (m : FinMap nat_cmp BlockUse). sum_by one_dependent (values m) ≤ sum_by one_extra (values m))
+          (λ (m : FinMap nat_cmp BlockUse). sum_by one_paired (values m) ≡ sum_by one_extra (values m))
           (sym s.done.table.uses) s.stored.uses.extras;
     };
     tied = left_tied;

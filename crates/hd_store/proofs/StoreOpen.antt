@@ -1,8 +1,8 @@
 -- A store at first: nothing is made, and each register, static and entry of the board is null or empty.
-use Rattle.hd_store.proofs.StoreWords.{Addr, Contains, Handle, Id, IsSome, IsStored, List, None, Object, Option, Parts, Placed, Region, Some, T, [], ap, arith, callers_of, cells_of, empty, empty_heap, empty_table, entries, entry_named, fields_in, from_entries, get, get-empty, id_at, is_in_use, is_none, is_some, len-empty, len-entries, length, length-replicate, machine_of, map, names_of, nat_cmp, not_in_none, numbers_of, object_at, object_in, objects_by_id, one_dependent, option_map, read_object, refl, region_generation, region_of, rename_handle, replicate, rest_of, rows_by_id, rows_of, start_of, state_of, subst, sum_by, sym, true, unheld, values, weak_by_id, ℕ, ◌*◌, ◌+◌, ◌∙◌, ◌∷◌, ◌≡◌, ◌≤◌}
+use Rattle.hd_store.proofs.StoreWords.{Addr, Contains, Handle, Id, IsSome, IsStored, List, None, Object, Option, Parts, Placed, Region, Some, T, [], ap, arith, callers_of, cells_of, empty, empty_heap, empty_table, entries, entry_named, fields_in, from_entries, get, get-empty, id_at, is_in_use, is_none, is_some, len-empty, len-entries, length, length-replicate, machine_of, map, names_of, nat_cmp, not_in_none, numbers_of, object_at, object_in, objects_by_id, one_extra, one_paired, option_map, read_object, refl, region_generation, region_of, rename_handle, replicate, rest_of, rows_by_id, rows_of, start_of, state_of, subst, sum_by, sym, true, unheld, values, weak_by_id, ℕ, ◌*◌, ◌+◌, ◌∙◌, ◌∷◌, ◌≡◌, ◌≤◌}
 use Rattle.hd_store.proofs.{EntryMaps.same_numbers, EntryReadings.none_kept, EntryReadings.unheld-get, IdentityReadings.no_some, StoreNew.no_names, StoreNew.nothing_mapped, RegisterRoots.rows-first, RegisterRoots.rest-first}
 use Rattle.hd_store.specs.Inside.{IsFirst}
-use Rattle.hd_model.specs.declared.limits.TheConstants.{BLOCKS, HEAP, REGISTERS}
+use Rattle.hd_model.specs.declared.limits.TheConstants.{HOST_BLOCKS, HOST_HEAP, REGISTERS}
 
 nothing_at : {A : Type 0} (q : ℕ) (x : A) → get (empty {X = A} {R = nat_cmp}) q ≡ Some x → ⊥
 nothing_at q x e = no_some x (sym e ∙ get-empty nat_cmp q)
@@ -61,7 +61,7 @@ module _ (limit blocks callers : ℕ) where
     serials = sym serials i;
   }
 
-  pub stored-opened : limit ≤ HEAP → blocks ≤ BLOCKS → IsStored opened
+  pub stored-opened : limit ≤ HOST_HEAP → blocks ≤ HOST_BLOCKS → IsStored opened
   stored-opened small few = record {
     whole = record {
       fields = λ x y field. absurd (no_field x y field);
@@ -89,7 +89,7 @@ module _ (limit blocks callers : ℕ) where
     blocks = few;
     uses = record {
       within = λ block is. absurd (subst T (sym (subst IsSome (get-empty nat_cmp block) is)) tt);
-      extras = omega (arith, no_sum one_dependent);
+      extras = omega (arith, no_sum one_paired, no_sum one_extra);
     };
     tied = λ slot key is. absurd (nothing_at slot key is);
     same_blocks = refl;

@@ -1,8 +1,9 @@
 -- Rows of a store that change: what the machine sees, and that the store keeps what it keeps.
-use Rattle.hd_store.proofs.StoreWords.{Addr, Back, BlockUse, Err, Extra, FinMap, Grown, Handle, HasUses, Heap, Id, IfOk, IfSome, IsGrowth, IsNamed, IsSome, IsStored, IsTied, Kind, List, Machine, MayBeStored, None, Ok, OnErr, One, Option, Parts, Result, Slot, Some, T, Table, Two, WeakTable, Zero, age_of, ap, arith, attaches, block_of, blocks_needed, clump_of, cond, count, entry_named, extra_data, false, fits, generation_at, get, get_beside, get_inserted, get_left, grown_by, handle_at, handles_of, id_at, insert, is_kind, is_none, is_object, is_paired, is_single, is_some, kind_at, kind_in, kind_in_use, length, length-set, live_at, lowered, lowered_below, machine_of, nat_cmp, not, nothing, object_at, object_named, one_dependent, one_extra, option_map, refl, remove, rename_handle, role, role_of, rows_by_id, same_Some, secondary, secondary_of, share, state_of, strength, subst, sum-insert, sum-remove, sum_by, sym, true, true≢false, unheld, unwrap_or, use_of, values, with_growth, with_handle, with_row, without_block, without_handle, without_row, ℕ, ◌*◌, ◌+◌, ◌/◌, ◌∙◌, ◌≡◌, ◌≤◌, name_in, seen_by, insert_cases, remove_cases, put_twice, get_removed}
+use Rattle.hd_store.proofs.StoreWords.{Addr, Back, BlockUse, Bool, Err, Extra, FinMap, Grown, Handle, HasUses, Heap, Id, IfOk, IfSome, IsGrowth, IsNamed, IsSome, IsStored, IsTied, Kind, List, Machine, MayBeStored, None, Ok, OnErr, One, Option, Parts, Result, Slot, Some, T, Table, Two, WeakTable, Zero, age_of, ap, arith, attaches, block_of, blocks_needed, clump_of, cond, count, entry_named, extra_data, false, fits, generation_at, get, get_beside, get_inserted, get_left, grown_by, handle_at, handles_of, id_at, insert, is_none, is_object, is_paired, is_single, is_some, kind_at, kind_in, kind_in_use, length, length-set, live_at, lowered, lowered_below, machine_of, nat_cmp, not, nothing, object_at, object_named, one_extra, one_paired, option_map, refl, remove, rename_handle, role, role_of, rows_by_id, same_Some, secondary, secondary_of, share, state_of, strength, subst, sum-insert, sum-remove, sum_by, sym, true, true≢false, unheld, unwrap_or, use_of, values, with_growth, with_handle, with_row, without_block, without_handle, without_row, ℕ, ◌*◌, ◌+◌, ◌/◌, ◌∙◌, ◌≡◌, ◌≢◌, ◌≤◌, name_in, seen_by, insert_cases, remove_cases, put_twice, get_removed}
 use Rattle.hd_seg.specs.declared.row.Full.{Full}
 use Rattle.hd_model.proofs.{KindExtras.fits_dependent, MapEntries.none_from as no_use}
-use Rattle.hd_seg.proofs.FunctionMaps.{at_most_one}
+use Rattle.hd_seg.specs.Pairs.{without_data}
+use Rattle.hd_model.proofs.Sums.{sum-taken}
 use Rattle.hd_store.proofs.EntryMaps.{same_numbers}
 use Rattle.hd_store.proofs.IdentityReadings.{no_some, is_some-map, rows-get, names-are}
 use Rattle.hd_store.proofs.HeapCallReadings.{known_object, some_or, generation-is}
@@ -352,14 +353,13 @@ use_added : (w : BlockUse → ℕ) (m : FinMap nat_cmp BlockUse) (b : ℕ) (u : 
 use_added w m b u none =
     omega (arith, sum-insert w m b u, ap (share w) none)
 
-none_dependent : (k : Kind) → blocks_needed k ≡ 1 → one_dependent (handles_of k) ≡ 0
-none_dependent kind.Short one = refl
-none_dependent kind.Long one = refl
-none_dependent kind.Strong one = refl
-none_dependent kind.Pinned one = refl
-none_dependent kind.Variable one = refl
-none_dependent kind.Counted one = refl
-none_dependent kind.Dependent one = absurd (omega arith)
+-- the blocks that a kind needs to grow
+needed : (k : Kind) → blocks_needed k ≡ one_paired (handles_of k) + 1
+needed k = by (is_paired k)
+  where
+    by : (paired : Bool) → ◌≡◌ {A = ℕ} (cond paired 2 1) (cond paired 1 0 + 1)
+    by true = refl
+    by false = refl
 
 abbrev HasGoodUses : Table → Type 0
 HasGoodUses t = HasUses t.uses t.blocks
@@ -369,9 +369,9 @@ grown_uses : (t : Table) (k : Kind) (g : Grown) → IsGrowth t k g → HasGoodUs
 grown_uses t k Zero grows uses = elim grows [ ]
 grown_uses t k (One b) grows uses = record {
   within = within_insert t.uses b t.blocks (handles_of k) (grows.1.low, grows.1.high) uses.within;
-  extras = (let known = use_added one_dependent t.uses b (handles_of k) grows.1.unused in
+  extras = (let known = use_added one_paired t.uses b (handles_of k) grows.1.unused in
       let also = use_added one_extra t.uses b (handles_of k) grows.1.unused in
-      omega (arith, none_dependent k grows.0, uses.extras, known, also));
+      omega (arith, needed k, grows.0, uses.extras, known, also));
 }
 grown_uses t k (Two b d) grows uses =
     let more = insert t.uses b (handles_of k) in
@@ -382,11 +382,12 @@ grown_uses t k (Two b d) grows uses =
           (within_insert t.uses b t.blocks (handles_of k) (grows.1.low, grows.1.high) uses.within);
       extras = omega (
         arith,
-        at_most_one (is_kind k kind.Dependent),
+        needed k,
+        grows.0,
         uses.extras,
-        use_added one_dependent t.uses b (handles_of k) grows.1.unused,
+        use_added one_paired t.uses b (handles_of k) grows.1.unused,
         use_added one_extra t.uses b (handles_of k) grows.1.unused,
-        use_added one_dependent more d extra_data unused,
+        use_added one_paired more d extra_data unused,
         use_added one_extra more d extra_data unused,
       );
     }
@@ -434,6 +435,15 @@ no_extra None single = refl
 no_extra (Some (handles_of k)) single = refl
 no_extra (Some extra_data) single = absurd (true≢false (sym single))
 
+no_pair : (o : Option BlockUse) → is_single o ≡ true → share one_paired o ≡ 0
+no_pair None single = refl
+no_pair (Some (handles_of k)) single = by (is_paired k) single
+  where
+    by : (paired : Bool) → not paired ≡ true → ◌≡◌ {A = ℕ} (cond paired 1 0) 0
+    by true is = absurd (true≢false (sym is))
+    by false is = refl
+no_pair (Some extra_data) single = refl
+
 pub stored-back : (f : Parts) (t : Table) (k : Kind) (block : ℕ) → IsStored f
     → is_single (get f.table.uses block) ≡ true → t ≡ without_block f.table k block
     → IsStored (with_table f t)
@@ -442,8 +452,31 @@ stored-back f t k block stored single is =
     (stored-same f (without_block f.table k block) stored refl refl (record {
       within = back_within f.table.uses block f.table.blocks stored.uses.within;
       extras = (let known = no_extra (get f.table.uses block) single in
-          let also = sum-remove one_dependent f.table.uses block in
-          omega (arith, stored.uses.extras, known, also, sum-remove one_extra f.table.uses block));
+          let none = no_pair (get f.table.uses block) single in
+          let also = sum-remove one_paired f.table.uses block in
+          omega (arith, stored.uses.extras, known, none, also, sum-remove one_extra f.table.uses block));
+    }))
+
+-- a block of handles with extra data has lost its kind, and a data block its use
+pub stored-back-pair : (f : Parts) (t : Table) (k : Kind) (block extra : ℕ) → IsStored f → is_paired k ≡ true
+    → get f.table.uses block ≡ Some (handles_of k) → get f.table.uses extra ≡ Some extra_data
+    → t ≡ without_block (without_data f.table extra) k block → IsStored (with_table f t)
+stored-back-pair f t k block extra stored paired of_kind extra_is is =
+    let left = remove f.table.uses extra in
+    let apart : block ≢ extra = λ same.
+    (let clash : Some (handles_of k) ≡ Some extra_data =
+    sym of_kind ∙ ap (get f.table.uses) same ∙ extra_is in cc) in
+    let beside : get left block ≡ Some (handles_of k) = get_left f.table.uses extra block apart ∙ of_kind in
+    let one : ◌≡◌ {A = ℕ} (one_paired (handles_of k)) 1 = ap (λ (b : Bool). let n : ℕ = cond b 1 0 in n) paired in
+    subst (λ u. IsStored (with_table f u)) (sym is)
+    (stored-same f (without_block (without_data f.table extra) k block) stored refl refl (record {
+      within = back_within left block f.table.blocks
+          (back_within f.table.uses extra f.table.blocks stored.uses.within);
+      extras = (let paired_left = sum-taken one_paired f.table.uses extra extra_data extra_is in
+          let extra_left = sum-taken one_extra f.table.uses extra extra_data extra_is in
+          let paired_gone = sum-taken one_paired left block (handles_of k) beside in
+          let extra_gone = sum-taken one_extra left block (handles_of k) beside in
+          omega (arith, stored.uses.extras, one, paired_left, extra_left, paired_gone, extra_gone));
     }))
 
 -- a block that is none of the table's has no use
@@ -493,6 +526,25 @@ module _ (t : Table) (slot : ℕ) {k : Kind} (kind : (live_at t slot).kind ≡ k
   rewritten v e second =
       second ∙ (λ i. with_row (first i) slot (record (between i) { extra = e }))
       ∙ put_again t slot (record (live_at t slot) { target = target })
+      (record (live_at t slot) { target = target; extra = e })
+      ∙ ap (λ j. with_row t slot (record { kind = j; target = target; extra = e })) kind
+
+-- the row of a live slot with another extra, and then with another target
+module _ (t : Table) (slot : ℕ) {k : Kind} (kind : (live_at t slot).kind ≡ k) {u : Table}
+    (e : Extra Addr) (first : u ≡ with_row t slot (record (live_at t slot) { extra = e })) where
+  beside : live_at u slot ≡ record (live_at t slot) { extra = e }
+  beside = ap (λ x. live_at x slot) first ∙ live-put t slot (record (live_at t slot) { extra = e })
+
+  pub beside-live : IsSome (get u.rows slot)
+  beside-live = ap (λ (x : Table). is_some (get x.rows slot)) first
+      ∙ ap is_some (get_inserted t.rows slot (record (live_at t slot) { extra = e }))
+
+  pub retargeted : (v : Table) (target : Option Addr)
+      → v ≡ with_row u slot (record (live_at u slot) { target = target })
+      → v ≡ with_row t slot (record { kind = k; target = target; extra = e })
+  retargeted v target second =
+      second ∙ (λ i. with_row (first i) slot (record (beside i) { target = target }))
+      ∙ put_again t slot (record (live_at t slot) { extra = e })
       (record (live_at t slot) { target = target; extra = e })
       ∙ ap (λ j. with_row t slot (record { kind = j; target = target; extra = e })) kind
 

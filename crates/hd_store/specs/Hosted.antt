@@ -34,6 +34,11 @@ cleared zero zero (x ∷ row) = x ∷ row
 cleared zero (suc n) (x ∷ row) = None ∷ cleared zero n row
 cleared (suc first) n (x ∷ row) = x ∷ cleared first n row
 
+-- roots of which n are null, from one on
+unfoldable pub nulled : (at n : ℕ) → List (Option Addr) → List (Option Addr)
+nulled at zero roots = roots
+nulled at (suc n) roots = slice_set (nulled at n roots) (at + n) None
+
 -- the state in which n object registers of a caller are null, from one on
 abbrev pub with_cleared : State → (caller first n : ℕ) → State
 with_cleared s caller first n =

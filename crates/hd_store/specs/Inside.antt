@@ -4,9 +4,9 @@ use Rattle.std.specs.{Option.option_to_list, Option.ForSome, Ordering.nat_cmp}
 use Rattle.std.specs.FinMap.{FinMap, empty, get, len, values, insert, retain_keys}
 use Rattle.hd_model.specs.{declared.data.Addr.Addr, declared.data.Id.Id, declared.data.Kind.TheVariants.Dependent, Scene.Scene, Scene.IsWhole, Table.row_at, Table.fits, declared.data.Report.Report, Collect.CollectsState, declared.data.Slot.Slot, declared.data.Entry.Entry, declared.command.Cmd.Cmd, Touched.touched_by, Aging.aged_by, Valid.IsValid, Command.slot_of_key, Command.made_handle, declared.data.Kind.Kind, declared.data.Grown.Grown, declared.data.RootId.RootId, declared.data.Make.Make}
 use Rattle.hd_scan.specs.declared.gathering.Root.{Root}
-use Rattle.hd_model.specs.Kinds.{is_kind, is_paired, kind_of}
+use Rattle.hd_model.specs.Kinds.{is_paired, kind_of}
 use Rattle.hd_model.specs.Ages.{HasSoundAges, HasSoundCards, grown, age_of}
-use Rattle.hd_model.specs.declared.limits.TheConstants.{HEAP, BLOCKS, CLUMPS, OLDEST, REGISTERS}
+use Rattle.hd_model.specs.declared.limits.TheConstants.{HOST_HEAP, HOST_BLOCKS, CLUMPS, OLDEST, REGISTERS}
 use Rattle.hd_model.specs.State.{Handle, secondary, BlockUse, handles_of, extra_data, State, last_serial, identity_of, register_of, WeakEntry, Numbers, start_of, given_of, block_of, secondary_of, IsFree, total_size}
 use Rattle.hd_model.specs.Table.{Queue}
 use Rattle.hd_model.specs.Heap.{Heap, object_at, id_at, is_carded, used_of, HasIdentities, is_set}
@@ -73,20 +73,19 @@ pub record IsTied (h : Heap) (rows : FinMap nat_cmp (Handle Addr)) (slot : ℕ) 
       ≡ Some (record { kind = Dependent; target = target; extra = secondary value })
   pub key_is : option_map (id_at h) target ≡ key
 
--- 1 for a block of dependent handles, and 1 for one of extra data
-abbrev pub one_dependent : BlockUse → ℕ
-one_dependent (handles_of k) = cond (is_kind k Dependent) 1 0
-one_dependent extra_data = 0
+-- 1 for a block of handles with extra data, and 1 for one of extra data
+abbrev pub one_paired : BlockUse → ℕ
+one_paired (handles_of k) = cond (is_paired k) 1 0
+one_paired extra_data = 0
 
 abbrev pub one_extra : BlockUse → ℕ
 one_extra (handles_of k) = 0
 one_extra extra_data = 1
 
--- a block with a use is one of the table's, and as many blocks have extra data as have dependent handles, or
--- more
+-- a block with a use is one of the table's, and as many blocks have extra data as have handles with extra data
 pub record HasUses (uses : FinMap nat_cmp BlockUse) (blocks : ℕ) : Type 0 where
   pub within : (block : ℕ) → IsSome (get uses block) → (1 ≤ block) × (block ≤ blocks)
-  pub extras : sum_by one_dependent (values uses) ≤ sum_by one_extra (values uses)
+  pub extras : sum_by one_paired (values uses) ≡ sum_by one_extra (values uses)
 
 -- what a store keeps, which is also what a collection asks for: every reference is to an object, no two
 -- objects have one identity, ages and cards are sound, each region in use has an object, the queue has room
@@ -100,11 +99,11 @@ pub record IsStored (f : Parts) : Type 0 where
   pub full : HasNoEmptyRegion f.heap
   pub room : len f.heap.objects ≤ f.queue.room
   pub within : used_of f.heap ≤ f.heap.limit
-  pub limit : f.heap.limit ≤ HEAP
+  pub limit : f.heap.limit ≤ HOST_HEAP
   pub roots : REGISTERS * callers_of f + REGISTERS ≡ length f.roots
   pub serials : length f.serials ≡ callers_of f
   pub clumps : CLUMPS * f.table.blocks ≡ length f.ages
-  pub blocks : f.table.blocks ≤ BLOCKS
+  pub blocks : f.table.blocks ≤ HOST_BLOCKS
   pub uses : HasUses f.table.uses f.table.blocks
   pub tied : (slot : ℕ) (key : Option Id) → get f.weak.held slot ≡ Some key
       → IsTied f.heap f.table.rows slot key

@@ -14,3 +14,5 @@ pub mod StoreParts
 pub mod Objects
 pub mod Inside
 pub mod Hosted
+pub mod Sizes
+pub mod Spare

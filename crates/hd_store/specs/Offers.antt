@@ -2,7 +2,7 @@
 -- beyond its step.
 use Rattle.std.specs.Prelude.{◌≡◌, ◌≢◌, ℕ, ◌+◌, ◌<◌, ◌≤◌, Bool, true, false, cond, Option, Some, None}
 use Rattle.std.specs.Option.{option_map_or}
-use Rattle.hd_model.specs.declared.limits.TheConstants.{HEAP, BLOCKS, CALLERS}
+use Rattle.hd_model.specs.declared.limits.TheConstants.{HOST_HEAP, HOST_BLOCKS, HOST_CONTEXTS}
 use Rattle.hd_model.specs.{declared.data.Entry.Entry, declared.data.Slot.Slot, declared.data.Kind.Kind, declared.command.Cmd.Cmd, declared.class.Class.Class, declared.data.Grown.TheVariants.Zero, declared.data.Grown.TheVariants.Back, Class.class_of, Kinds.kind_of, Touched.touched_by, Step.blocks_needed, Valid.takes_memory}
 use Rattle.hd_model.specs.declared.data.Refusal.TheVariants as refusal
 use Rattle.hd_model.specs.declared.data.Reply.TheVariants as reply
@@ -11,12 +11,12 @@ use Rattle.hd_model.specs.State.{Numbers, State, given_of, total_size, block_of,
 use Rattle.hd_model.specs.declared.data.Kind.TheVariants as kinds
 use Rattle.hd_model.specs.Command.{Adding, is_refused, in_idle, in_new, adding_of}
 
--- the numbers of each store, and so of each world: a heap of 3 to HEAP cells, 1 to BLOCKS blocks, and 1 to
--- CALLERS callers
+-- the numbers of each store, which are a host's: a heap of 3 to HOST_HEAP cells, 1 to HOST_BLOCKS blocks, and
+-- 1 to HOST_CONTEXTS callers
 pub record HasLimits (n : Numbers) : Type 0 where
-  pub heap : (3 ≤ n.heap) × (n.heap ≤ HEAP)
-  pub blocks : (1 ≤ n.blocks) × (n.blocks ≤ BLOCKS)
-  pub callers : (1 ≤ n.callers) × (n.callers ≤ CALLERS)
+  pub heap : (3 ≤ n.heap) × (n.heap ≤ HOST_HEAP)
+  pub blocks : (1 ≤ n.blocks) × (n.blocks ≤ HOST_BLOCKS)
+  pub callers : (1 ≤ n.callers) × (n.callers ≤ HOST_CONTEXTS)
 
 -- what a command asks of the heap and of the table: room for an object of n fields, a slot for a handle of a
 -- kind, that a block of a kind is given back, or nothing

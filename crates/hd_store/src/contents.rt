@@ -12,7 +12,7 @@ use hd_ages::AgeMap;
 use hd_cwt::Cwt;
 use hd_final::Final;
 use hd_heap::Heap;
-use hd_model::limits::{BLOCKS, CALLERS, CLUMPS, HEAP, OLDEST, REGISTERS};
+use hd_model::limits::{CLUMPS, HOST_BLOCKS, HOST_CONTEXTS, HOST_HEAP, OLDEST, REGISTERS};
 use hd_model::{Addr, Memory, Slot, filled};
 use hd_seg::Seg;
 use std::alloc::Global;
@@ -50,7 +50,7 @@ impl Model for Contents {
     ghost invariant = { λ s. IsStored (parts s) };
 }
 
-// Not derived: what a derived one does is proved again wherever a store is let go.
+// Not derived: what a derived one does is proved again wherever a store is dropped.
 impl Drop for Contents {
     fn drop(self) {
         let Contents {
@@ -82,7 +82,7 @@ fn open_objects(alloc: Global, limit: u32) -> Result<(Heap, Final), Memory>
 // The parts whose size goes by the blocks: the table, the ages of its clumps and the weak table.
 #[inline(always)]
 fn open_tables(alloc: Global, blocks: u32) -> Result<(Seg, AgeMap, Cwt), Memory>
-    requires { blocks ≤ BLOCKS }
+    requires { blocks ≤ HOST_BLOCKS }
     ensures { IfOk result (λ made. (made.0 ≡ empty_table blocks)
         × (made.1 ≡ replicate (CLUMPS * blocks) OLDEST)
         × (made.2 ≡ record { blocks = blocks; held = empty })) }
@@ -100,7 +100,7 @@ fn open_registers(
     alloc: Global,
     callers: u32,
 ) -> Result<(Vec<Option<Addr>>, Vec<[Option<Slot>; INDEXES]>, Vec<u32>), Memory>
-    requires { callers ≤ CALLERS }
+    requires { callers ≤ HOST_CONTEXTS }
     ensures { IfOk result (λ made. (made.0.items ≡ replicate (REGISTERS * callers + REGISTERS) None)
         × (made.1.items ≡ replicate callers (replicate REGISTERS None))
         × (made.2.items ≡ replicate callers 0)) }
@@ -119,9 +119,9 @@ impl Contents {
         blocks: u32,
         callers: u32,
     ) -> Result<Contents, Memory>
-        requires heap { heap ≤ HEAP }
-        requires blocks { blocks ≤ BLOCKS }
-        requires callers { callers ≤ CALLERS }
+        requires heap { heap ≤ HOST_HEAP }
+        requires blocks { blocks ≤ HOST_BLOCKS }
+        requires callers { callers ≤ HOST_CONTEXTS }
         ensures { let n : Numbers = record { heap = heap; blocks = blocks; callers = callers } in
             IfOk result (IsFirst n) }
     {
@@ -181,7 +181,7 @@ impl Contents {
 
     /// The number of callers.
     pub(crate) fn callers(&self) -> u32
-        requires { self.now.numbers.callers ≤ CALLERS }
+        requires { self.now.numbers.callers ≤ HOST_CONTEXTS }
         ensures { result ≡ self.now.numbers.callers }
     {
         self.handle_registers.len() as u32

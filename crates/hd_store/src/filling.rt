@@ -4,9 +4,9 @@ ghost use Rattle.std.specs.Prelude.{◌≡◌, ℕ, ◌+◌, ◌<◌, ◌≤◌,
 ghost use Rattle.std.specs.FinMap.{get};
 ghost use Rattle.hd_model.specs.State.{identity_of, last_serial, register_of, total_size, with_object};
 ghost use Rattle.hd_store.specs.{Objects.object_named, Reading.name_in, Inside.IsObjectRefused};
-ghost use Rattle.hd_store.specs.Hosted.{object_report, with_cleared, Fills, HasAdded};
+ghost use Rattle.hd_store.specs.Hosted.{nulled, object_report, with_cleared, Fills, HasAdded};
 
-use crate::contents::Contents;
+use crate::contents::{Contents, INDEXES};
 use crate::hosted::ObjectInfo;
 use hd_commands::Parts;
 use hd_heap::NewFault;
@@ -14,11 +14,21 @@ use hd_model::limits::{FIELDS, REGISTERS};
 use hd_model::{Addr, Id, Memory, Refusal};
 
 // The number of fields of an object whose fields these are.
-fn count_of(src: &[u8]) -> u8
+fn count_of(src: &[u32]) -> u8
     requires { length src.now ≤ FIELDS }
     ensures { result ≡ length src.now }
 {
     src.len() as u8
+}
+
+// Clears `n` roots, from one on.
+fn clear_roots(roots: &mut [Option<Addr>], at: usize, n: usize)
+    requires { at + n ≤ length roots.old }
+    ensures { roots.new ≡ nulled at n roots.old }
+{
+    for i in 0..n {
+        roots[at + i] = None;
+    }
 }
 
 impl Contents {
@@ -43,9 +53,8 @@ impl Contents {
         ensures { let after = with_cleared self.old.state caller first n in
             self.new ≡ record self.old { state = after } }
     {
-        for i in 0..n {
-            self.set_register(caller, first + i, None);
-        }
+        let at = INDEXES * caller as usize + first as usize;
+        clear_roots(&mut self.roots, at, n as usize);
     }
 
     // Writes the value of an object.
@@ -59,7 +68,7 @@ impl Contents {
     }
 
     // Writes the value of an object and its fields, which get what registers of a caller reference.
-    fn fill_object(&mut self, at: Addr, value: u64, caller: u32, src: &[u8])
+    fn fill_object(&mut self, at: Addr, value: u64, caller: u32, src: &[u32])
         requires known { IsSome (get self.old.names at.0) }
         requires caller { caller < self.old.numbers.callers }
         requires sources { (i : ℕ) → i < length src.now → slice_index src.now i < REGISTERS }
@@ -73,7 +82,8 @@ impl Contents {
         self.write_value(at, value);
         for i in 0..src.len() {
             let index = i as u8;
-            let target = self.register(caller, src[i]);
+            let from = src[i] as u8;
+            let target = self.register(caller, from);
             self.set_field(at, index, target);
         }
     }
@@ -85,7 +95,7 @@ impl Contents {
         caller: u32,
         value: u64,
         fin: bool,
-        src: &[u8],
+        src: &[u32],
     ) -> Result<Addr, NewFault>
         requires caller { caller < self.old.numbers.callers }
         requires sources { (i : ℕ) → i < length src.now → slice_index src.now i < REGISTERS }
@@ -118,7 +128,7 @@ pub(crate) fn make_filled(
     d: u8,
     value: u64,
     fin: bool,
-    src: &[u8],
+    src: &[u32],
 ) -> Result<Result<Id, Refusal>, Memory>
     requires caller { caller < store.old.numbers.callers }
     requires register { d < REGISTERS }

@@ -1,5 +1,5 @@
 // What a store does with handles and blocks.
-ghost use Rattle.std.specs.Prelude.{◌≡◌, ◌+◌, ◌/◌, ◌<◌, ◌≤◌, false, Some, None, IfOk, IfErr, OnOk, OnErr, IfSome, IsSome, option_map};
+ghost use Rattle.std.specs.Prelude.{◌≡◌, ◌+◌, ◌/◌, ◌<◌, ◌≤◌, false, Some, None, IfOk, IfErr, OnOk, OnErr, IsSome, option_map};
 ghost use Rattle.hd_commands.specs.Handles.{handle_named, IsWithin, MayBeStored};
 ghost use Rattle.hd_model.specs.Handles.{extra_of, handle_of};
 ghost use Rattle.hd_store.specs.{Reading.name_in, Reading.named_in, Reading.IsNamed, Store.seen_by};
@@ -10,7 +10,7 @@ ghost use Rattle.hd_store.specs.{Inside.GrowsBy, Growth.kind_in_use};
 
 use crate::contents::Contents;
 use hd_commands::Parts;
-use hd_model::limits::{BLOCKS, ROWS};
+use hd_model::limits::{HOST_BLOCKS, ROWS};
 use hd_model::{Addr, Extra, Grown, Handle, Id, Kind, Slot};
 use hd_seg::{BlockKind, Full, Row};
 
@@ -29,21 +29,6 @@ impl Contents {
         }
     }
 
-    /// The target of the handle in a slot, if the slot is live and not one that the weak table
-    /// holds.
-    #[inline(always)]
-    pub(crate) fn target_in(&self, slot: Slot) -> Option<Option<Addr>>
-        ensures value { option_map (λ (h : Held Id). h.target) (handle_at self.now.state slot)
-            ≡ option_map (named_in self.now.names) result }
-        ensures named { IfSome result (IsNamed self.now.names) }
-    {
-        if self.weak.held(slot) {
-            return None;
-        }
-        let row = self.table.row(slot)?;
-        Some(row.target)
-    }
-
     /// The target of the handle in a live slot.
     #[inline(always)]
     pub(crate) fn live_target(&self, slot: Slot) -> Option<Addr>
@@ -53,6 +38,14 @@ impl Contents {
         ensures named { IsNamed self.now.names result }
     {
         self.table.target(slot)
+    }
+
+    /// Whether the kind of the handle in a live slot has extra data.
+    #[inline(always)]
+    pub(crate) fn is_paired(&self, slot: Slot) -> bool
+        requires { IsSome (handle_at self.now.state slot) }
+    {
+        self.table.live_kind(slot).paired()
     }
 
     /// The handle in a live slot.
@@ -111,6 +104,7 @@ impl Contents {
     }
 
     /// Puts a handle into a free slot.
+    #[inline(always)]
     pub(crate) fn put_handle(&mut self, slot: Slot, handle: Handle<Addr>)
         requires free { IsFree self.old.state handle.kind slot }
         requires may { MayBeStored (seen_by self.old) slot (handle_of handle) }
@@ -137,7 +131,7 @@ impl Contents {
             (self.old.numbers.blocks < given_of self.old.state + blocks_needed kind) }
         ensures given { IfErr result (λ full. full.given ≡ given_of self.old.state) }
         ensures kept { OnErr result (self.new ≡ self.old) }
-        ensures few { self.old.numbers.blocks ≤ BLOCKS }
+        ensures few { self.old.numbers.blocks ≤ HOST_BLOCKS }
     {
         self.table.give_block(kind)
     }

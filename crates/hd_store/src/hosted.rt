@@ -1,7 +1,7 @@
 // What a host alone does to a store, beside the commands, and commands with a read in a row.
 // What reads the number of objects before and after does so for the proof alone: the state is then
 // one over the heap.
-ghost use Rattle.std.specs.Prelude.{◌≡◌, ℕ, ◌+◌, ◌<◌, ◌≤◌, ◌^◌, length, slice_index, IfOk, IfSome, IfNone, MatchResult, Ok, option_map};
+ghost use Rattle.std.specs.Prelude.{◌≡◌, ℕ, ◌+◌, ◌<◌, ◌≤◌, ◌^◌, length, slice_index, Some, IsSome, IfOk, MatchResult, Ok, option_map};
 ghost use Rattle.hd_model.specs.declared.command.Cmd.TheVariants as cmd;
 ghost use Rattle.hd_model.specs.{Command.load_reply, declared.data.Id.Id};
 ghost use Rattle.hd_model.specs.State.{Handle as Held, handle_at, last_serial, register_of, with_register};
@@ -44,9 +44,8 @@ impl Store {
             self.new ≡ record self.old { state = after } }
     {
         let target = self.contents.register(from, s);
-        let id = self.contents.named(target);
         self.contents.set_register(to, d, target);
-        id
+        self.contents.named(target)
     }
 
     /// Clears `n` object registers of a caller, from one on.
@@ -70,7 +69,7 @@ impl Store {
         d: u8,
         value: u64,
         fin: bool,
-        src: &[u8],
+        src: &[u32],
     ) -> Result<Result<Id, Refusal>, Memory>
         requires caller { caller < self.old.numbers.callers }
         requires register { d < REGISTERS }
@@ -102,26 +101,25 @@ impl Store {
         came
     }
 
-    /// What an `hget rD hS` does with the handle in a slot, with the value of what rD then
-    /// references. Where the slot is not live nothing changes, and none is returned. The slot may
-    /// be any number.
+    /// What an `hget rD hS` does with the handle in a live slot, with the value of what rD then
+    /// references.
     #[inline(always)]
-    pub fn load_handle(&mut self, caller: u32, d: u8, slot: Slot) -> Option<Loaded>
+    pub fn load_handle(&mut self, caller: u32, d: u8, slot: Slot) -> Loaded
         requires caller { caller < self.old.numbers.callers }
         requires register { d < REGISTERS }
-        ensures found { option_map (λ (l : Loaded). l.id) result ≡
-            option_map (λ (h : Held Id). h.target) (handle_at self.old.state slot) }
-        ensures stays { IfNone result (self.new ≡ self.old) }
-        ensures got { IfSome result (λ l. let c = cmd.HGet d 0 in
-            HasReturnedOf self.old caller slot c load_reply self.new (Ok l.id)) }
-        ensures reads { IfSome result (IsReadBy self.new caller d) }
+        requires live { IsSome (handle_at self.old.state slot) }
+        ensures found { option_map (λ (h : Held Id). h.target) (handle_at self.old.state slot)
+            ≡ Some result.id }
+        ensures got { let c = cmd.HGet d 0 in
+            HasReturnedOf self.old caller slot c load_reply self.new (Ok result.id) }
+        ensures reads { IsReadBy self.new caller d result }
     {
         let _before = self.contents.objects();
-        let target = self.contents.target_in(slot)?;
+        let target = self.contents.live_target(slot);
         let loaded = loading::found(&self.contents, target);
         self.contents.set_register(caller, d, target);
         let _after = self.contents.objects();
-        Some(loaded)
+        loaded
     }
 
     /// What an object register references is, or none where it is null.
@@ -136,13 +134,14 @@ impl Store {
         Some(self.contents.object_info(at))
     }
 
-    /// The target of the handle in a slot, if the slot is live. The slot may be any number.
+    /// The target of the handle in a live slot.
     #[inline(always)]
-    pub fn target_of(&self, slot: Slot) -> Option<Option<Id>>
-        ensures { result ≡
-            option_map (λ (h : Held Id). h.target) (handle_at self.now.state slot) }
+    pub fn target_of(&self, slot: Slot) -> Option<Id>
+        requires { IsSome (handle_at self.now.state slot) }
+        ensures { option_map (λ (h : Held Id). h.target) (handle_at self.now.state slot)
+            ≡ Some result }
     {
-        let target = self.contents.target_in(slot)?;
-        Some(self.contents.named(target))
+        let target = self.contents.live_target(slot);
+        self.contents.named(target)
     }
 }

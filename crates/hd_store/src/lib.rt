@@ -24,11 +24,14 @@ mod parts;
 mod pinned_addresses;
 mod replies;
 mod rooting;
+mod sizes;
+mod spare;
 mod store;
 
 pub use collection_calls::Root;
 pub use contents::Contents;
 pub use entry_calls::Lookup;
+pub use hd_heap::{GenerationSize, Sizes as HeapSizes};
 pub use hd_model::{Extra as ExtraInfo, Handle as HandleInfo};
 pub use hosted::{Loaded, ObjectInfo};
 pub use info::EntryInfo;

@@ -15,7 +15,7 @@ ghost use Rattle.hd_store.specs.Inside.{HasRun, IsPlainStep};
 use crate::contents::Contents;
 use hd_commands::Parts;
 use hd_heap::NewFault;
-use hd_model::limits::{BLOCKS, FIELDS, REGISTERS, ROWS};
+use hd_model::limits::{FIELDS, HOST_BLOCKS, REGISTERS, ROWS};
 use hd_model::{Addr, Extra, Grown, Handle, Id, Kind, Make, Memory, Refusal, Slot};
 use hd_seg::Full;
 
@@ -56,7 +56,7 @@ pub(crate) fn new_object(
 
 // The first slot of a block.
 fn first_slot(block: u32) -> Slot
-    requires { block ≤ BLOCKS }
+    requires { block ≤ HOST_BLOCKS }
     ensures { result ≡ first_slot block }
 {
     Slot(block * ROWS)
@@ -168,6 +168,56 @@ fn lower_for(store: &mut Contents, slot: Slot, make: Make, target: Option<Addr>)
 /// a new block.
 #[inline(always)]
 pub(crate) fn make_handle(
+    store: &mut Contents,
+    caller: u32,
+    make: Make,
+    t: u8,
+    offer: Option<Slot>,
+) -> Result<(Slot, Grown), Refusal>
+    requires handles { HasHandles store.old.numbers store.old.state }
+    requires weak { HasWeakTable store.old.state }
+    requires caller { caller < store.old.numbers.callers }
+    requires register { t < REGISTERS }
+    requires make { IsValidMake make }
+    requires offer { IfSome offer (IsFree store.old.state (kind_of make)) }
+    ensures { (d : ℕ) → let c = cmds.HNew d make t in
+        let e = entry_by caller c (done_of (done_making result)) in
+        let after = pointed_made store.new caller d result in
+        HasRun store.old caller c offer e (IsPlainStep store.old c after e) }
+{
+    if offer.is_some() {
+        make_in_slot(store, caller, make, t, offer)
+    } else {
+        make_in_block(store, caller, make, t, offer)
+    }
+}
+
+// The same, out of line: the table rarely grows.
+#[inline(never)]
+fn make_in_block(
+    store: &mut Contents,
+    caller: u32,
+    make: Make,
+    t: u8,
+    offer: Option<Slot>,
+) -> Result<(Slot, Grown), Refusal>
+    requires handles { HasHandles store.old.numbers store.old.state }
+    requires weak { HasWeakTable store.old.state }
+    requires caller { caller < store.old.numbers.callers }
+    requires register { t < REGISTERS }
+    requires make { IsValidMake make }
+    requires offer { IfSome offer (IsFree store.old.state (kind_of make)) }
+    ensures { (d : ℕ) → let c = cmds.HNew d make t in
+        let e = entry_by caller c (done_of (done_making result)) in
+        let after = pointed_made store.new caller d result in
+        HasRun store.old caller c offer e (IsPlainStep store.old c after e) }
+{
+    make_in_slot(store, caller, make, t, offer)
+}
+
+// The same, wherever the slot is.
+#[inline(always)]
+fn make_in_slot(
     store: &mut Contents,
     caller: u32,
     make: Make,

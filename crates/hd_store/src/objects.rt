@@ -131,6 +131,7 @@ fn make(
 impl Contents {
     /// Makes an object with the next serial of a caller. A full heap is reported before memory is
     /// asked for, and after a refusal nothing is changed.
+    #[inline(always)]
     pub(crate) fn add_object(
         &mut self,
         caller: u32,

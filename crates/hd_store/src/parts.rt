@@ -136,6 +136,7 @@ impl Parts for Contents {
         })
     }
 
+    #[inline(always)]
     fn replace_handle(&mut self, slot: Slot, handle: Handle<Addr>)
         requires live { option_map (λ h. h.kind) (handle_at self.old.state slot)
             ≡ Some handle.kind }
@@ -144,14 +145,17 @@ impl Parts for Contents {
             let after = with_handle self.old.state slot named in
             self.new ≡ record self.old { state = after; table = self.new.table } }
     {
-        self.table.set_row(slot, handle.target);
+        // In this order the index of the extra is found once where a caller has read it before.
         self.table.set_extra(slot, handle.extra);
+        self.table.set_row(slot, handle.target);
     }
 
+    #[inline(always)]
     fn take_handle(&mut self, slot: Slot) {
         self.table.take_row(slot);
     }
 
+    #[inline(always)]
     fn lower_age(&mut self, slot: Slot, g: u8)
         requires low { 1 ≤ block_of slot }
         requires high { block_of slot ≤ self.old.numbers.blocks }

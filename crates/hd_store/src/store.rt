@@ -12,7 +12,7 @@ ghost use Rattle.hd_store.specs.Offers.{IsOffer, needs_slot, FitsHeap};
 use crate::contents::Contents;
 use crate::{commands, on_entries};
 use hd_commands::{Parts, entry_of};
-use hd_model::limits::{BLOCKS, CALLERS, CLUMPS, HEAP, OLDEST, REGISTERS};
+use hd_model::limits::{CLUMPS, HOST_BLOCKS, HOST_CONTEXTS, HOST_HEAP, OLDEST, REGISTERS};
 use hd_model::{Cmd, Entry, Handle, Id, Memory, Slot, Steps};
 use std::alloc::Global;
 use std::marker::{Brand, Model};
@@ -43,9 +43,9 @@ impl Store {
     /// The store in which nothing is made yet, over a heap of at most `heap` cells and `blocks`
     /// blocks, for `callers` callers.
     pub fn open(alloc: Global, heap: u32, blocks: u32, callers: u32) -> Result<Store, Memory>
-        requires heap { (3 ≤ heap) × (heap ≤ HEAP) }
-        requires blocks { (1 ≤ blocks) × (blocks ≤ BLOCKS) }
-        requires callers { (1 ≤ callers) × (callers ≤ CALLERS) }
+        requires heap { (3 ≤ heap) × (heap ≤ HOST_HEAP) }
+        requires blocks { (1 ≤ blocks) × (blocks ≤ HOST_BLOCKS) }
+        requires callers { (1 ≤ callers) × (callers ≤ HOST_CONTEXTS) }
         ensures numbers { let n : Numbers =
             record { heap = heap; blocks = blocks; callers = callers } in
             IfOk result (λ s. s.numbers ≡ n) }

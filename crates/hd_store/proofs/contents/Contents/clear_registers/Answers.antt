@@ -1,27 +1,30 @@
-use Rattle.hd_store.proofs.StoreWords.{Machine, ap, arith, subst, sym, ◌<◌, ◌∙◌, ◌≡◌}
-use Rattle.hd_store.specs.Hosted.{with_cleared}
-use Rattle.hd_store.proofs.ClearedRegisters.{clears-more, clears-none}
+use Rattle.hd_store.proofs.StoreWords.{Addr, IsStored, List, Machine, Option, ap, arith, callers_of, length, machine_of, parts, subst, sym, ◌∙◌, ◌≡◌}
+use Rattle.hd_store.proofs.ClearedRoots.{nulls, roots_back}
 use Rattle.hd_store.proofs.contents.Contents.clear_registers.Goals as goal
 
-pub loop-i-init : goal.loop-i-init
-loop-i-init c =
-    λ j. record c.args.self.now {
-      state = sym (clears-none c.args.self.now.state c.args.caller c.args.first) j;
-    }
+pub clear_roots-requires : goal.clear_roots-requires
+clear_roots-requires c =
+    let callers : callers_of (parts c.self.inside) ≡ c.args.self.now.numbers.callers =
+    ap (λ (m : Machine). m.numbers.callers) c.self.view_is in
+    omega (
+      arith,
+      callers,
+      c.self.invariant.roots,
+      c.requires.caller,
+      c.requires.registers,
+      ap length c.deref_mut.ensures.value,
+    )
 
-pub set_register-requires-clause-caller : goal.set_register-requires-clause-caller
-set_register-requires-clause-caller c =
-    subst (λ (m : Machine). c.args.caller < m.numbers.callers) (sym c.loop-i.invariant) c.requires.caller
-
-pub loop-i-preserved : goal.loop-i-preserved
-loop-i-preserved c =
-    clears-more c.args.self.now c.loop-i.self c.set_register.new.self c.args.caller c.args.first c.loop-i.i
-    c.loop-i.invariant c.set_register.ensures
+pub invariant_of-self : goal.invariant_of-self
+invariant_of-self c =
+    let back = roots_back _ _ _ c.clear_roots.ensures c.deref_mut.ensures.value c.self.inside.roots.ok.0 in
+    subst (λ (xs : List (Option Addr)). IsStored (record (parts c.self.inside) { roots = xs })) (sym back)
+    (nulls (parts c.self.inside) c.args.self.now c.self.view_is c.self.invariant c.args.caller c.args.first
+    c.requires.caller c.args.n c.requires.registers).0
 
 pub returns : goal.returns
 returns c =
-    let all : c.loop-i.i ≡ c.args.n = omega (arith, c.loop-i-test.false, c.loop-i.auto.i-end) in
-    c.loop-i.invariant
-    ∙ ap (λ n. record c.args.self.now {
-      state = with_cleared c.args.self.now.state c.args.caller c.args.first n;
-    }) all
+    let back = roots_back _ _ _ c.clear_roots.ensures c.deref_mut.ensures.value c.self.inside.roots.ok.0 in
+    ap (λ (xs : List (Option Addr)). machine_of (record (parts c.self.inside) { roots = xs })) back
+    ∙ (nulls (parts c.self.inside) c.args.self.now c.self.view_is c.self.invariant c.args.caller c.args.first
+    c.requires.caller c.args.n c.requires.registers).1

@@ -10,6 +10,10 @@ loop-i-init c =
 pub overflow_cast-index : goal.overflow_cast-index
 overflow_cast-index c = omega (arith, c.loop-i-test.true, c.requires.few)
 
+pub overflow_cast-from : goal.overflow_cast-from
+overflow_cast-from c =
+    let low = c.requires.sources c.loop-i.i (omega (arith, c.loop-i-test.true)) in omega (arith, low)
+
 pub register-target-requires : goal.register-target-requires
 register-target-requires c = (
   subst (λ (m : Machine). c.args.caller < m.numbers.callers) (sym c.loop-i.invariant) c.requires.caller,

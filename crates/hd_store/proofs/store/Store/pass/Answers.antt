@@ -1,4 +1,4 @@
-use Rattle.hd_store.proofs.StoreWords.{Machine, ap, register_of, subst, sym, with_register, ◌∙◌}
+use Rattle.hd_store.proofs.StoreWords.{IsNamed, Machine, ap, named_in, register_of, subst, sym, with_register, ◌∙◌}
 use Rattle.hd_store.specs.Calls.{IsSound}
 use Rattle.hd_store.proofs.{HostedCalls.sound-register, ValueCalls.known-in}
 use Rattle.hd_store.proofs.store.Store.pass.Goals as goal
@@ -18,9 +18,14 @@ invariant_of-self c =
     (known-in c.self.view_is c.requires.callers.0)
     (c.self.invariant.well_formed.names.registers c.args.from c.args.s))
 
+pub named-requires : goal.named-requires
+named-requires c = subst (λ (m : Machine). IsNamed m.names c.register-target.result) (sym c.set_register.ensures)
+    c.register-target.ensures.named
+
 pub returns-clause-value : goal.returns-clause-value
 returns-clause-value c =
-    c.named-id.ensures ∙ c.register-target.ensures.value
+    c.named.ensures ∙ ap (λ (m : Machine). named_in m.names c.register-target.result) c.set_register.ensures
+    ∙ c.register-target.ensures.value
     ∙ ap (λ (m : Machine). register_of m.state c.args.from c.args.s) c.self.view_is
 
 pub returns-clause-passed : goal.returns-clause-passed

@@ -1,5 +1,5 @@
 use Rattle.hd_store.proofs.MadeHandleAge.{made_may}
-use Rattle.hd_store.proofs.making.make_handle.Goals as goal
+use Rattle.hd_store.proofs.making.make_in_slot.Goals as goal
 
 pub put_handle-requires-clause-may : goal.put_handle-requires-clause-may
 put_handle-requires-clause-may c =
