@@ -1,9 +1,9 @@
 -- What a world's journal states before a command, and that it is a run after it. Only the state of the
 -- machine has pinned addresses.
-use Rattle.hd_store.proofs.StoreWords.{AgedRun, Cmd, Entry, FinMap, HasLimits, KeepsPinned, List, Machine, Moves, Run, Step, [], aged_by, ap, arith, empty, last_serial, length, nat_cmp, nothing_at, replicate, start_of, stay, subst, sym, with_pinned, ℕ, ◌*◌, ◌++◌, ◌+◌, ◌<◌, ◌^◌, ◌∷◌, ◌≡◌}
+use Rattle.hd_store.proofs.StoreWords.{AgedRun, Cmd, Entry, FinMap, KeepsPinned, List, Machine, Moves, Run, Step, [], aged_by, ap, arith, empty, last_serial, length, nat_cmp, nothing_at, replicate, start_of, stay, subst, sym, with_pinned, ℕ, ◌*◌, ◌++◌, ◌+◌, ◌<◌, ◌^◌, ◌∷◌, ◌≡◌}
 use Rattle.hd_model.proofs.{StepChains.aged_run_is_run, StepChains.push, Serials.last_serial-le, Serials.count-le}
 use Rattle.hd_store.specs.Calls.{StaysWithin}
-use Rattle.hd_world.specs.TrueRuns.{IsTrueRun, Placed, same_pinned}
+use Rattle.hd_world.specs.{TrueRuns.IsTrueRun, TrueRuns.Placed, TrueRuns.same_pinned, World.HasRunLimits}
 
 -- what is true with the pinned addresses of a journal is true of any that are said to be those
 pub at_pinned : (m : Machine) (journal : List Entry) (p q : FinMap nat_cmp ℕ)
@@ -42,7 +42,7 @@ module _ (m : Machine) (journal : List Entry) (p : FinMap nat_cmp ℕ) (is : IsT
           (sym moved.numbers)
           (push is.run (record { step = moved.step; ages = moved.ages })));
       addresses = moved.addresses;
-      limits = subst HasLimits (sym moved.numbers) is.limits;
+      limits = subst HasRunLimits (sym moved.numbers) is.limits;
     }
 
     -- there are pinned addresses with which it leads on
@@ -66,7 +66,7 @@ module _ (m : Machine) (journal : List Entry) (p : FinMap nat_cmp ℕ) (is : IsT
 
 module _ (m : Machine) (entries : List Entry) (first : m.state ≡ start_of m.numbers)
     (oldest : m.ages ≡ replicate (4 * m.numbers.blocks) 2) (none : entries ≡ [])
-    (within : HasLimits m.numbers) where
+    (within : HasRunLimits m.numbers) where
   -- at first there is no pinned address
   begins : IsTrueRun m entries empty
   begins = record {

@@ -6,14 +6,15 @@ use mathlib.Core.HLevel.{Σ_prop_path}
 use Rattle.std.proofs.Math.Logic.{∥∥₁_prop, ∥∥₁_elim}
 use Rattle.hd_model.specs.{declared.data.Entry.Entry, PinnedAddresses.with_pinned, Aging.AgedRun}
 use Rattle.hd_model.proofs.Journals.{one_pinned}
-use Rattle.hd_store.specs.{Store.Machine, PinnedAddresses.AreAddresses, Offers.HasLimits}
+use Rattle.hd_store.specs.{Store.Machine, PinnedAddresses.AreAddresses}
+use Rattle.hd_world.specs.World.{HasRunLimits}
 
 -- with these pinned addresses a journal leads to the state of a store and leaves its ages, and each is that
--- of its object; the numbers are within the limits
+-- of its object; the numbers are within the limits of a run
 pub record IsTrueRun (m : Machine) (journal : List Entry) (pinned : FinMap nat_cmp ℕ) : Type 0 where
   pub run : AgedRun m.numbers journal (with_pinned m.state pinned) m.ages
   pub addresses : AreAddresses m.names pinned
-  pub limits : HasLimits m.numbers
+  pub limits : HasRunLimits m.numbers
 
 -- the pinned addresses with which a journal leads to a store
 abbrev pub Placed : Machine → List Entry → Type 0

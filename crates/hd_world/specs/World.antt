@@ -3,6 +3,7 @@ use Rattle.std.specs.Prelude.{ℕ, ◌<◌, ◌≤◌, List, Option, refl}
 use Rattle.std.specs.Coded.{Coded, code_by, coded×, coded_ℕ, coded_list}
 use Rattle.hd_model.specs.{declared.data.Entry.Entry, declared.data.Slot.Slot, declared.command.Cmd.Cmd, Valid.IsValid, Heap.Heap, Table.Table}
 use Rattle.hd_model.specs.State.{Numbers, State}
+use Rattle.hd_model.specs.declared.limits.TheConstants.{HEAP, BLOCKS, CALLERS}
 use Rattle.hd_model.specs.Code.{numbers_code, state_code, entry_code, heap_code, table_code}
 use Rattle.hd_store.specs.Offers.{IsOffer, GrowsUnoffered}
 
@@ -36,6 +37,13 @@ world_view_code =
 
 abbrev pub GrowsWithout : WorldView → ℕ → Cmd → Option Slot → Entry → Type 0
 GrowsWithout w caller c offer e = GrowsUnoffered w.numbers w.state caller c offer e
+
+-- the numbers of each world, as of each run: a heap of 3 to HEAP cells, 1 to BLOCKS blocks, and 1 to CALLERS
+-- callers. Those of a host may be higher (`HasLimits`).
+pub record HasRunLimits (n : Numbers) : Type 0 where
+  pub heap : (3 ≤ n.heap) × (n.heap ≤ HEAP)
+  pub blocks : (1 ≤ n.blocks) × (n.blocks ≤ BLOCKS)
+  pub callers : (1 ≤ n.callers) × (n.callers ≤ CALLERS)
 
 -- what a command of a caller asks of a world
 pub record MayApply (w : WorldView) (number : ℕ) (c : Cmd) (offered : Option Slot) : Type 0 where

@@ -3,8 +3,8 @@ ghost use Rattle.std.specs.FinMap.{len};
 ghost use Rattle.hd_model.specs.State.{Numbers, start_of, use_of, block_of};
 ghost use Rattle.hd_model.specs.{PinnedAddresses.with_pinned, Run.Run, Valid.IsValid, Valid.takes_memory, RootText.roots_of, Text.collections_of, Text.is_collect};
 ghost use Rattle.hd_store.specs.{Growth.kind_in_use, Visited.TakesSteps};
-ghost use Rattle.hd_store.specs.Offers.{HasLimits, IsOffer, needs_slot, FitsHeap};
-ghost use Rattle.hd_world.specs.{TrueRuns.Placed, TrueRuns.Placed-prop, Applied.Applied, StateHeap.IsOfJournal, Stepped.Stepped, Stepped.WantsMemory, World.MayApply};
+ghost use Rattle.hd_store.specs.Offers.{IsOffer, needs_slot, FitsHeap};
+ghost use Rattle.hd_world.specs.{TrueRuns.Placed, TrueRuns.Placed-prop, Applied.Applied, StateHeap.IsOfJournal, Stepped.Stepped, Stepped.WantsMemory, World.HasRunLimits, World.MayApply};
 
 use hd_model::limits::{BLOCKS, CALLERS, HEAP};
 use hd_model::{Class, Cmd, Entry, Held, Journal, Kind, Memory, RootId, Slot, Steps};
@@ -167,13 +167,14 @@ impl World {
         }
     }
 
-    /// The journal. Its world has a state that is read from its heap, and numbers within limits.
+    /// The journal. Its world has a state that is read from its heap, and numbers within the limits
+    /// of a run.
     pub fn journal(&self) -> &Journal
         ensures entries { result.now.entries ≡ self.now.journal }
         ensures spare { result.now.spare ≡ self.now.spare }
         ensures run { Run self.now.numbers self.now.journal self.now.state }
         ensures sound { IsOfJournal self.now }
-        ensures limits { HasLimits self.now.numbers }
+        ensures limits { HasRunLimits self.now.numbers }
     {
         // Read for the proof alone: the store is one over its heap.
         let _contents = self.store.contents();

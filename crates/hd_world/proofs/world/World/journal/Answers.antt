@@ -1,5 +1,5 @@
-use Rattle.hd_store.proofs.StoreWords.{HasLimits, Run, subst}
-use Rattle.hd_world.specs.{StateHeap.IsOfJournal, World.WorldView}
+use Rattle.hd_store.proofs.StoreWords.{Run, subst}
+use Rattle.hd_world.specs.{StateHeap.IsOfJournal, World.HasRunLimits, World.WorldView}
 use Rattle.hd_store.proofs.StateHeap.{of-heap, of-table}
 use Rattle.hd_world.proofs.JournalApply.{run_of}
 use Rattle.hd_world.proofs.world.World.journal.Goals as goal
@@ -19,4 +19,4 @@ returns-clause-sound c = subst IsOfJournal c.self.view_is (record {
 
 pub returns-clause-limits : goal.returns-clause-limits
 returns-clause-limits c =
-    subst (λ (w : WorldView). HasLimits w.numbers) c.self.view_is c.self.invariant.limits
+    subst (λ (w : WorldView). HasRunLimits w.numbers) c.self.view_is c.self.invariant.limits

@@ -1,4 +1,5 @@
-use Rattle.hd_store.proofs.StoreWords.{HasLimits, Numbers, ap, replicate, subst, sym, ◌*◌, ◌∙◌, ◌≡◌}
+use Rattle.hd_store.proofs.StoreWords.{Numbers, ap, replicate, subst, sym, ◌*◌, ◌∙◌, ◌≡◌}
+use Rattle.hd_world.specs.World.{HasRunLimits}
 use Rattle.hd_world.proofs.JournalApply.{placed_first, run_first, state_first}
 use Rattle.hd_world.proofs.world.World.open.Goals.{In_ok-journal}
 use Rattle.hd_world.proofs.world.World.open.Goals as goal
@@ -10,8 +11,8 @@ oldest c =
     ∙ sym (ap (λ (m : Numbers). replicate (4 * m.blocks) 2) c.in_ok-store.ensures.numbers)
 
 -- its numbers are those that were asked for
-within : (c : In_ok-journal) → HasLimits c.in_ok-store.store.numbers
-within c = subst HasLimits (sym c.in_ok-store.ensures.numbers) (record {
+within : (c : In_ok-journal) → HasRunLimits c.in_ok-store.store.numbers
+within c = subst HasRunLimits (sym c.in_ok-store.ensures.numbers) (record {
   heap = c.requires.heap;
   blocks = c.requires.blocks;
   callers = c.requires.callers;
