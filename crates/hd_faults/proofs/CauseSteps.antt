@@ -67,7 +67,7 @@ goes_on number i operands d word words within right =
 
 -- ---- positions
 
--- what is left from an index on says what stands there, and what follows
+-- what is left from an index on says what is there, and what follows
 module _ {A : Type 0} (xs : List A) (i : ℕ) (y : A) (ys : List A) (e : drop i xs ≡ y ∷ ys) where
   within : i < length xs
   within = omega (arith, ap length e, length-drop i xs)

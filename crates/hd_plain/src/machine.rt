@@ -48,7 +48,7 @@ impl Model for Machine {
     ghost invariant = { IsMachine };
 }
 
-// Not derived: what a derived one does is proved again wherever a machine is let go.
+// Not derived: what a derived one does is proved again wherever a machine is dropped.
 impl Drop for Machine {
     fn drop(self) {
         let Machine {

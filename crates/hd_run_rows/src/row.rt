@@ -17,7 +17,7 @@ pub(crate) type Row = (&'static [&'static str], &'static str, u8, &'static str);
 /// again, and proved, wherever it is named.
 pub(crate) static SOLO: [&str; 1] = ["solo"];
 
-/// Where a run reads and writes. What it has is let go by one call, wherever a test ends.
+/// Where a run reads and writes. What it has is dropped by one call, wherever a test ends.
 pub(crate) struct Ends {
     pub(crate) source: MemorySource,
     pub(crate) sink: MemorySink,
@@ -56,7 +56,7 @@ fn words_of(alloc: Global, words: &[&str]) -> Result<Vec<String>, AllocError> {
     Ok(all)
 }
 
-/// The status of a run. What the run keeps is let go here alone.
+/// The status of a run. What the run keeps is dropped here alone.
 pub(crate) fn status(outcome: Outcome) -> u8 {
     outcome.status
 }

@@ -5,7 +5,7 @@ use Rattle.std.specs.List.{range_with_len}
 use Rattle.hd_show.specs.{Ranges.from, Ranges.range_word, Ranges.ranges_from, Ranges.ranges_word, Ranges.up_to, Inside.left_word}
 use Rattle.hd_show.specs.declared.ranges.Range.{Range}
 
--- a range with a comma stands before those of further numbers
+-- a range with a comma comes before those of further numbers
 comma : (r s : Range) (ns : List ℕ)
     → ranges_word (r ∷ ranges_from s ns) ≡ range_word r ++ (44 ∷ ranges_word (ranges_from s ns))
 comma r s [] = refl

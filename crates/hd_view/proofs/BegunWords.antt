@@ -9,7 +9,7 @@ use Rattle.hd_model.specs.Text.{reply_text}
 use Rattle.hd_view.specs.Stated.{EndsWord, HasReply, begins}
 
 module _ (bytes text : List ℕ) where
-  -- what stands behind them
+  -- what follows them
   pub behind : begins bytes text ≡ true → bytes ≡ text ++ drop (length text) bytes
   behind is =
       let both = and_parts (nat_le (length text) (length bytes))

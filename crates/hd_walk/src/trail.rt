@@ -33,7 +33,7 @@ impl Model for Trail {
     ghost invariant = { λ t. IsTrail t.nodes.keys t.marks.items (contains nat_eq t.nodes) };
 }
 
-// Not derived: what a derived one does is proved again wherever a trail is let go.
+// Not derived: what a derived one does is proved again wherever a trail is dropped.
 impl Drop for Trail {
     fn drop(self) {
         let Trail {

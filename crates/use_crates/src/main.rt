@@ -1,4 +1,4 @@
-//! Eight small programs over single crates, one after another: what each of them shows is told at
+//! Eight small programs over single crates, one after another: what each of them shows is said at
 //! the head of its module, and the pages of those crates quote them.
 #![tactic(auto)]
 
