@@ -4,7 +4,8 @@ use Rattle.hd_model.specs.{declared.command.Cmd.Cmd, declared.data.Kind.Kind, de
 use Rattle.hd_model.specs.declared.command.Cmd.TheVariants as cmd
 use Rattle.hd_host.specs.declared.handle.Handle.{Handle}
 use Rattle.hd_host.specs.Calls.{AddsEntry, FreesHandle, HasReplied, MakesHandle, RepliesOf, Trims}
-use Rattle.hd_host.specs.Turns.{HostTurn, IsAsItWasButLast, IsEndsOwn, IsWithHandle, frees, one, stays, steps}
+use Rattle.hd_host.specs.Turns.{HostTurn, IsAsItWasButLast, IsEndsOwn, IsWithHandle, TrimsAll, TrimsBlock, alone, frees, one, stays, steps, trims}
+use Rattle.hd_host.proofs.TrimTurns.{OneTrim, one_trim, trim_kept, trim_ran, trim_stepped}
 use Rattle.hd_host.specs.View.{HostView, IsAsItWas}
 use Rattle.hd_host.proofs.SameHost.{unchanged}
 
@@ -68,6 +69,18 @@ module _ (each number : ℕ) {u w : HostView} where
   -- an entry is added to the weak table, and a block is given back or none
   pub turn_added : {c key value : ℕ} → AddsEntry u c key value w → HostTurn each number u w
   turn_added did = turn_replied (inr refl) did
+
+  -- one that has a data block goes with it
+  pub turn_trimmed_block : (kind : Kind) (given : ℕ) → TrimsBlock u kind given w → HostTurn each number u w
+  turn_trimmed_block kind given did = by (one_trim each number kind given did)
+    where
+      by : OneTrim each number u w → HostTurn each number u w
+      by (trim_kept same) = stays same
+      by (trim_ran row) = steps row
+      by (trim_stepped step) = alone step
+
+  pub turn_trimmed_all : {given : ℕ} → TrimsAll u given w → HostTurn each number u w
+  turn_trimmed_all did = trims did.row
 
   pub turn_trimmed : {kind : Kind} {given : ℕ} → Trims u kind given w → HostTurn each number u w
   turn_trimmed did = turn_replied (inr refl) did.replied

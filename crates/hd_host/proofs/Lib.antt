@@ -1,4 +1,4 @@
-mod Registers
+pub mod Registers
 mod CallPool
 mod EmptyRegisters
 mod Refused
@@ -14,10 +14,17 @@ mod SlotOfHandle
 mod Trimmed
 mod MadeHandle
 mod AddedEntry
+mod WideCalls
+mod ShownLocals
+mod SetEntry
+mod HandleKinds
 pub mod SameHost
 mod OutOfMemory
 mod FreedHandle
 mod NextHandle
+pub mod PairTrimmed
+pub mod TrimTurns
+mod TrimRows
 pub mod OtherCallers
 mod RowOfOne
 pub mod CallTurns

@@ -1,16 +1,20 @@
 -- A step leaves the registers of all callers but its own, so a turn of another end leaves the locals of an
 -- end.
-use Rattle.hd_model.proofs.Basics.{List, None, Numbers, Option, State, [], ap, arith, empty, get_or, get_or-set_other, refl, register_of, set, subst, suc, sym, touched_by, with_register, zero, ℕ, ⊎_elim, ◌*◌, ◌+◌, ◌<◌, ◌≤◌, ◌∙◌, ◌≡◌, ◌≢◌}
+use Rattle.hd_model.proofs.Basics.{List, None, Numbers, Option, State, [], ap, arith, empty, get_or, get_or-set_other, refl, register_of, set, subst, sym, touched_by, with_register, ℕ, ⊎_elim, ◌*◌, ◌+◌, ◌<◌, ◌≤◌, ◌∙◌, ◌≡◌, ◌≢◌}
 use Rattle.std.proofs.lemmas.Nat.{mul-le}
 use Rattle.hd_model.specs.{Step.Step, declared.data.Entry.Entry, declared.data.Id.Id, declared.data.Slot.Slot, declared.command.Cmd.Cmd}
 use Rattle.hd_model.proofs.AgedRuns.{nothing_at}
 use Rattle.hd_model.proofs.Effects.{Effect, makes_object, gets_field, copies, clears, gets_static, finds_none, takes_first, collects, gets_target, gets_secondary, finds_value, finds_no_entry, effect}
 use Rattle.hd_model.proofs.StepFrames.{untouched_stays}
 use Rattle.hd_store.specs.Store.{Machine}
+use Rattle.hd_store.specs.Hosted.{cleared, with_cleared}
 use Rattle.hd_host.specs.Steps.{HasStepped}
-use Rattle.hd_host.specs.Turns.{HostStep, HostTurn, IsContextOf, IsOneOf, IsRow, LeavesState, LocalsAreAsLeft, LocalsStay, NoContextIsOfTwoEnds, OthersKeepLocals, TurnsOfOthers, alone, frees, goes_on, makes, more, one, passes, stays, steps, with_cleared}
+use Rattle.hd_host.specs.Turns.{HostStep, HostTurn, IsContextOf, IsOneOf, IsRow, LeavesState, LocalsAreAsLeft, LocalsStay, NoContextIsOfTwoEnds, OthersKeepLocals, TrimsRow, TurnsOfOthers, alone, frees, gives_back, goes_on, makes, more, next_kind, no_kinds, one, one_more, passes, stays, steps, trims}
 use Rattle.hd_host.specs.Turns.{clears as clears_locals, none as no_turn}
 use Rattle.hd_host.specs.View.{HostView}
+use Rattle.hd_host.proofs.TrimTurns.{OneTrim, one_trim, trim_kept, trim_ran, trim_stepped}
+use Rattle.hd_store.specs.Spare.{without_pair}
+use Rattle.hd_model.specs.declared.data.Kind.{Kind}
 
 -- a register of one caller is written, and another's is read
 others_read : (rows : List (List (Option Id))) (caller d : ℕ) (v : Option Id) (k x : ℕ) → k ≢ caller
@@ -21,10 +25,9 @@ others_read rows caller d v k x other =
 
 cleared_read : (s : State) (caller first count k x : ℕ) → k ≢ caller
     → register_of (with_cleared s caller first count) k x ≡ register_of s k x
-cleared_read s caller first zero k x other = refl
-cleared_read s caller first (suc count) k x other =
-    others_read (with_cleared s caller first count).registers caller (first + count) None k x other
-    ∙ cleared_read s caller first count k x other
+cleared_read s caller first count k x other =
+    ap (λ row. get_or row x None)
+    (get_or-set_other s.registers caller k (cleared first count (get_or s.registers caller [])) [] other)
 
 module _ (n : Numbers) (s : State) (e : Entry) (k x : ℕ) (other : k ≢ e.caller) where
   others_after : (c : Cmd) (t : State) → Effect n s e c t → register_of t k x ≡ register_of s k x
@@ -112,12 +115,27 @@ module _ (each number by : ℕ) (other : by ≢ number) where
       ap (λ (s : State). register_of s c d) did.filled.state
       ∙ stepped_others did.replied.done.stepped c d
       (contexts_apart each number by c did.context other mine did.own.0)
+  step_keeps {u = u} {w = w} (gives_back kind did) c d mine =
+      left_reads u w (without_pair u.machine.state did.block did.extra) did.left c d
+
+  trim_keeps : {u w : HostView} → OneTrim each by u w → LocalsStay each number u w
+  trim_keeps (trim_kept same) c d mine = ap (λ (s : State). register_of s c d) same.state
+  trim_keeps (trim_ran row) c d mine = row_keeps row c d mine
+  trim_keeps (trim_stepped step) c d mine = step_keeps step c d mine
+
+  trims_keep : {u w : HostView} {kinds : List Kind} → TrimsRow kinds u w → LocalsStay each number u w
+  trims_keep no_kinds c d mine = refl
+  trims_keep (one_more {kind = kind} given some did rest) c d mine =
+      trims_keep rest c d mine ∙ trim_keeps (one_trim each by kind _ did) c d mine
+  trims_keep (next_kind {kind = kind} did rest) c d mine =
+      trims_keep rest c d mine ∙ trim_keeps (one_trim each by kind _ did) c d mine
 
   turn_keeps : {u w : HostView} → HostTurn each by u w → LocalsStay each number u w
   turn_keeps (stays same) c d mine = ap (λ (s : State). register_of s c d) same.state
   turn_keeps (steps row) c d mine = row_keeps row c d mine
   turn_keeps (frees handle did) c d mine = stepped_all did.stepped c d refl
   turn_keeps (alone step) c d mine = step_keeps step c d mine
+  turn_keeps (trims row) c d mine = trims_keep row c d mine
 
 -- a turn of another end leaves the locals of an end
 pub others_keep_locals : OthersKeepLocals

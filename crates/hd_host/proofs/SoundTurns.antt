@@ -1,10 +1,11 @@
 -- A turn leaves the numbers of a host, and the host sound.
-use Rattle.hd_model.proofs.Basics.{Bool, FinMap, IsOutcome, IsSome, IsWellFormed, List, Names, None, Numbers, Object, Option, Outcome, Some, State, StepOf, [], ap, empty, false, fresh_object, get, get_or, identity_of, insert, is_refused, is_some, last_serial, length, length-map, length-set, map, nat_cmp, nat_lt, object_by_id, refl, refuses, reply_with, register_of, subst, suc, sym, total_size, true≢false, unwrap_or, with_object, with_pinned, with_register, with_serial, zero, ℕ, ◌*◌, ◌+◌, ◌<◌, ◌∙◌, ◌∷◌, ◌≡◌, ◌≤◌}
+use Rattle.hd_model.proofs.Basics.{Bool, FinMap, IsOutcome, IsSome, IsWellFormed, List, Names, None, Numbers, Object, Option, Outcome, Some, State, StepOf, [], ap, empty, false, fresh_object, get, get_or, identity_of, insert, is_refused, is_some, last_serial, length, length-map, length-set, map, nat_cmp, nat_lt, object_by_id, refl, refuses, reply_with, register_of, subst, suc, sym, total_size, touched_by, true≢false, unwrap_or, with_object, with_pinned, with_register, with_serial, zero, ℕ, ◌*◌, ◌+◌, ◌<◌, ◌∙◌, ◌∷◌, ◌≡◌, ◌≤◌}
 use Rattle.hd_model.proofs.AgedRuns.{nothing_at}
 use Rattle.hd_model.proofs.Effects.{effect}
 use Rattle.hd_model.proofs.MapEntries.{some_value}
 use Rattle.hd_model.proofs.Outcomes.{test_cases}
 use Rattle.hd_model.proofs.ReadAfterWrite.{get_inserted, still_some}
+use Rattle.hd_model.proofs.StepFrames.{untouched_stays}
 use Rattle.hd_model.proofs.StepWrites.{ObjectChange, field_is_set, goes, is_new, object_change, object_stays, registration_is_set, survives, value_is_set}
 use Rattle.hd_model.proofs.WellFormedWrites.{names_more, object_keeps, register_keeps}
 use Rattle.hd_model.specs.{declared.command.Cmd.Cmd, declared.data.Entry.Entry, declared.data.Id.Id, declared.data.Reply.Reply, declared.data.Slot.Slot}
@@ -13,14 +14,21 @@ use Rattle.hd_model.specs.declared.command.Cmd.TheVariants as cmd
 use Rattle.hd_model.specs.declared.data.Refusal.TheVariants as refusal
 use Rattle.hd_model.specs.declared.data.Reply.TheVariants as reply
 use Rattle.hd_model.specs.Text.{is_collect}
+use Rattle.hd_store.proofs.ClearedRegisters.{clears-none, clears-suc}
 use Rattle.hd_store.proofs.SoundCalls.{sound-after, sound-pointed}
 use Rattle.hd_store.specs.{Calls.IsSound, Calls.pointed, Offers.HasLimits, PinnedAddresses.Moves, Store.Machine}
+use Rattle.hd_store.specs.Hosted.{with_cleared}
 use Rattle.hd_host.specs.Handles.{stamp_of}
 use Rattle.hd_host.specs.Steps.{HasStepped}
 use Rattle.hd_host.specs.Turns.{none as no_turn}
-use Rattle.hd_host.specs.Turns.{HostStep, HostTurn, IsOneOf, IsRow, IsSoundHost, LeavesState, MakesFilled, OthersKeepObjects, TurnsKeepSound, TurnsOfOthers, alone, clears, frees, goes_on, makes, more, one, passes, stays, steps, with_cleared}
+use Rattle.hd_host.specs.Turns.{HostStep, HostTurn, IsOneOf, IsRow, IsSoundHost, LeavesState, MakesFilled, OthersKeepObjects, TrimsRow, TurnsKeepSound, TurnsOfOthers, alone, clears, frees, gives_back, goes_on, makes, more, next_kind, no_kinds, one, one_more, passes, stays, steps, trims}
 use Rattle.hd_host.specs.View.{HostView, IsAsItWas, state_in}
 use Rattle.hd_host.proofs.OtherCallers.{locals_are_as_left}
+use Rattle.hd_host.proofs.PairTrimmed.{spare_pinned}
+use Rattle.hd_host.proofs.TrimTurns.{OneTrim, one_trim, trim_kept, trim_ran, trim_stepped}
+use Rattle.hd_store.proofs.SpareBlocks.{pair_keeps}
+use Rattle.hd_store.specs.Spare.{without_pair}
+use Rattle.hd_model.specs.declared.data.Kind.{Kind}
 
 module _ {old new : Machine} {context : ℕ} {slot : Option Slot} {command : Cmd} {e : Entry}
     (stepped : HasStepped old context slot command new e) where
@@ -59,6 +67,19 @@ step_numbers : {each by : ℕ} {u w : HostView} → HostStep each by u w → w.m
 step_numbers (passes to dst from src own has left) = left.numbers
 step_numbers (clears context first count own left) = left.numbers
 step_numbers (makes did) = did.filled.numbers ∙ stepped_numbers did.replied.done.stepped
+step_numbers (gives_back kind did) = did.left.numbers
+
+trim_numbers : {u w : HostView} → OneTrim 0 0 u w → w.machine.numbers ≡ u.machine.numbers
+trim_numbers (trim_kept same) = same.numbers
+trim_numbers (trim_ran row) = row_numbers row
+trim_numbers (trim_stepped step) = step_numbers step
+
+pub trims_numbers : {u w : HostView} {kinds : List Kind} → TrimsRow kinds u w
+    → w.machine.numbers ≡ u.machine.numbers
+trims_numbers no_kinds = refl
+trims_numbers (one_more {kind = kind} given some did rest) =
+    trims_numbers rest ∙ trim_numbers (one_trim 0 0 kind _ did)
+trims_numbers (next_kind {kind = kind} did rest) = trims_numbers rest ∙ trim_numbers (one_trim 0 0 kind _ did)
 
 -- no turn changes them
 pub turn_numbers : {each by : ℕ} {u w : HostView} → HostTurn each by u w
@@ -67,6 +88,7 @@ turn_numbers (stays same) = same.numbers
 turn_numbers (steps row) = row_numbers row
 turn_numbers (frees handle did) = stepped_numbers did.stepped
 turn_numbers (alone step) = step_numbers step
+turn_numbers (trims row) = trims_numbers row
 
 -- ---- stamps
 
@@ -78,6 +100,38 @@ pub step_stamps : {each by : ℕ} {u w : HostView} → HostStep each by u w → 
 step_stamps (passes to dst from src own has left) = left.stamps
 step_stamps (clears context first count own left) = left.stamps
 step_stamps (makes did) = did.filled.stamps ∙ did.replied.done.stamps
+step_stamps (gives_back kind did) = did.left.stamps
+
+trim_stamps : {u w : HostView} → OneTrim 0 0 u w → w.stamps ≡ u.stamps
+trim_stamps (trim_kept same) = same.stamps
+trim_stamps (trim_ran row) = row_stamps row
+trim_stamps (trim_stepped step) = step_stamps step
+
+pub trims_stamps : {u w : HostView} {kinds : List Kind} → TrimsRow kinds u w → w.stamps ≡ u.stamps
+trims_stamps no_kinds = refl
+trims_stamps (one_more {kind = kind} given some did rest) = trims_stamps rest ∙ trim_stamps (one_trim 0 0 kind _ did)
+trims_stamps (next_kind {kind = kind} did rest) = trims_stamps rest ∙ trim_stamps (one_trim 0 0 kind _ did)
+
+-- ---- handles
+
+-- a command that makes, frees and sets none leaves them
+stepped_handles : {old new : Machine} {context : ℕ} {slot : Option Slot} {command : Cmd} {e : Entry}
+    → HasStepped old context slot command new e → (touched_by command).handles ≡ false
+    → new.state.handles ≡ old.state.handles
+stepped_handles {old = old} {e = e} stepped untouched =
+    let moved = stepped_goes stepped in
+    ap (λ (m : Machine). m.state.handles) stepped.new_is
+    ∙ (untouched_stays old.numbers _ _ e moved.step).handles
+    (ap (λ (c : Cmd). (touched_by c).handles) stepped.command_is.1 ∙ untouched)
+
+-- and so does a step of a host alone
+pub step_handles : {each by : ℕ} {u w : HostView} → HostStep each by u w
+    → w.machine.state.handles ≡ u.machine.state.handles
+step_handles (passes to dst from src own has left) = ap (λ (s : State). s.handles) left.state
+step_handles (clears context first count own left) = ap (λ (s : State). s.handles) left.state
+step_handles (makes did) =
+    ap (λ (s : State). s.handles) did.filled.state ∙ stepped_handles did.replied.done.stepped refl
+step_handles (gives_back kind did) = ap (λ (s : State). s.handles) did.left.state
 
 -- as many as there were
 turn_stamped : {each by : ℕ} {u w : HostView} → HostTurn each by u w → length w.stamps ≡ length u.stamps
@@ -86,16 +140,19 @@ turn_stamped (steps row) = ap length (row_stamps row)
 turn_stamped {u = u} (frees handle did) =
     ap length did.stamps ∙ length-set u.stamps did.slot.0 (stamp_of u did.slot + 1)
 turn_stamped (alone step) = ap length (step_stamps step)
+turn_stamped (trims row) = ap length (trims_stamps row)
 
 -- ---- states
 
 cleared_keeps : (n : Numbers) (s : State) (context first count : ℕ) → context < n.callers
     → IsWellFormed n (with_pinned s empty)
     → IsWellFormed n (with_pinned (with_cleared s context first count) empty)
-cleared_keeps n s context first zero known w = w
+cleared_keeps n s context first zero known w =
+    subst (λ (x : State). IsWellFormed n (with_pinned x empty)) (sym (clears-none s context first)) w
 cleared_keeps n s context first (suc count) known w =
-    register_keeps n (with_pinned (with_cleared s context first count) empty)
-    (cleared_keeps n s context first count known w) context (first + count) None known tt
+    subst (λ (x : State). IsWellFormed n (with_pinned x empty)) (clears-suc s context first count)
+    (register_keeps n (with_pinned (with_cleared s context first count) empty)
+    (cleared_keeps n s context first count known w) context (first + count) None known tt)
 
 -- what each of a list gives references an object, and so does each field of an object with these fields
 fields_named : (t : State) (f : ℕ → Option Id) → ((x : ℕ) → Names t (f x)) → (src : List ℕ) (i : ℕ)
@@ -240,16 +297,35 @@ step_sound {u = u} {w = w} sound (clears context first count own left) =
           cleared_keeps u.machine.numbers u.machine.state context first count own.1 sound.well_formed;
     })
 step_sound sound (makes did) = filled_sound sound did
+step_sound {u = u} {w = w} sound (gives_back kind did) =
+    sound_as (record u.machine { state = without_pair u.machine.state did.block did.extra }) w.machine
+    did.left.numbers did.left.state (record {
+      limits = sound.limits;
+      well_formed = pair_keeps u.machine.numbers (state_in u.machine) sound.well_formed kind did.block did.extra
+          (spare_pinned u.machine.state empty kind did.block did.least.spare) did.extra_is;
+    })
 
 row_sound : {each by : ℕ} {u w : HostView} → IsSound u.machine → IsRow each by u w → IsSound w.machine
 row_sound sound (one did) = stepped_sound did.done.stepped sound
 row_sound sound (more did rest) = row_sound (stepped_sound did.done.stepped sound) rest
+
+trim_sound : {u w : HostView} → IsSound u.machine → OneTrim 0 0 u w → IsSound w.machine
+trim_sound {u = u} {w = w} sound (trim_kept same) = sound_as u.machine w.machine same.numbers same.state sound
+trim_sound sound (trim_ran row) = row_sound sound row
+trim_sound sound (trim_stepped step) = step_sound sound step
+
+trims_sound : {u w : HostView} {kinds : List Kind} → IsSound u.machine → TrimsRow kinds u w → IsSound w.machine
+trims_sound sound no_kinds = sound
+trims_sound sound (one_more {kind = kind} given some did rest) =
+    trims_sound (trim_sound sound (one_trim 0 0 kind _ did)) rest
+trims_sound sound (next_kind {kind = kind} did rest) = trims_sound (trim_sound sound (one_trim 0 0 kind _ did)) rest
 
 machine_sound : {each by : ℕ} {u w : HostView} → IsSound u.machine → HostTurn each by u w → IsSound w.machine
 machine_sound {u = u} {w = w} sound (stays same) = sound_as u.machine w.machine same.numbers same.state sound
 machine_sound sound (steps row) = row_sound sound row
 machine_sound sound (frees handle did) = stepped_sound did.stepped sound
 machine_sound sound (alone step) = step_sound sound step
+machine_sound sound (trims row) = trims_sound sound row
 
 -- a turn leaves a sound host sound
 pub turns_keep_sound : TurnsKeepSound

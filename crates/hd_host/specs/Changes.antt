@@ -1,5 +1,5 @@
 -- What a call did to slots and blocks, by the entry of its command.
-use Rattle.std.specs.Prelude.{Option, None, Some}
+use Rattle.std.specs.Prelude.{ℕ, Option, None, Some}
 use Rattle.std.specs.Coded.{Coded}
 use Rattle.hd_model.specs.{declared.data.Grown.Grown, declared.data.Slot.Slot}
 use Rattle.hd_model.specs.declared.data.Grown.TheVariants.{Zero, One, Two, Back}
@@ -28,6 +28,10 @@ change_by slot (One block) = record no_change { slot = slot; block = Some block 
 change_by slot (Two block other) =
     record no_change { slot = slot; block = Some block; data_block = Some other }
 change_by slot (Back block) = record no_change { slot = slot; given_back = Some block }
+
+-- that of a call that gave a block back with the data block that it had
+abbrev pub change_back : ℕ → ℕ → Change
+change_back block extra = record no_change { given_back = Some block; data_given_back = Some extra }
 
 -- a change in short, in full: where blocks changed, it is what they last did
 abbrev pub in_full : Short → Change → Change

@@ -6,3 +6,5 @@ pub mod Changes
 pub mod Calls
 pub mod Turns
 pub mod Inside
+pub mod Wide
+pub mod Kinds

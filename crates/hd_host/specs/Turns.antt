@@ -1,15 +1,17 @@
 -- What one call may do to a host that threads share, and commands in a row.
-use Rattle.std.specs.Prelude.{◌≡◌, ◌≢◌, ◌⊎◌, ℕ, zero, suc, ◌+◌, ◌*◌, ◌<◌, ◌≤◌, Bool, List, [], ◌∷◌, ◌++◌, length, map, Option, None, Some, IsSome, Result, MatchResult}
+use Rattle.std.specs.Prelude.{◌≡◌, ◌≢◌, ◌⊎◌, ℕ, ◌+◌, ◌*◌, ◌<◌, ◌≤◌, Bool, true, false, List, [], ◌∷◌, ◌++◌, length, map, Option, None, Some, IsSome, Result, MatchResult}
 use Rattle.std.specs.FinMap.{get}
-use Rattle.hd_model.specs.{declared.data.Entry.Entry, declared.data.Id.Id, declared.data.Reply.Reply, declared.data.Slot.Slot, declared.command.Cmd.Cmd, Touched.touched_by}
+use Rattle.hd_model.specs.{declared.data.Entry.Entry, declared.data.Id.Id, declared.data.Kind.Kind, declared.data.Reply.Reply, declared.data.Slot.Slot, declared.command.Cmd.Cmd, Kinds.all_kinds, Kinds.is_paired, Touched.touched_by}
 use Rattle.hd_model.specs.declared.command.Cmd.TheVariants as cmd
 use Rattle.hd_model.specs.declared.data.Reply.TheVariants as reply
 use Rattle.hd_model.specs.declared.limits.TheConstants.{FIELDS, ROWS}
-use Rattle.hd_model.specs.State.{State, object_by_id, register_of, with_object, with_register}
-use Rattle.hd_store.specs.Calls.{IsSound}
+use Rattle.hd_model.specs.State.{State, extra_data, given_of, object_by_id, register_of, use_of, with_object, with_register}
+use Rattle.hd_store.specs.{Calls.IsSound, Hosted.with_cleared}
+use Rattle.hd_store.specs.Spare.{HasNoSpare, IsLeastSpare, without_pair}
 use Rattle.hd_host.specs.declared.fault.Fault.{Fault}
 use Rattle.hd_host.specs.declared.handle.Handle.{Handle}
-use Rattle.hd_host.specs.Calls.{FailsBy, FreesHandle, HasDone, HasReplied}
+use Rattle.hd_host.specs.Calls.{FailsBy, FreesHandle, HasDone, HasReplied, Trims}
+use Rattle.hd_host.specs.Changes.{change_back, no_change}
 use Rattle.hd_host.specs.Handles.{IsOf}
 use Rattle.hd_host.specs.View.{HostView, IsAsItWas}
 
@@ -91,12 +93,6 @@ LeavesState old s new = IsAsItWasButLast (record old { machine = record old.mach
 abbrev pub IsOwnContext : ℕ → ℕ → HostView → ℕ → Type 0
 IsOwnContext each number v c = IsContextOf each number c × (c < v.machine.numbers.callers)
 
--- so many locals of a context, from one on, are null
-abbrev pub with_cleared : State → ℕ → ℕ → ℕ → State
-with_cleared s context first zero = s
-with_cleared s context first (suc count) =
-    with_register (with_cleared s context first count) context (first + count) None
-
 -- an object was made, and its value and its fields were written, which are what locals of the context
 -- referenced before
 pub record MakesFilled (each number : ℕ) (old new : HostView) : Type 0 where
@@ -116,9 +112,18 @@ pub record MakesFilled (each number : ℕ) (old new : HostView) : Type 0 where
         value = value;
       })) new
 
+-- a block of a kind with extra data was given back, with a data block: the least spare one. Its slots are the
+-- weak table's no more, and nothing else differs.
+pub record TrimsPair (old : HostView) (kind : Kind) (new : HostView) : Type 0 where
+  pub block : ℕ
+  pub extra : ℕ
+  pub least : IsLeastSpare old.machine.state kind block
+  pub extra_is : use_of old.machine.state extra ≡ Some extra_data
+  pub left : LeavesState old (without_pair old.machine.state block extra) new
+  pub last : new.last ≡ change_back block extra
+
 -- What no command does in one step: a reference was passed from one context to another, locals were cleared,
--- or an object was made with its value and its fields. That a paired block is given back is added with the
--- call for it.
+-- an object was made with its value and its fields, or a block was given back with its data block.
 pub data HostStep (each number : ℕ) (old new : HostView) : Type 0 where
   passes : (to dst from src : ℕ) → IsOwnContext each number old to → IsOwnContext each number old from
       → LeavesState old (with_register old.machine.state to dst (register_of old.machine.state from src)) new
@@ -127,17 +132,50 @@ pub data HostStep (each number : ℕ) (old new : HostView) : Type 0 where
       → LeavesState old (with_cleared old.machine.state context first count) new
       → HostStep each number old new
   makes : MakesFilled each number old new → HostStep each number old new
+  gives_back : (kind : Kind) → TrimsPair old kind new → HostStep each number old new
+
+-- ---- blocks that are given back
+
+-- no block was given back, and nothing differs but `last`
+pub record TrimsNone (old : HostView) (kind : Kind) (new : HostView) : Type 0 where
+  pub none : HasNoSpare old.machine.state kind
+  pub same : IsAsItWasButLast old new
+  pub last : new.last ≡ no_change
+
+-- the least spare block of a kind was given back, if there is one, by the number of blocks that were: of a kind
+-- with extra data it is 2 or none, and else it is the command `trim`
+abbrev pub TrimsBy : Bool → HostView → Kind → ℕ → HostView → Type 0
+TrimsBy true old kind given new =
+    ((given ≡ 2) × TrimsPair old kind new) ⊎ ((given ≡ 0) × TrimsNone old kind new)
+TrimsBy false old kind given new = Trims old kind given new
+
+abbrev pub TrimsBlock : HostView → Kind → ℕ → HostView → Type 0
+TrimsBlock old kind given new = TrimsBy (is_paired kind) old kind given new
+
+-- that was done of these kinds in turn, one after another, of each until no block of it was spare
+pub data TrimsRow : List Kind → HostView → HostView → Type 0 where
+  no_kinds : {u : HostView} → TrimsRow [] u u
+  one_more : {u v w : HostView} {kind : Kind} {kinds : List Kind} (given : ℕ) → 1 ≤ given
+      → TrimsBlock u kind given v → TrimsRow (kind ∷ kinds) v w → TrimsRow (kind ∷ kinds) u w
+  next_kind : {u v w : HostView} {kind : Kind} {kinds : List Kind} → TrimsBlock u kind 0 v → TrimsRow kinds v w
+      → TrimsRow (kind ∷ kinds) u w
+
+-- so of all kinds by their numbers, by the number of blocks that were given back
+pub record TrimsAll (old : HostView) (given : ℕ) (new : HostView) : Type 0 where
+  pub row : TrimsRow all_kinds old new
+  pub fewer : given_of new.machine.state + given ≡ given_of old.machine.state
 
 -- ---- turns
 
 -- A turn of the end with a number, where each end has so many contexts: nothing, or nothing but that `last`
--- is another; a command or a row of them; a handle was freed, so that its slot has the next stamp; or a step
--- of a host alone. All that one call may do is one.
+-- is another; a command or a row of them; a handle was freed, so that its slot has the next stamp; a step of
+-- a host alone; or spare blocks given back in a row. All that one call may do is one.
 pub data HostTurn (each number : ℕ) : HostView → HostView → Type 0 where
   stays : {u w : HostView} → IsAsItWasButLast u w → HostTurn each number u w
   steps : {u w : HostView} → IsRow each number u w → HostTurn each number u w
   frees : {u w : HostView} (handle : Handle) → FreesHandle u handle w → HostTurn each number u w
   alone : {u w : HostView} → HostStep each number u w → HostTurn each number u w
+  trims : {u w : HostView} {kinds : List Kind} → TrimsRow kinds u w → HostTurn each number u w
 
 -- turns of other ends than that with a number
 pub data TurnsOfOthers (each number : ℕ) : HostView → HostView → Type 0 where

@@ -31,6 +31,42 @@ impl Host {
             × IsAsItWas self.old self.new) }
         ensures contexts { self.new.machine.numbers.callers ≡ self.old.machine.numbers.callers }
     {
+        // A kind without extra data has none to write, and that is known where it is asked first.
+        match make {
+            Make::Short | Make::Long | Make::Strong | Make::Pinned => {
+                self.make_any(context, make, target)
+            }
+            Make::Variable(_) | Make::Counted | Make::Dependent(_) => {
+                self.make_paired(context, make, target)
+            }
+        }
+    }
+
+    // The same, out of line.
+    #[inline(never)]
+    fn make_paired(&mut self, context: u32, make: Make, target: u8) -> Result<Handle, Fault>
+        requires context { context < self.old.machine.numbers.callers }
+        requires make { IsValidMake make }
+        requires local { target < REGISTERS }
+        ensures does { MatchResult result (MakesHandle self.old context make target self.new)
+            (λ fault. FailsBy self.old context None (cmd.HNew 0 make target) fault
+            × IsAsItWas self.old self.new) }
+        ensures contexts { self.new.machine.numbers.callers ≡ self.old.machine.numbers.callers }
+    {
+        self.make_any(context, make, target)
+    }
+
+    // The same, of any kind.
+    #[inline(always)]
+    fn make_any(&mut self, context: u32, make: Make, target: u8) -> Result<Handle, Fault>
+        requires context { context < self.old.machine.numbers.callers }
+        requires make { IsValidMake make }
+        requires local { target < REGISTERS }
+        ensures does { MatchResult result (MakesHandle self.old context make target self.new)
+            (λ fault. FailsBy self.old context None (cmd.HNew 0 make target) fault
+            × IsAsItWas self.old self.new) }
+        ensures contexts { self.new.machine.numbers.callers ≡ self.old.machine.numbers.callers }
+    {
         let change = Slots::Takes(make.kind());
         let offered = offer(&mut self.pool, change);
         match self.store.make_handle(context, make, target, offered) {

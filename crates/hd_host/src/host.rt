@@ -6,7 +6,7 @@ use crate::change::Change;
 use crate::handle::Handle;
 use crate::last::Last;
 use crate::stamps::Stamps;
-use hd_model::limits::{BLOCKS, CALLERS, CLUMPS, HEAP, OLDEST, ROWS};
+use hd_model::limits::{CLUMPS, HOST_BLOCKS, HOST_CONTEXTS, HOST_HEAP, OLDEST, ROWS};
 use hd_model::{Memory, Slot};
 use hd_pool::Pool;
 use hd_store::Store;
@@ -17,11 +17,11 @@ use std::marker::Model;
 /// may have, and its contexts.
 #[derive(Clone, Copy, Debug, PartialEq, Eq)]
 pub struct Limits {
-    /// From 3 to 1,000,000.
+    /// From 3 to 1,073,741,824.
     pub cells: u32,
-    /// From 1 to 256.
+    /// From 1 to 65,536.
     pub blocks: u32,
-    /// From 1 to 16.
+    /// From 1 to 65,536.
     pub contexts: u32,
 }
 
@@ -60,9 +60,9 @@ impl Model for Host {
 impl Host {
     /// A host in which nothing is made.
     pub fn open(alloc: Global, limits: Limits) -> Result<Host, Memory>
-        requires cells { (3 ≤ limits.cells) × (limits.cells ≤ HEAP) }
-        requires blocks { (1 ≤ limits.blocks) × (limits.blocks ≤ BLOCKS) }
-        requires contexts { (1 ≤ limits.contexts) × (limits.contexts ≤ CALLERS) }
+        requires cells { (3 ≤ limits.cells) × (limits.cells ≤ HOST_HEAP) }
+        requires blocks { (1 ≤ limits.blocks) × (limits.blocks ≤ HOST_BLOCKS) }
+        requires contexts { (1 ≤ limits.contexts) × (limits.contexts ≤ HOST_CONTEXTS) }
         ensures numbers { let n : Numbers = record {
           heap = limits.cells;
           blocks = limits.blocks;
@@ -103,10 +103,18 @@ impl Host {
 
     /// Has it return another `last`, until a call is done. An end of a shared host has its own.
     #[inline(always)]
-    pub fn recall(&mut self, last: Change)
-        ensures { self.new ≡ record self.old { last = last } }
+    pub fn recall(&mut self, last: &Last)
+        ensures { self.new ≡ record self.old { last = last.now } }
     {
-        self.last.put(last);
+        self.last.set_as(last);
+    }
+
+    /// Writes what the last call that was done did, for who keeps it.
+    #[inline(always)]
+    pub fn note(&self, last: &mut Last)
+        ensures { last.new ≡ self.now.last }
+    {
+        last.set_as(&self.last);
     }
 
     // The slot of a live handle.

@@ -7,10 +7,10 @@ use crate::fault::Fault;
 use hd_model::{Grown, Refusal, Slot};
 use std::marker::Model;
 
-/// What the last call that was done did to slots and blocks. Most calls change nothing, and write
-/// one word.
+/// What the last call that was done did to slots and blocks, as who keeps it has it. Most calls
+/// change nothing, and write one word.
 #[derive(Drop)]
-pub(crate) struct Last {
+pub struct Last {
     short: Short,
     // The last change of blocks.
     blocks: Change,
@@ -38,6 +38,16 @@ impl Model for Last {
 }
 
 impl Last {
+    /// That of a call with a change.
+    pub fn of(change: Change) -> Last
+        ensures { result ≡ change }
+    {
+        Last {
+            short: Short::Blocks,
+            blocks: change,
+        }
+    }
+
     /// That of a host in which nothing was done.
     pub(crate) fn none() -> Last
         ensures { result ≡ no_change }
@@ -64,10 +74,16 @@ impl Last {
         match (slot, grown) {
             (None, Grown::Zero) => self.clear(),
             (Some(slot), Grown::Zero) => self.short = Short::Slot(slot),
-            (_, Grown::One(_) | Grown::Two(..) | Grown::Back(_)) => {
-                self.put(Change::by(slot, grown));
-            }
+            (_, Grown::One(_) | Grown::Two(..) | Grown::Back(_)) => self.put_blocks(slot, grown),
         }
+    }
+
+    // A call was done that took or gave back blocks: out of line, since few do.
+    #[inline(never)]
+    fn put_blocks(&mut self, slot: Option<Slot>, grown: Grown)
+        ensures { self.new ≡ change_by slot grown }
+    {
+        self.put(Change::by(slot, grown));
     }
 
     /// A call was done with a change.
@@ -78,8 +94,20 @@ impl Last {
         self.short = Short::Blocks;
     }
 
+    /// The same as another.
+    #[inline(always)]
+    pub(crate) fn set_as(&mut self, other: &Last)
+        ensures { self.new ≡ other.now }
+    {
+        match other.short {
+            Short::Nothing => self.clear(),
+            Short::Slot(slot) => self.short = Short::Slot(slot),
+            Short::Blocks => self.put(other.blocks),
+        }
+    }
+
     /// The change.
-    pub(crate) fn get(&self) -> Change
+    pub fn get(&self) -> Change
         ensures { result ≡ self.now }
     {
         match self.short {

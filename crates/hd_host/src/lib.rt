@@ -8,15 +8,23 @@ mod fault;
 mod handle;
 mod handles;
 mod host;
+mod kinds;
 mod last;
 mod objects;
 mod observing;
+mod sizes;
 mod stamps;
+mod trimming;
 mod weak;
+mod wide;
 
 pub use change::Change;
 pub use fault::Fault;
 pub use handle::Handle;
-pub use hd_store::{ExtraInfo, HandleInfo, Lookup, Root};
+pub use hd_store::{
+    ExtraInfo, GenerationSize, HandleInfo, HeapSizes, Loaded, Lookup, ObjectInfo, Root,
+};
 pub use host::{Host, Limits};
+pub use last::Last;
 pub use observing::{Listed, Stats};
+pub use sizes::Sizes;

@@ -16,6 +16,7 @@ impl Host {
     /// Makes an object with null fields and value 0, of generation 0, with `fin` registered for
     /// finalization; local `dst` references it. A full heap is reported first, then that the
     /// context has made 2^32 - 1 objects.
+    #[inline(always)]
     pub fn object_new(&mut self, context: u32, dst: u8, fields: u8, fin: bool) -> Result<Id, Fault>
         requires context { context < self.old.machine.numbers.callers }
         requires local { dst < REGISTERS }
@@ -35,7 +36,7 @@ impl Host {
 
     // Whether a context has made 2^32 - 1 objects.
     #[inline(always)]
-    fn has_made_all(&self, context: u32) -> bool
+    pub(crate) fn has_made_all(&self, context: u32) -> bool
         requires { context < self.now.machine.numbers.callers }
         ensures all { result ≡ true → last_serial self.now.machine.state context + 1 ≡ 2 ^ 32 }
         ensures more { result ≡ false →
@@ -45,7 +46,8 @@ impl Host {
     }
 
     // Why a context that has made 2^32 - 1 objects makes no other: the heap is full, or else that.
-    fn no_serial_left(&self, context: u32, fields: u8) -> Fault
+    #[inline(never)]
+    pub(crate) fn no_serial_left(&self, context: u32, fields: u8) -> Fault
         requires context { context < self.now.machine.numbers.callers }
         requires fields { fields ≤ FIELDS }
         requires at_end { last_serial self.now.machine.state context + 1 ≡ 2 ^ 32 }

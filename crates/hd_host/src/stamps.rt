@@ -3,7 +3,7 @@ ghost use Rattle.std.specs.Prelude.{◌≡◌, ◌≢◌, true, false, Some, IfS
 ghost use Rattle.hd_host.specs.declared.stamps.TheConstants.{END, FREE};
 
 use crate::handle::Handle;
-use hd_model::limits::{BLOCKS, ROWS};
+use hd_model::limits::{HOST_BLOCKS, ROWS};
 use hd_model::{Memory, Slot};
 use std::alloc::Global;
 use std::marker::Model;
@@ -11,11 +11,11 @@ use std::marker::Model;
 /// The last stamp. A handle that has it is not freed, since no stamp comes after it.
 pub(crate) const END: u64 = (1 << 40) - 1;
 
-/// What stands in the low bits of the entry of a slot that is not live: no slot has this number.
+/// The low bits of the entry of a slot that is not live: no slot has this number.
 pub(crate) const FREE: u64 = (1 << 24) - 1;
 
 /// An entry for each slot of a table: its handle while it is live, and else the stamp that its next
-/// handle gets, above a number that no slot has. So one comparison tells a live handle from any
+/// handle gets, above a number that no slot has. So one comparison separates a live handle from any
 /// other number. All memory is taken by `open`.
 #[derive(Drop)]
 pub(crate) struct Stamps {
@@ -43,7 +43,7 @@ impl Stamps {
     /// Those of a table in which no handle was freed, of `blocks` blocks, which are numbered from
     /// 1.
     pub(crate) fn open(alloc: Global, blocks: u32) -> Result<Stamps, Memory>
-        requires { blocks ≤ BLOCKS }
+        requires { blocks ≤ HOST_BLOCKS }
         ensures { IfOk result (λ s. s ≡ replicate (ROWS * (blocks + 1)) FREE) }
     {
         match vec![in alloc; FREE; (ROWS * (blocks + 1)) as usize] {

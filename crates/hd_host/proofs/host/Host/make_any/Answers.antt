@@ -1,6 +1,6 @@
 use Rattle.hd_host.proofs.MadeHandle.{free, host_made, host_unmade, live_made, makes, makes_none, may_note, offered_free, small, within}
 use Rattle.hd_host.proofs.ValueCalls.{called_numbers, callers_by}
-use Rattle.hd_host.proofs.host.Host.handle_new.Goals as goal
+use Rattle.hd_host.proofs.host.Host.make_any.Goals as goal
 
 pub make_handle-requires-clause-offer : goal.make_handle-requires-clause-offer
 make_handle-requires-clause-offer c =
