@@ -1,8 +1,9 @@
 -- What an end of a shared host knows before, in and after its turn.
 use Rattle.std.proofs.Common.{◌≡◌, ℕ, List, [], ◌∷◌, ◌+◌, ◌*◌, ◌<◌, ◌≤◌, ◌∙◌, ap, arith, refl, subst, sym}
 use Rattle.hd_model.specs.State.{Numbers}
-use Rattle.hd_turns.specs.Views.{AreTurns, Enters, GoesOn, Known, gave_back as gate_given, looked}
+use Rattle.hd_turns.specs.Views.{AreTurns, Enters, GoesOn, Known, gave_back as gate_given, missed}
 use Rattle.hd_turns.specs.Views.{MayLeave as MayLeaveGate}
+use Rattle.hd_turns.specs.declared.gate.TheConstants.{LOOKS}
 use Rattle.hd_turns.specs.declared.rule.View.{View}
 use Rattle.hd_turns.proofs.Histories.{kept_by_others}
 use Rattle.hd_host.specs.declared.change.Change.{Change}
@@ -29,8 +30,8 @@ module _ {k : Known SharedView} {first each : ℕ} (inv : IsSharer k first each)
       (λ by was now other turn kept. (turn.0 ∙ kept.0, turn_numbers turn.1.1 ∙ kept.1))
       by value past (subst (GoesOn k.view.number ((by, value) ∷ past)) inv.seen goes) turns (inv.each_is, refl)
 
-  module _ {most number : ℕ} {value : SharedView} {t : Known SharedView} (table : t.table ≡ k.table)
-      (enters : Enters SharedTurn most number value k.view t.view) where
+  module _ {number : ℕ} {value : SharedView} {t : Known SharedView} (table : t.table ≡ k.table)
+      (enters : Enters SharedTurn LOOKS number value k.view t.view) where
     keeps : (value.each ≡ each) × (value.host.machine.numbers ≡ inv.left.host.machine.numbers)
     keeps = found_keeps enters.by value enters.past enters.goes_on enters.turns
 
@@ -60,6 +61,8 @@ module _ {k : Known SharedView} {first each : ℕ} (inv : IsSharer k first each)
       turns = turns_of_hosts each enters.by value enters.past keeps.0 enters.turns;
       taken_is = is;
       contexts = subst (λ n. n + each ≤ value.host.machine.numbers.callers) inv.first_is contexts_left;
+      times = enters.times;
+      few = enters.few;
       new_is = λ i. record {
         end = record {
           table = table i;
@@ -67,6 +70,7 @@ module _ {k : Known SharedView} {first each : ℕ} (inv : IsSharer k first each)
           each = each;
           seen = hosts_of (enters.new_is i).seen;
           last = last;
+          misses = (enters.new_is i).misses;
         };
         has_gate = (enters.new_is i).has_gate;
       };
@@ -105,10 +109,10 @@ module _ {k : Known SharedView} {first each : ℕ} (inv : IsSharer k first each)
       contexts = subst (λ (n : Numbers). first + each ≤ n.callers) (sym (turn_numbers turn)) inv.contexts;
     }
 
--- a busy end looked at the gate, and knows what it knew
-pub sharer_looks : (looks : ℕ) {k t : Known SharedView} {first each : ℕ} → IsSharer k first each
-    → t ≡ record k { view = looked looks k.view } → IsSharer t first each
-sharer_looks looks {first = first} {each = each} inv is = subst (λ s. IsSharer s first each) (sym is) (record {
+-- a busy end missed all its looks, and knows what it knew
+pub sharer_misses : {k t : Known SharedView} {first each : ℕ} → IsSharer k first each
+    → t ≡ record k { view = missed LOOKS k.view } → IsSharer t first each
+sharer_misses {first = first} {each = each} inv is = subst (λ s. IsSharer s first each) (sym is) (record {
   first_is = inv.first_is;
   fits = inv.fits;
   by = inv.by;
@@ -161,6 +165,8 @@ module _ {s t : SharerView} {taken : HostView} (takes : Takes s t taken) where
         past = takes.past;
         goes_on = takes.goes_on;
         turns = takes.turns;
+        times = takes.times;
+        few = takes.few;
         turn = subst (λ (x : SharerView). HostTurn x.end.each x.end.number (with_last takes.found x.end.last) leaves)
             takes.new_is
             (subst (λ v. HostTurn t.end.each t.end.number (with_last v t.end.last) leaves) same left.may.turn);

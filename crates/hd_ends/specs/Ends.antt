@@ -1,8 +1,9 @@
 -- What contracts see of an end of a host: of a host of its own, or of one that ends share.
-use Rattle.std.specs.Prelude.{◌≡◌, ℕ, zero, suc, ◌+◌, ◌*◌, ◌≤◌, Bool, true, false, List, [], ◌∷◌, ◌++◌, length, refl}
+use Rattle.std.specs.Prelude.{◌≡◌, ℕ, zero, suc, ◌+◌, ◌*◌, ◌<◌, ◌≤◌, Bool, true, false, List, [], ◌∷◌, ◌++◌, length, refl}
 use Rattle.std.specs.Coded.{Coded, code_by, coded×, coded_bool, coded_list, coded_ℕ}
 use Rattle.atomic_table.specs.Seated.{TableId, table_id_coded}
 use Rattle.hd_turns.specs.Views.{AreTurns, GoesOn}
+use Rattle.hd_turns.specs.declared.gate.TheConstants.{LOOKS}
 use Rattle.hd_host.specs.declared.change.Change.{Change}
 use Rattle.hd_host.specs.contracts.change.Change as change_contract
 use Rattle.hd_host.specs.Turns.{HostTurn, LocalsStay}
@@ -10,23 +11,32 @@ use Rattle.hd_host.specs.View.{HostView, host_view_code}
 
 -- ---- what an end knows
 
--- an end of a shared host: of which one, its number, how many contexts each end has, the history of all turns as
--- at its own last one, the last turn first: whose it was, and what it left; and what its own last call that was
--- done did to slots and blocks. The first of the history is the host as it was opened, which counts as number 0's.
+-- an end of a shared host: of which one, its number, how many contexts each end has, the history of all
+-- turns as at its own last one, the last turn first: whose it was, and what it left; what its own last call
+-- that was done did to slots and blocks; and how often it looked at the gate in vain. The first of the
+-- history is the host as it was opened, which counts as number 0's.
 pub record EndView : Type 0 where
   pub table : TableId
   pub number : ℕ
   pub each : ℕ
   pub seen : List (ℕ × HostView)
   pub last : Change
+  pub misses : ℕ
 
 abbrev pub end_view_code : Coded EndView
 end_view_code =
-    code_by (TableId × (ℕ × (ℕ × (List (ℕ × HostView) × Change))))
+    code_by (TableId × (ℕ × (ℕ × (List (ℕ × HostView) × (Change × ℕ)))))
     (coded× table_id_coded (coded× coded_ℕ (coded× coded_ℕ
-    (coded× (coded_list (coded× coded_ℕ host_view_code)) change_contract.the_row.coded))))
-    (λ e. (e.table, (e.number, (e.each, (e.seen, e.last)))))
-    (λ p. record { table = p.0; number = p.1.0; each = p.1.1.0; seen = p.1.1.1.0; last = p.1.1.1.1 })
+    (coded× (coded_list (coded× coded_ℕ host_view_code)) (coded× change_contract.the_row.coded coded_ℕ)))))
+    (λ e. (e.table, (e.number, (e.each, (e.seen, (e.last, e.misses))))))
+    (λ p. record {
+      table = p.0;
+      number = p.1.0;
+      each = p.1.1.0;
+      seen = p.1.1.1.0;
+      last = p.1.1.1.1.0;
+      misses = p.1.1.1.1.1;
+    })
     (λ _. refl)
 
 -- which of the host's contexts is the first of its own
@@ -41,6 +51,14 @@ before_last (entry ∷ past) = length past
 abbrev pub turn_of : EndView → ℕ
 turn_of e = before_last e.seen
 
+-- it looked so many times in vain: another end had its turn, or came first, or no turn is left
+abbrev pub missed : ℕ → EndView → EndView
+missed times e = record e { misses = e.misses + times }
+
+-- its call was busy: so it was at each of as many looks as a call makes
+abbrev pub busied : EndView → EndView
+busied = missed LOOKS
+
 -- ---- turns
 
 -- a host in which the last call was another
@@ -53,15 +71,20 @@ EndTurn each number u w = (last : Change) × HostTurn each number (with_last u l
 
 -- An end had its turn: it found the host `found`, which the last turn of all had left, and left `leaves`. The
 -- history goes on from what the end had seen, by turns of other ends; each is a turn from what the one before
--- left, and so is this one.
+-- left, and so is this one. Before it the end missed some looks, but not all that a call makes.
 pub record TookTurn (old new : EndView) (found leaves : HostView) : Type 0 where
   pub by : ℕ
   pub past : List (ℕ × HostView)
   pub goes_on : GoesOn old.number ((by, found) ∷ past) old.seen
   pub turns : AreTurns (EndTurn old.each) by found past
   pub turn : HostTurn old.each old.number (with_last found old.last) leaves
+  pub times : ℕ
+  pub few : times < LOOKS
   pub new_is :
-      new ≡ record old { seen = (old.number, leaves) ∷ (by, found) ∷ past; last = leaves.last }
+      new ≡ record (missed times old) {
+        seen = (old.number, leaves) ∷ (by, found) ∷ past;
+        last = leaves.last;
+      }
 
 -- What the locals of an end's contexts reference in the host that it finds is what they referenced in what its last
 -- turn left, whatever other ends did in between, also where they collected.
@@ -85,7 +108,7 @@ sharer_view_code =
     (λ p. record { end = p.0; has_gate = p.1 })
     (λ _. refl)
 
--- an end took its turn: the host is `taken`, which is what it found but for `last`
+-- an end took its turn, after some misses: the host is `taken`, which is what it found but for `last`
 pub record Takes (old new : SharerView) (taken : HostView) : Type 0 where
   pub by : ℕ
   pub found : HostView
@@ -94,7 +117,10 @@ pub record Takes (old new : SharerView) (taken : HostView) : Type 0 where
   pub turns : AreTurns (EndTurn old.end.each) by found past
   pub taken_is : taken ≡ with_last found old.end.last
   pub contexts : first_of old.end + old.end.each ≤ found.machine.numbers.callers
-  pub new_is : new ≡ record { end = record old.end { seen = (by, found) ∷ past }; has_gate = true }
+  pub times : ℕ
+  pub few : times < LOOKS
+  pub new_is :
+      new ≡ record { end = record (missed times old.end) { seen = (by, found) ∷ past }; has_gate = true }
 
 -- a host is left by a turn of an end from what it took
 pub record MayLeave (e : EndView) (leaves : HostView) : Type 0 where
@@ -121,7 +147,7 @@ pub record Leaves (old new : SharerView) (leaves : HostView) : Type 0 where
 -- the end with a number of a host to which nothing was done
 abbrev pub new_end : TableId → ℕ → HostView → ℕ → EndView
 new_end table each v number =
-    record { table = table; number = number; each = each; seen = (0, v) ∷ []; last = v.last }
+    record { table = table; number = number; each = each; seen = (0, v) ∷ []; last = v.last; misses = 0 }
 
 -- so many ends, by their numbers from 0
 abbrev pub ends_up : TableId → ℕ → HostView → ℕ → List EndView

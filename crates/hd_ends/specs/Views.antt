@@ -36,6 +36,7 @@ end_of k each last = record {
   each = each;
   seen = hosts_of k.view.seen;
   last = last;
+  misses = k.view.misses;
 }
 
 abbrev pub sharer_of : Known SharedView → ℕ → Change → SharerView

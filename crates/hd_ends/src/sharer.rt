@@ -1,9 +1,9 @@
 ghost use Rattle.std.specs.Prelude.{◌≡◌, ◌+◌, ◌<◌, ◌^◌, true, false, IfNone, IfSome};
-ghost use Rattle.hd_ends.specs.Ends.{Leaves, MayLeave, Takes, first_of, turn_of};
+ghost use Rattle.hd_ends.specs.Ends.{Leaves, MayLeave, Takes, busied, first_of, turn_of};
 ghost use Rattle.hd_ends.specs.Views.{IsNewEnd, sharer_of};
 
 use crate::boxed::Boxed;
-use hd_host::{Change, Host};
+use hd_host::{Change, Host, Last};
 use std::boxed::Box;
 use std::marker::Model;
 
@@ -16,7 +16,7 @@ pub struct Sharer {
     first: u32,
     each: u32,
     // What its own last call that was done did.
-    last: Change,
+    last: Last,
 }
 
 impl Model for Sharer {
@@ -42,7 +42,7 @@ impl Sharer {
             end,
             first,
             each,
-            last,
+            last: Last::of(last),
         }
     }
 
@@ -67,7 +67,7 @@ impl Sharer {
     pub fn last(&self) -> Change
         ensures { result ≡ self.now.end.last }
     {
-        self.last
+        self.last.get()
     }
 
     /// The number of its last turn, in one order for all ends, or 0 before the first.
@@ -79,18 +79,18 @@ impl Sharer {
     }
 
     /// Takes the host as the last turn of all left it, but with the end's own `last`; or none, where
-    /// another end had its turn at each look, and after 2^64 - 2 turns. It makes no call of the
-    /// system. No end is promised a turn.
+    /// another end had its turn or came first at each of `LOOKS` looks (hd_turns), and after
+    /// 2^64 - 2 turns. It makes no call of the system. No end is promised a turn.
     pub fn enter(&mut self) -> Option<Box<Host>>
         requires { self.old.has_gate ≡ false }
-        ensures busy { IfNone result (self.new ≡ self.old) }
+        ensures busy { IfNone result (self.new ≡ record self.old { end = busied self.old.end }) }
         ensures taken { IfSome result (λ host. Takes self.old self.new host.value) }
     {
         let Some(boxed) = self.end.try_enter() else {
             return None;
         };
         let mut host = boxed.into_host();
-        host.recall(self.last);
+        host.recall(&self.last);
         Some(host)
     }
 
@@ -100,7 +100,7 @@ impl Sharer {
         requires turn { MayLeave self.old.end host.value }
         ensures { Leaves self.old self.new host.value }
     {
-        self.last = host.last();
+        host.note(&mut self.last);
         self.end.leave(Boxed {
             each: self.each,
             host,

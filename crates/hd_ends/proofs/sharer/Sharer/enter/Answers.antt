@@ -1,19 +1,18 @@
 use Rattle.std.proofs.Common.{ap, subst, ◌∙◌}
 use Rattle.hd_turns.specs.Views.{Known}
-use Rattle.hd_turns.specs.declared.gate.TheConstants.{LOOKS}
 use Rattle.hd_host.specs.View.{HostView}
-use Rattle.hd_ends.specs.Ends.{SharerView, Takes, with_last}
+use Rattle.hd_ends.specs.Ends.{SharerView, Takes, busied, with_last}
 use Rattle.hd_ends.specs.Views.{SharedView, sharer_of}
-use Rattle.hd_ends.proofs.SharerTurns.{sharer_enters, sharer_looks, takes}
+use Rattle.hd_ends.proofs.SharerTurns.{sharer_enters, sharer_misses, takes}
 use Rattle.hd_ends.proofs.sharer.Sharer.enter.Goals as goal
 
 pub invariant_of-self : goal.invariant_of-self
-invariant_of-self c = sharer_looks LOOKS c.self.invariant c.in_default.ensures.busy
+invariant_of-self c = sharer_misses c.self.invariant c.in_default.ensures.busy
 
 pub returns-in_default-clause-busy : goal.returns-in_default-clause-busy
 returns-in_default-clause-busy c =
     ap (λ (k : Known SharedView). sharer_of k c.self.inside.each c.self.inside.last) c.in_default.ensures.busy
-    ∙ c.self.view_is
+    ∙ ap (λ (s : SharerView). record s { end = busied s.end }) c.self.view_is
 
 pub invariant_of-self-2 : goal.invariant_of-self-2
 invariant_of-self-2 c = sharer_enters c.self.invariant c.in-Some.ensures.table c.in-Some.ensures.turned.1

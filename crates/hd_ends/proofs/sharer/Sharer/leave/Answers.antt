@@ -28,8 +28,8 @@ returns c =
     } in
     record {
       may = c.requires.turn;
-      new_is = ap (λ (k : Known SharedView). sharer_of k c.self.inside.each c.last-self-inside.result) c.leave.ensures
+      new_is = ap (λ (k : Known SharedView). sharer_of k c.self.inside.each c.note.new.last) c.leave.ensures
           ∙ ap (λ (l : Change). sharer_of left c.self.inside.each l)
-          (c.last-self-inside.ensures ∙ ap (λ (v : HostView). v.last) c.deref.ensures)
+          (c.note.ensures ∙ ap (λ (v : HostView). v.last) c.deref.ensures)
           ∙ ap (gave_back c.args.host.value) c.self.view_is;
     }
