@@ -6,9 +6,9 @@ use Rattle.hd_model.specs.declared.data.Slot.{Slot}
 use Rattle.hd_host.specs.declared.handle.Handle.{Handle}
 use Rattle.hd_host.specs.Calls.{FreesHandle}
 use Rattle.hd_host.specs.Handles.{IsOf, IsStale, stamp_of}
-use Rattle.hd_host.specs.Turns.{HostTurn, IsSoundHost, alone, frees, stays, steps}
+use Rattle.hd_host.specs.Turns.{HostTurn, IsSoundHost, alone, frees, stays, steps, trims}
 use Rattle.hd_host.specs.View.{HostView}
-use Rattle.hd_host.proofs.SoundTurns.{row_stamps, step_stamps, turns_keep_sound}
+use Rattle.hd_host.proofs.SoundTurns.{row_stamps, step_stamps, trims_stamps, turns_keep_sound}
 use Rattle.hd_hostlaws.specs.Calls.{Call, Calls, first, none}
 use Rattle.hd_hostlaws.specs.Laws.{FreedIsRefused}
 use Rattle.hd_hostlaws.proofs.CallCases.{each_call_is_a_turn}
@@ -34,6 +34,7 @@ turn_raises {u = u} {w = w} slot (stays same) = as_before u w slot same.stamps
 turn_raises {u = u} {w = w} slot (steps row) = as_before u w slot (row_stamps row)
 turn_raises slot (frees handle did) = freeing_raises slot did
 turn_raises {u = u} {w = w} slot (alone step) = as_before u w slot (step_stamps step)
+turn_raises {u = u} {w = w} slot (trims row) = as_before u w slot (trims_stamps row)
 
 -- nor do calls
 calls_raise : {u w : HostView} {calls : List Call} (slot : Slot) → Calls u calls w

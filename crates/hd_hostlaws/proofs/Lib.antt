@@ -6,3 +6,6 @@ pub mod FirstHosts
 pub mod FreedHandles
 pub mod LiveHandles
 pub mod Faults
+pub mod SetRows
+pub mod DoneCommands
+pub mod MadeRows

@@ -13,7 +13,7 @@ use Rattle.hd_host.specs.Calls.{FailsOf, TriesOf}
 use Rattle.hd_host.specs.Handles.{IsOf, IsStale}
 use Rattle.hd_host.specs.View.{HostView, IsAsItWas}
 use Rattle.hd_host.proofs.SameHost.{unchanged}
-use Rattle.hd_hostlaws.specs.Calls.{DoesOn, HandleCall, Looks, address, count_down, count_up, fault_in, free, get, info, kind, returned, secondary_get, secondary_set, set, strength_set}
+use Rattle.hd_hostlaws.specs.Calls.{DoesOn, HandleCall, Looks, address, count_down, count_up, fault_in, free, get, info, kind, load, loaded_reply, returned, secondary_get, secondary_set, set, strength_set, target_id}
 use Rattle.hd_hostlaws.specs.Laws.{StaleIsExact}
 
 module _ (u w : HostView) (handle : Handle) where
@@ -73,6 +73,10 @@ module _ (u w : HostView) (handle : Handle) where
   exact (count_up result) did = tried 0 (cmd.HUp 0) reply.Value result did
   exact (count_down result) did = tried 0 (cmd.HDown 0) reply.Value result did
   exact (address result) did = tried 0 (cmd.AddrOf 0) reply.Place result did
+  exact (load context dst result) did = tried context (cmd.HGet dst 0) loaded_reply result did.0
+  exact (target_id result) did =
+      looked (λ slot target. option_map (λ h. h.target) (handle_at u.machine.state slot) ≡ Some target)
+      result did
   exact (info result) did =
       looked (λ slot seen. handle_at u.machine.state slot ≡ Some (handle_seen seen)) result did
   exact (kind result) did =

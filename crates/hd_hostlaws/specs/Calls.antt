@@ -1,12 +1,17 @@
 -- The calls of a host, each with what it gets and what it returns, and what each comes to: the clauses of
 -- hd_host.
-use Rattle.std.specs.Prelude.{◌≡◌, ℕ, Bool, Option, None, Some, Result, Ok, Err, MatchResult, option_map, List, [], ◌∷◌}
+use Rattle.std.specs.Prelude.{◌≡◌, ℕ, Bool, Option, None, Some, Result, Ok, Err, MatchResult, IfOk, option_map, List, [], ◌∷◌, length, ◌<◌, ◌≤◌}
 use Rattle.hd_model.specs.{declared.data.Id.Id, declared.data.Kind.Kind, declared.data.Make.Make, declared.data.Report.Report, declared.data.Slot.Slot, declared.data.Strength.Strength, declared.handle.Handle.Handle as Info, Command.load_reply, Handles.handle_of as handle_seen, State.handle_at}
 use Rattle.hd_model.specs.declared.command.Cmd.TheVariants as cmd
 use Rattle.hd_model.specs.declared.data.Reply.TheVariants as reply
+use Rattle.hd_model.specs.declared.data.Reply.{Reply}
+use Rattle.hd_model.specs.declared.limits.TheConstants.{FIELDS}
+use Rattle.hd_model.specs.State.{register_of, with_register}
 use Rattle.hd_commands.specs.Done.{queued_reply}
 use Rattle.hd_store.specs.Replies.{found_reply, removed_reply, root_reply}
 use Rattle.hd_store.specs.declared.collection_calls.Root.{Root}
+use Rattle.hd_store.specs.declared.hosted.Loaded.{Loaded}
+use Rattle.hd_store.specs.Hosted.{with_cleared}
 use Rattle.hd_store.specs.declared.entry_calls.Lookup.{Lookup}
 use Rattle.hd_host.specs.declared.change.Change.{Change}
 use Rattle.hd_host.specs.declared.fault.Fault.{Fault}
@@ -14,7 +19,9 @@ use Rattle.hd_host.specs.declared.fault.Fault.TheVariants as fault
 use Rattle.hd_host.specs.declared.handle.Handle.{Handle}
 use Rattle.hd_host.specs.Calls.{AddsEntry, FailsBy, FailsOf, FreesHandle, HasReplied, MakesHandle, Tries, TriesOf, Trims}
 use Rattle.hd_host.specs.Handles.{IsOf, IsStale}
+use Rattle.hd_host.specs.Turns.{TrimsAll, TrimsBlock}
 use Rattle.hd_host.specs.View.{HostView, IsAsItWas}
+use Rattle.hd_host.specs.Wide.{MakesObject, ReadsLoaded, TriesToSet, with_state}
 
 -- ---- calls
 
@@ -31,6 +38,8 @@ pub data HandleCall : Type 0 where
   address : Result ℕ Fault → HandleCall
   info : Result (Info Id) Fault → HandleCall
   kind : Result Kind Fault → HandleCall
+  load : (context dst : ℕ) → Result Loaded Fault → HandleCall
+  target_id : Result (Option Id) Fault → HandleCall
 
 -- a call that gets no handle
 pub data PlainCall : Type 0 where
@@ -53,9 +62,17 @@ pub data PlainCall : Type 0 where
   collect : (n : ℕ) → Result Report Fault → PlainCall
   final_next : (context dst : ℕ) → Option Id → PlainCall
   trim : Kind → (given : ℕ) → PlainCall
+  trim_block : Kind → (given : ℕ) → PlainCall
+  trim_all : (given : ℕ) → PlainCall
   root_of : (context object : ℕ) → Result (Option Root) Fault → PlainCall
   recall : Change → PlainCall
-  -- `contexts`, `last`, `stats`, `local_id` and `next_handle`
+  field_load : (context dst object i : ℕ) → Result Loaded Fault → PlainCall
+  object_make : (context dst value : ℕ) → Bool → (src : List ℕ) → Result Id Fault → PlainCall
+  table_set : (context key value : ℕ) → Result Bool Fault → PlainCall
+  local_pass : (to dst from src : ℕ) → Option Id → PlainCall
+  locals_clear : (context first count : ℕ) → PlainCall
+  -- `contexts`, `last`, `stats`, `sizes`, `local_id`, `locals`, `next_handle`, `next_of`,
+  -- `object_info` and `context_left`
   observes : PlainCall
 
 pub data Call : Type 0 where
@@ -63,6 +80,14 @@ pub data Call : Type 0 where
   plain : PlainCall → Call
 
 -- ---- what each comes to
+
+-- what a load returns, as a reply
+abbrev pub loaded_reply : Loaded → Reply
+loaded_reply l = load_reply l.id
+
+-- a context of the host, and as many locals as an object may have fields
+abbrev pub IsContextWith : HostView → ℕ → List ℕ → Type 0
+IsContextWith v context src = (context < v.machine.numbers.callers) × (length src ≤ FIELDS)
 
 -- a look at a handle changes nothing: it returns something of the handle, which is live, or that it is stale
 abbrev pub Looks : {T : Type 0} → HostView → Handle → (Slot → T → Type 0) → HostView → Result T Fault → Type 0
@@ -87,11 +112,18 @@ DoesOn handle (strength_set strength result) old new =
 DoesOn handle (count_up result) old new = TriesOf old 0 handle (cmd.HUp 0) reply.Value new result
 DoesOn handle (count_down result) old new = TriesOf old 0 handle (cmd.HDown 0) reply.Value new result
 DoesOn handle (address result) old new = TriesOf old 0 handle (cmd.AddrOf 0) reply.Place new result
+DoesOn handle (load context dst result) old new =
+    TriesOf old context handle (cmd.HGet dst 0) loaded_reply new result
+    × IfOk result (ReadsLoaded context dst new)
 DoesOn handle (info result) old new =
     Looks old handle (λ slot seen. handle_at old.machine.state slot ≡ Some (handle_seen seen)) new result
 DoesOn handle (kind result) old new =
     Looks old handle (λ slot of. option_map (λ h. h.kind) (handle_at old.machine.state slot) ≡ Some of) new
     result
+DoesOn handle (target_id result) old new =
+    Looks old handle
+    (λ slot target. option_map (λ h. h.target) (handle_at old.machine.state slot) ≡ Some target)
+    new result
 
 abbrev pub DoesPlainly : PlainCall → HostView → HostView → Type 0
 DoesPlainly (object_new context dst fields fin result) old new =
@@ -130,9 +162,27 @@ DoesPlainly (collect n result) old new = Tries old 0 (cmd.Collect n) reply.Repor
 DoesPlainly (final_next context dst result) old new =
     HasReplied old context None (cmd.Final dst) (queued_reply result) new
 DoesPlainly (trim of given) old new = Trims old of given new
+DoesPlainly (trim_block of given) old new = TrimsBlock old of given new
+DoesPlainly (trim_all given) old new = TrimsAll old given new
 DoesPlainly (root_of context object result) old new =
     Tries old context (cmd.GcRoot object) root_reply new result
 DoesPlainly (recall last) old new = new ≡ record old { last = last }
+DoesPlainly (field_load context dst object i result) old new =
+    Tries old context (cmd.Get dst object i) loaded_reply new result
+    × IfOk result (ReadsLoaded context dst new)
+DoesPlainly (object_make context dst value fin src result) old new =
+    IsContextWith old context src
+    × MatchResult result (MakesObject old context dst value fin src new)
+    (λ f. FailsBy old context None (cmd.New dst (length src) fin) f × IsAsItWas old new)
+DoesPlainly (table_set context key value result) old new = TriesToSet old context key value new result
+DoesPlainly (local_pass to dst from src result) old new =
+    (to < old.machine.numbers.callers) × (from < old.machine.numbers.callers)
+    × (new ≡ with_state old
+    (with_register old.machine.state to dst (register_of old.machine.state from src)))
+    × (result ≡ register_of old.machine.state from src)
+DoesPlainly (locals_clear context first count) old new =
+    (context < old.machine.numbers.callers)
+    × (new ≡ with_state old (with_cleared old.machine.state context first count))
 DoesPlainly observes old new = new ≡ old
 
 abbrev pub Does : Call → HostView → HostView → Type 0
@@ -162,6 +212,8 @@ returned (count_down result) = fault_in result
 returned (address result) = fault_in result
 returned (info result) = fault_in result
 returned (kind result) = fault_in result
+returned (load context dst result) = fault_in result
+returned (target_id result) = fault_in result
 
 abbrev pub returned_plainly : PlainCall → Option Fault
 returned_plainly (object_new context dst fields fin result) = fault_in result
@@ -183,8 +235,15 @@ returned_plainly (table_remove context key result) = fault_in result
 returned_plainly (collect n result) = fault_in result
 returned_plainly (final_next context dst result) = None
 returned_plainly (trim of given) = None
+returned_plainly (trim_block of given) = None
+returned_plainly (trim_all given) = None
 returned_plainly (root_of context object result) = fault_in result
 returned_plainly (recall last) = None
+returned_plainly (field_load context dst object i result) = fault_in result
+returned_plainly (object_make context dst value fin src result) = fault_in result
+returned_plainly (table_set context key value result) = fault_in result
+returned_plainly (local_pass to dst from src result) = None
+returned_plainly (locals_clear context start count) = None
 returned_plainly observes = None
 
 abbrev pub returned_by : Call → Option Fault

@@ -1,17 +1,19 @@
 -- What a host's calls keep, whatever they are and in whatever order. Each is the contract of a function of
 -- this crate.
-use Rattle.std.specs.Prelude.{◌≡◌, ◌⊎◌, ◌↔◌, ◌+◌, ◌*◌, ℕ, List, [], ◌∷◌, Option, None, Some, Ok, IsSome, replicate}
+use Rattle.std.specs.Prelude.{◌≡◌, ◌≢◌, ◌⊎◌, ◌↔◌, suc, ◌+◌, ◌*◌, ◌^◌, ◌<◌, ℕ, Bool, List, [], ◌∷◌, length, map, slice_index, None, Some, Result, Ok, IsSome, replicate}
 use Rattle.std.specs.FinMap.{get}
-use Rattle.hd_model.specs.{declared.data.Id.Id, declared.data.Report.Report, declared.data.Slot.Slot, declared.limits.TheConstants.ROWS}
-use Rattle.hd_model.specs.State.{Handle as Held, handle_at, register_of, start_of, static_of}
-use Rattle.hd_store.specs.Offers.{HasLimits}
+use Rattle.hd_model.specs.{declared.command.Cmd.Cmd, declared.data.Id.Id, declared.data.Kind.Kind, declared.data.Reply.Reply, declared.data.Report.Report, declared.data.Slot.Slot, declared.limits.TheConstants.REGISTERS, declared.limits.TheConstants.ROWS}
+use Rattle.hd_model.specs.declared.command.Cmd.TheVariants as cmd
+use Rattle.hd_model.specs.declared.data.Reply.TheVariants as reply
+use Rattle.hd_model.specs.State.{Handle as Held, block_of, handle_at, register_of, start_of, static_of}
+use Rattle.hd_store.specs.{Offers.HasLimits, Replies.removed_reply, Spare.IsSpare}
 use Rattle.hd_host.specs.declared.fault.Fault.{Fault}
 use Rattle.hd_host.specs.declared.fault.Fault.TheVariants as fault
 use Rattle.hd_host.specs.declared.handle.Handle.{Handle}
 use Rattle.hd_host.specs.Handles.{IsOf, IsStale}
-use Rattle.hd_host.specs.Turns.{HostTurn}
+use Rattle.hd_host.specs.Turns.{HostTurn, RowCommand, TriesRow}
 use Rattle.hd_host.specs.View.{HostView, IsAsItWas}
-use Rattle.hd_hostlaws.specs.Calls.{Call, Calls, Does, DoesOn, HandleCall, collect, free, on_handle, plain, returned, returned_by, set}
+use Rattle.hd_hostlaws.specs.Calls.{Call, Calls, Does, DoesOn, DoesPlainly, HandleCall, collect, free, object_make, on_handle, plain, returned, returned_by, set, table_set}
 
 -- a host that was opened, to which nothing was done
 pub record IsFirst (v : HostView) : Type 0 where
@@ -83,6 +85,11 @@ LiveNamesTheSame =
     → IsOf u handle slot → handle_at u.machine.state slot ≡ Some was → Calls u calls w
     → NoneOf (FreesOrSets handle) calls → NamesTheSame handle slot was calls w
 
+-- A block that may be given back has no live handle.
+abbrev pub SpareBlocksHaveNone : Type 0
+SpareBlocksHaveNone = (v : HostView) (kind : Kind) (block : ℕ) (handle : Handle) (slot : Slot)
+    → IsSpare v.machine.state kind block → IsOf v handle slot → block_of slot ≢ block
+
 -- What a local, a static or a live handle of whatever kind references is an object that is there.
 pub record WhatIsReferencedIsThere (v : HostView) : Type 0 where
   pub locals :
@@ -97,3 +104,45 @@ pub record WhatIsReferencedIsThere (v : HostView) : Type 0 where
 
 abbrev pub ReferencedIsThere : Type 0
 ReferencedIsThere = (v : HostView) → IsReached v → WhatIsReferencedIsThere v
+
+-- ---- calls that are commands in a row
+
+-- a command of a context, without a handle
+abbrev pub in_context : ℕ → Cmd → RowCommand
+in_context context command = record { context = context; slot = None; command = command }
+
+-- An entry that is set is a `cremove` and a `cadd` in a row.
+abbrev pub SettingIsARow : Type 0
+SettingIsARow = (u w : HostView) (context key value : ℕ) (result : Result Bool Fault)
+    → DoesPlainly (table_set context key value result) u w
+    → TriesRow u (in_context context (cmd.CRemove key) ∷ in_context context (cmd.CAdd key value) ∷ [])
+    (λ replaced. removed_reply replaced ∷ reply.Done ∷ []) w result
+
+-- fields of an object, from an index on, get what these locals reference
+abbrev pub sets_from : (context dst first : ℕ) → List ℕ → List RowCommand
+sets_from context dst first [] = []
+sets_from context dst first (s ∷ src) =
+    in_context context (cmd.Set dst first s) ∷ sets_from context dst (suc first) src
+
+abbrev pub making_row : (context dst value : ℕ) → Bool → List ℕ → List RowCommand
+making_row context dst value fin src =
+    in_context context (cmd.New dst (length src) fin) ∷ in_context context (cmd.Val dst value)
+    ∷ sets_from context dst 0 src
+
+abbrev pub making_replies : Id → List ℕ → List Reply
+making_replies id src = reply.Object id ∷ reply.Done ∷ map (λ _. reply.Done) src
+
+-- a local, and not that one
+pub record IsOtherLocal (dst s : ℕ) : Type 0 where
+  pub local : s < REGISTERS
+  pub other : s ≢ dst
+
+-- An object that is made with its value and its fields is a `new`, a `val` and a `set` for each field in a
+-- row, where its local is none of those that the fields get.
+abbrev pub MakingIsARow : Type 0
+MakingIsARow =
+    (u w : HostView) (context dst value : ℕ) (fin : Bool) (src : List ℕ) (result : Result Id Fault)
+    → IsReached u → dst < REGISTERS → value < 2 ^ 64
+    → ((i : ℕ) → i < length src → IsOtherLocal dst (slice_index src i))
+    → DoesPlainly (object_make context dst value fin src result) u w
+    → TriesRow u (making_row context dst value fin src) (λ id. making_replies id src) w result

@@ -1,12 +1,12 @@
 // Each call of a host, with what the relation of the laws says of it: so the laws are of these
 // calls, and a call that promised less would be none of them. Those that only look at numbers, lists
 // and locals change nothing by their types.
-ghost use Rattle.std.specs.Prelude.{◌≡◌, ◌<◌, ◌≤◌, false};
+ghost use Rattle.std.specs.Prelude.{◌≡◌, ℕ, ◌+◌, ◌<◌, ◌≤◌, false, length, slice_index};
 ghost use Rattle.hd_model.specs.{Kinds.is_paired, Valid.IsValidMake};
 ghost use Rattle.hd_hostlaws.specs.Calls as call;
 ghost use Rattle.hd_hostlaws.specs.Calls.{DoesOn, DoesPlainly};
 
-use hd_host::{Change, Fault, Handle, HandleInfo, Host, Lookup, Root};
+use hd_host::{Fault, Handle, HandleInfo, Host, Last, Loaded, Lookup, Root};
 use hd_model::limits::{FIELDS, OLDEST, REGISTERS};
 use hd_model::{Id, Kind, Make, Report, Strength};
 
@@ -288,6 +288,20 @@ pub fn trim(host: &mut Host, of: Kind) -> u32
     host.trim(of)
 }
 
+/// `Host::trim_block`.
+pub fn trim_block(host: &mut Host, of: Kind) -> u32
+    ensures { DoesPlainly (call.trim_block of result) host.old host.new }
+{
+    host.trim_block(of)
+}
+
+/// `Host::trim_all`.
+pub fn trim_all(host: &mut Host) -> u32
+    ensures { DoesPlainly (call.trim_all result) host.old host.new }
+{
+    host.trim_all()
+}
+
 /// `Host::root_of`.
 pub fn root_of(host: &mut Host, context: u32, object: u8) -> Result<Option<Root>, Fault>
     requires context { context < host.old.machine.numbers.callers }
@@ -298,8 +312,84 @@ pub fn root_of(host: &mut Host, context: u32, object: u8) -> Result<Option<Root>
 }
 
 /// `Host::recall`.
-pub fn recall(host: &mut Host, last: Change)
-    ensures { DoesPlainly (call.recall last) host.old host.new }
+pub fn recall(host: &mut Host, last: &Last)
+    ensures { DoesPlainly (call.recall last.now) host.old host.new }
 {
     host.recall(last);
+}
+
+/// `Host::field_load`.
+pub fn field_load(
+    host: &mut Host,
+    context: u32,
+    dst: u8,
+    object: u8,
+    i: u8,
+) -> Result<Loaded, Fault>
+    requires context { context < host.old.machine.numbers.callers }
+    requires locals { (dst < REGISTERS) × (object < REGISTERS) }
+    ensures { DoesPlainly (call.field_load context dst object i result) host.old host.new }
+{
+    host.field_load(context, dst, object, i)
+}
+
+/// `Host::handle_load`.
+pub fn handle_load(host: &mut Host, context: u32, handle: Handle, dst: u8) -> Result<Loaded, Fault>
+    requires context { context < host.old.machine.numbers.callers }
+    requires local { dst < REGISTERS }
+    ensures { DoesOn handle (call.load context dst result) host.old host.new }
+{
+    host.handle_load(context, handle, dst)
+}
+
+/// `Host::object_make`.
+pub fn object_make(
+    host: &mut Host,
+    context: u32,
+    dst: u8,
+    value: u64,
+    fin: bool,
+    src: &[u32],
+) -> Result<Id, Fault>
+    requires context { context < host.old.machine.numbers.callers }
+    requires local { dst < REGISTERS }
+    requires sources { (i : ℕ) → i < length src.now → slice_index src.now i < REGISTERS }
+    requires few { length src.now ≤ FIELDS }
+    ensures { DoesPlainly (call.object_make context dst value fin src.now result) host.old host.new }
+{
+    host.object_make(context, dst, value, fin, src)
+}
+
+/// `Host::table_set`.
+pub fn table_set(host: &mut Host, context: u32, key: u8, value: u8) -> Result<bool, Fault>
+    requires context { context < host.old.machine.numbers.callers }
+    requires locals { (key < REGISTERS) × (value < REGISTERS) }
+    ensures { DoesPlainly (call.table_set context key value result) host.old host.new }
+{
+    host.table_set(context, key, value)
+}
+
+/// `Host::local_pass`.
+pub fn local_pass(host: &mut Host, to: u32, dst: u8, from: u32, src: u8) -> Option<Id>
+    requires contexts { let n = host.old.machine.numbers in (to < n.callers) × (from < n.callers) }
+    requires locals { (dst < REGISTERS) × (src < REGISTERS) }
+    ensures { DoesPlainly (call.local_pass to dst from src result) host.old host.new }
+{
+    host.local_pass(to, dst, from, src)
+}
+
+/// `Host::locals_clear`.
+pub fn locals_clear(host: &mut Host, context: u32, first: u8, n: u8)
+    requires context { context < host.old.machine.numbers.callers }
+    requires locals { first + n ≤ REGISTERS }
+    ensures { DoesPlainly (call.locals_clear context first n) host.old host.new }
+{
+    host.locals_clear(context, first, n);
+}
+
+/// `Host::handle_id`.
+pub fn handle_id(host: &mut Host, handle: Handle) -> Result<Option<Id>, Fault>
+    ensures { DoesOn handle (call.target_id result) host.old host.new }
+{
+    host.handle_id(handle)
 }

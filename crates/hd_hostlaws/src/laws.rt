@@ -1,8 +1,9 @@
 ghost use Rattle.hd_host.specs.Turns.{LocalsAreAsLeft, NoContextIsOfTwoEnds, OthersKeepLocals};
 ghost use Rattle.hd_host.specs.Turns.{OthersKeepObjects, TurnsKeepSound};
 ghost use Rattle.hd_hostlaws.specs.Laws.{EachCallIsATurn, FaultsChangeNothing, FreedIsRefused};
-ghost use Rattle.hd_hostlaws.specs.Laws.{LiveNamesTheSame};
-ghost use Rattle.hd_hostlaws.specs.Laws.{ReferencedIsThere, StaleIsExact};
+ghost use Rattle.hd_hostlaws.specs.Laws.{LiveNamesTheSame, MakingIsARow};
+ghost use Rattle.hd_hostlaws.specs.Laws.{ReferencedIsThere, SettingIsARow};
+ghost use Rattle.hd_hostlaws.specs.Laws.{SpareBlocksHaveNone, StaleIsExact};
 
 /// Each call is one step of the machine, a row of steps, a handle that is freed, a listed step of a
 /// host alone, or nothing.
@@ -33,10 +34,26 @@ pub fn live_names_the_same()
     ensures { LiveNamesTheSame }
 {}
 
+/// A block that may be given back has no live handle.
+pub fn spare_blocks_have_none()
+    ensures { SpareBlocksHaveNone }
+{}
+
 /// Whatever calls a host had since it was opened, what a local, a static or a handle references is
 /// an object that is there.
 pub fn referenced_is_there()
     ensures { ReferencedIsThere }
+{}
+
+/// An entry that is set is a `cremove` and a `cadd` in a row.
+pub fn setting_is_a_row()
+    ensures { SettingIsARow }
+{}
+
+/// An object that is made with its value and its fields is a `new`, a `val` and a `set` for each
+/// field in a row, where its local is none of those that the fields get.
+pub fn making_is_a_row()
+    ensures { MakingIsARow }
 {}
 
 /// No context is of two ends of a shared host.
