@@ -18,6 +18,7 @@
 #include <array>
 #include <cstddef>
 #include <cstdint>
+#include <initializer_list>
 #include <memory>
 #include <optional>
 #include <utility>
@@ -44,8 +45,15 @@ using Id = hdt_id;
 using Limits = hdt_limits;
 using Report = hdt_report;
 using Stats = hdt_stats_out;
+using Sizes = hdt_sizes_out;
 using HandleInfo = hdt_handle_info;
 using Root = hdt_root;
+using ObjectInfo = hdt_object_out;
+// What a load found: the object, 0 for null, and its value, 0 of null.
+struct Loaded {
+    Id id;
+    std::uint64_t value;
+};
 struct Nothing {};
 
 inline const char *name(Status status) noexcept {
@@ -169,6 +177,12 @@ public:
         hdt_status status = turn(hdt_handle_kind, &kind);
         return result_of(status, static_cast<Kind>(kind));
     }
+    // Its target, 0 for null, which is not kept.
+    Result<Id> id() const {
+        Id id = 0;
+        hdt_status status = turn(hdt_handle_id, &id);
+        return result_of(status, std::move(id));
+    }
     Done strength(Kind strength) {
         return done_by(turn(hdt_strength_set, static_cast<hdt_kind>(strength)));
     }
@@ -196,13 +210,17 @@ private:
     hdt_handle value_ = 0;
 };
 
-// The live handles, by rising slot. 32 are fetched at once: what a loop over them frees or makes may be among them or not.
+// The live handles of some kinds, by rising slot; where `cleared`, those alone whose target is null. 32 are fetched at once: what
+// a loop over them frees or makes may be among them or not.
 class Handles {
 public:
     class Iterator {
     public:
         Iterator() = default;
-        explicit Iterator(std::shared_ptr<detail::Place> place) : place_(std::move(place)) { fetch(); }
+        Iterator(std::shared_ptr<detail::Place> place, std::uint32_t kinds, bool cleared)
+            : place_(std::move(place)), kinds_(kinds), cleared_(cleared) {
+            fetch();
+        }
         const HandleInfo &operator*() const noexcept { return rows_[at_]; }
         const HandleInfo *operator->() const noexcept { return &rows_[at_]; }
         Iterator &operator++() {
@@ -216,23 +234,33 @@ public:
         void fetch() {
             at_ = count_ = 0;
             hdt_status status = HDT_NONE;
-            if (!over_) status = detail::turn(hdt_handles, &place_->host, next_, rows_.data(), rows_.size(), &count_, &next_);
+            if (!over_)
+                status = detail::turn(hdt_handles_of, &place_->host, kinds_, cleared_ ? 1u : 0u, next_, rows_.data(), rows_.size(),
+                                      &count_, &next_);
             over_ = next_ == 0;
             if (status != HDT_OK || count_ == 0) place_.reset();
         }
         std::shared_ptr<detail::Place> place_;
+        std::uint32_t kinds_ = 0;
+        bool cleared_ = false;
         std::array<HandleInfo, 32> rows_{};
         std::size_t at_ = 0, count_ = 0;
         std::uint32_t next_ = 0;
         bool over_ = false;
     };
 
-    explicit Handles(std::shared_ptr<detail::Place> place) : place_(std::move(place)) {}
-    Iterator begin() const { return Iterator(place_); }
+    Handles(std::shared_ptr<detail::Place> place, std::initializer_list<Kind> kinds, bool cleared)
+        : place_(std::move(place)), cleared_(cleared) {
+        for (Kind kind : kinds) kinds_ |= 1u << static_cast<std::uint32_t>(kind);
+        if (kinds_ == 0) kinds_ = (2u << HDT_DEPENDENT) - 1;
+    }
+    Iterator begin() const { return Iterator(place_, kinds_, cleared_); }
     Iterator end() const { return Iterator(); }
 
 private:
     std::shared_ptr<detail::Place> place_;
+    std::uint32_t kinds_ = 0;
+    bool cleared_;
 };
 
 class Host {
@@ -279,12 +307,23 @@ public:
         hdt_status status = turn(hdt_trim, static_cast<hdt_kind>(kind), &given);
         return result_of(status, std::move(given));
     }
+    Result<std::uint32_t> trim_all() {
+        std::uint32_t given = 0;
+        hdt_status status = turn(hdt_trim_all, &given);
+        return result_of(status, std::move(given));
+    }
     Result<Stats> stats() const {
         Stats stats{};
         hdt_status status = turn(hdt_stats, &stats);
         return result_of(status, std::move(stats));
     }
-    Handles handles() const { return Handles(place_); }
+    Result<Sizes> sizes() const {
+        Sizes sizes{};
+        hdt_status status = turn(hdt_sizes, &sizes);
+        return result_of(status, std::move(sizes));
+    }
+    // Those of some kinds, or of all where none is named.
+    Handles handles(std::initializer_list<Kind> kinds = {}, bool cleared = false) const { return Handles(place_, kinds, cleared); }
 
 private:
     friend class Frame;
@@ -304,7 +343,7 @@ public:
     Frame(const Frame &) = delete;
     Frame &operator=(const Frame &) = delete;
     ~Frame() {
-        while (next_ > first_) (void)turn(hdt_local_clear, --next_);
+        if (next_ > first_) (void)turn(hdt_locals_clear, first_, next_ - first_);
     }
 
     // The next local of the context: 16 in all of its frames; calls with a further one are refused as Status::argument.
@@ -317,10 +356,31 @@ public:
         hdt_status status = turn(hdt_object_new, dst.number, fields, finalizable ? HDT_FINALIZABLE : 0, &id);
         return result_of(status, std::move(id));
     }
+    // The same with a value and with a field for each of some locals, which references what the local did.
+    Result<Id> make_with(Local dst, std::uint64_t value, std::initializer_list<Local> fields, bool finalizable = false) {
+        std::array<hdt_local, 62> src{};
+        std::size_t count = 0;
+        for (Local field : fields)
+            if (count < src.size()) src[count++] = field.number; // one more than an object may have is refused
+        Id id = 0;
+        hdt_status status = turn(hdt_object_make, dst.number, finalizable ? HDT_FINALIZABLE : 0, value, src.data(), count, &id);
+        return result_of(status, std::move(id));
+    }
+    // How many objects the context may still make.
+    Result<std::uint32_t> left() const {
+        std::uint32_t objects = 0;
+        hdt_status status = turn(hdt_context_left, &objects);
+        return result_of(status, std::move(objects));
+    }
     Result<Id> get(Local dst, Local object, std::uint32_t field) {
         Id id = 0;
         hdt_status status = turn(hdt_field_get, dst.number, object.number, field, &id);
         return result_of(status, std::move(id));
+    }
+    Result<Loaded> get_with_value(Local dst, Local object, std::uint32_t field) {
+        Loaded loaded{};
+        hdt_status status = turn(hdt_field_load, dst.number, object.number, field, &loaded.id, &loaded.value);
+        return result_of(status, std::move(loaded));
     }
     Done set(Local object, std::uint32_t field, Local src) {
         return done_by(turn(hdt_field_set, object.number, field, src.number));
@@ -336,6 +396,11 @@ public:
         hdt_status status = turn(hdt_generation, object.number, &generation);
         return result_of(status, std::move(generation));
     }
+    Result<ObjectInfo> info(Local object) const {
+        ObjectInfo info{};
+        hdt_status status = turn(hdt_object_info, object.number, &info);
+        return result_of(status, std::move(info));
+    }
     Done suppress(Local object) { return done_by(turn(hdt_suppress, object.number)); }
     Done reregister(Local object) { return done_by(turn(hdt_reregister, object.number)); }
     Result<Id> id(Local src) const {
@@ -345,6 +410,18 @@ public:
     }
     Done copy(Local dst, Local src) { return done_by(turn(hdt_local_copy, dst.number, src.number)); }
     Done clear(Local dst) { return done_by(turn(hdt_local_clear, dst.number)); }
+    // From a local of another frame, of whichever context.
+    Result<Id> pass(Local dst, const Frame &from, Local src) {
+        Id id = 0;
+        hdt_status status = turn(hdt_local_pass, dst.number, from.context_, src.number, &id);
+        return result_of(status, std::move(id));
+    }
+    // What each local of the context references.
+    Result<std::array<Id, 16>> locals() const {
+        std::array<Id, 16> ids{};
+        hdt_status status = turn(hdt_locals, ids.data(), ids.size());
+        return result_of(status, std::move(ids));
+    }
     Result<Id> get_static(Local dst, std::uint32_t number) {
         Id id = 0;
         hdt_status status = turn(hdt_static_get, dst.number, number, &id);
@@ -363,6 +440,11 @@ public:
         hdt_status status = turn(hdt_handle_get, handle.value(), dst.number, &id);
         return result_of(status, std::move(id));
     }
+    Result<Loaded> load_with_value(Local dst, const Handle &handle) {
+        Loaded loaded{};
+        hdt_status status = turn(hdt_handle_load, handle.value(), dst.number, &loaded.id, &loaded.value);
+        return result_of(status, std::move(loaded));
+    }
     Done store(const Handle &handle, Local src) { return done_by(turn(hdt_handle_set, handle.value(), src.number)); }
     Result<Id> load_secondary(Local dst, const Handle &handle) {
         Id id = 0;
@@ -374,6 +456,8 @@ public:
     }
 
     Done add(Local key, Local value) { return done_by(turn(hdt_table_add, key.number, value.number)); }
+    // As a new entry, or in place of the one that the key has.
+    Done put(Local key, Local value) { return done_by(turn(hdt_table_set, key.number, value.number)); }
     Result<std::optional<Id>> find(Local dst, Local key) {
         Id id = 0;
         return if_any(turn(hdt_table_find, dst.number, key.number, &id), id);

@@ -34,6 +34,23 @@ static void stats(void) {
                 (unsigned)out.handles, (unsigned)out.blocks, (unsigned)out.queued);
 }
 
+static void numbers_of(const char *what, const uint32_t *numbers, int count) {
+    printf(" %s", what);
+    for (int i = 0; i < count; i++) printf(" %u", (unsigned)numbers[i]);
+}
+
+static void sizes(void) {
+    hdt_sizes_out out = { { 0 }, { 0 }, { 0 }, { 0 }, 0 };
+    if (hdt_sizes(&host, &out) != HDT_OK) { said("sizes", HDT_CLOSED); return; }
+    printf("  sizes:");
+    numbers_of("objects", out.objects, 3);
+    numbers_of("cells", out.cells, 3);
+    numbers_of("regions", out.regions, 3);
+    numbers_of("free", out.free_slots, 7);
+    numbers_of("idle", &out.idle_slots, 1);
+    puts("");
+}
+
 static void last(void) {
     hdt_change out = { 0, 0, 0, 0, 0 };
     if (hdt_last(&host, &out) != HDT_OK) said("last", HDT_CLOSED);
@@ -170,6 +187,12 @@ static void trim(hdt_kind kind) {
     gave_number("trim", status, given);
 }
 
+static void trim_all(void) {
+    uint32_t given = 0;
+    hdt_status status = hdt_trim_all(&host, &given);
+    gave_number("trim_all", status, given);
+}
+
 static void root_of(hdt_context c, hdt_local object) {
     hdt_root root = { 0, 0 };
     hdt_status status = hdt_root_of(&host, c, object, &root);
@@ -264,6 +287,40 @@ static void trimming(void) {
     handle_kind(second);
 }
 
+static void blocks(void) {
+    begin("blocks of every kind come back", 1000, 4);
+    object_new(0, 0, 0, 0);
+    hdt_handle dependent = handle_new(HDT_DEPENDENT, 0, HDT_LOCAL(0));
+    table_add(0, 0);
+    hdt_handle counted = handle_new(HDT_COUNTED, 0, 0);
+    last();
+    handle_new(HDT_STRONG, 0, 0);
+    trim(HDT_COUNTED);
+    handle_free(counted);
+    trim(HDT_COUNTED);
+    last();
+    trim(HDT_DEPENDENT);
+    table_remove(0);
+    trim(HDT_DEPENDENT);
+    handle_free(dependent);
+    handle_new(HDT_STRONG, 0, 0);
+    trim_all();
+    last();
+    stats();
+    handle_get(1, dependent);
+    /* The same slots, of other kinds; and the weak table takes a block of its own again. */
+    hdt_handle pinned = handle_new(HDT_PINNED, 0, 0);
+    last();
+    table_add(0, 0);
+    last();
+    trim_all();
+    handle_free(pinned);
+    table_remove(0);
+    trim(7);
+    trim_all();
+    stats();
+}
+
 static void numbers(void) {
     begin("numbers that no handle has are stale", 1000, 1);
     object_new(0, 0, 0, 0);
@@ -272,6 +329,28 @@ static void numbers(void) {
     handle_get(1, 65);
     handle_get(1, (1u << 24) - 1);
     handle_get(1, UINT64_MAX);
+}
+
+static void generations(void) {
+    begin("what a host has of each generation, and what is free", 1000, 8);
+    sizes();
+    object_new(0, 0, 2, 0);
+    object_new(0, 1, 0, 0);
+    sizes();
+    collect(0);
+    object_new(0, 2, 61, 0);
+    sizes();
+    hdt_handle strong = handle_new(HDT_STRONG, 0, 0);
+    handle_new(HDT_COUNTED, 0, 0);
+    table_add(0, 1);
+    sizes();
+    collect(1);
+    table_remove(0);
+    handle_free(strong);
+    sizes();
+    local_clear(0);
+    collect(2);
+    sizes();
 }
 
 static void objects(void) {
@@ -419,23 +498,46 @@ static void shared_ends(void) {
     for (int i = 0; i < 3; i++) hdt_close(&ends[i]);
 }
 
+/* ---- the limits of a host: each one more than the most is refused, and contexts of any number below theirs make objects */
+
+static void open_to(const char *what, uint32_t cells, uint32_t blocks, uint32_t contexts) {
+    hdt_limits limits = { cells, blocks, contexts };
+    hdt_close(&host);
+    said(what, hdt_open(&host, &limits));
+}
+
+static void most(void) {
+    puts("the limits of a host");
+    open_to("one cell more", HDT_MOST_CELLS + 1u, 1, 1);
+    open_to("one block more", 100, HDT_MOST_BLOCKS + 1, 1);
+    open_to("one context more", 100, 1, HDT_MOST_CONTEXTS + 1);
+    open_to("the most cells and contexts", HDT_MOST_CELLS, 300, HDT_MOST_CONTEXTS);
+    object_new(HDT_MOST_CONTEXTS - 1, 0, 0, 0);
+    object_new(HDT_MOST_CONTEXTS, 0, 0, 0);
+    collect(2);
+}
+
 int main(void) {
     printf("abi %u\n", (unsigned)hdt_abi());
     finalization();
     registration();
     staleness();
     trimming();
+    blocks();
     numbers();
+    generations();
     objects();
     kinds();
     table();
     pins();
     statics();
     shared_ends();
+    most();
     hdt_close(&host);
     hdt_close(&host);
     puts("closed");
     local_clear(0);
     stats();
+    sizes();
     return 0;
 }

@@ -2,10 +2,10 @@
 use Rattle.std.proofs.Common.{None, Option, Some, ap, arith, subst, sym, ℕ, ◌*◌, ◌+◌, ◌<◌, ◌∙◌, ◌≡◌}
 use Rattle.std.specs.Prelude.{Err, MatchResult, Ok, Result}
 use Rattle.hd_host.specs.declared.fault.Fault.{Fault}
-use Rattle.hd_host.specs.Turns.{HostTurn, IsContextOf}
+use Rattle.hd_host.specs.Turns.{HostTurn, IsContextOf, IsOwnContext}
 use Rattle.hd_host.specs.View.{HostView, IsAsItWas}
 use Rattle.hd_host.proofs.CallTurns.{turn_as_it_was}
-use Rattle.hd_ends.specs.Ends.{EndView, Leaves, MayLeave, SharerView, Takes, first_of}
+use Rattle.hd_ends.specs.Ends.{EndView, Leaves, MayLeave, SharerView, Takes, busied, first_of}
 use Rattle.hd_ends.specs.Opened.{contexts_of}
 use Rattle.hd_ends.specs.declared.end.End.{End}
 use Rattle.hd_ends.specs.declared.end.End.TheVariants.{Own, Shared}
@@ -89,12 +89,12 @@ module _ {Right : ℕ → Type 0} {Fails : (ℕ → ℕ) → HostView → Fault 
       (runs v w s (subst Right count right) did))
 
   pub was_busy : {o n : Option End} {e x : End} {u t : SharerView} {d : EndView} {count : ℕ} → Some e ≡ o → x ≡ e
-      → x ≡ Shared d → u.end ≡ d → t ≡ u → n ≡ Some (Shared t.end) → count ≡ u.end.each → Right count → Kept
-      → Comes Right Fails Does Kept o n BUSY
-  was_busy {o} {n} {u = u} some at is view same now count right kept =
+      → x ≡ Shared d → u.end ≡ d → t ≡ record u { end = busied u.end } → n ≡ Some (Shared t.end)
+      → count ≡ u.end.each → Right count → Kept → Comes Right Fails Does Kept o n BUSY
+  was_busy {o} {n} {u = u} some at is view looked now count right kept =
       subst (λ x. Comes Right Fails Does Kept x n BUSY) (sym (was_shared some at is view))
       (subst (λ x. Comes Right Fails Does Kept (Some (Shared u.end)) x BUSY)
-      (sym (now ∙ ap (λ (x : SharerView). Some (Shared x.end)) same))
+      (sym (now ∙ ap (λ (x : SharerView). Some (Shared x.end)) looked))
       (busy u.end (subst Right count right) kept))
 
   -- it ran at the end's turn, in the host that it took
@@ -127,6 +127,15 @@ leaves_by {u} {leaves = leaves} takes same turn =
 pub own_context : (each number : ℕ) {first c count : ℕ} → first ≡ number * each → count ≡ each → c < count
     → IsContextOf each number (first + c)
 own_context each number is count low = (omega (arith, is), omega (arith, is, count, low))
+
+-- which the host that it took has
+pub own_context_in : {u t : SharerView} {taken v : HostView} {first c count : ℕ} → Takes u t taken → v ≡ taken
+    → first ≡ first_of u.end → count ≡ u.end.each → c < count
+    → IsOwnContext u.end.each u.end.number v (first + c)
+own_context_in {v = v} takes same is count low =
+    let known : v.machine.numbers.callers ≡ takes.found.machine.numbers.callers =
+    ap (λ (h : HostView). h.machine.numbers.callers) (same ∙ takes.taken_is) in
+    (own_context _ _ is count low, omega (arith, is, count, low, takes.contexts, known))
 
 module _ {limits : Limits} {o n : Option End} where
   pub already : {e : End} → o ≡ Some e → n ≡ Some e → Opens limits o n IS_OPEN

@@ -56,4 +56,9 @@ numbers_are_these = record {
   flags = record {
     finalizable = refl;
   };
+  limits = record {
+    cells = refl;
+    blocks = refl;
+    contexts = refl;
+  };
 }

@@ -1,6 +1,6 @@
 pub mod Comings
 pub mod Listings
 pub mod Makes
-pub mod HeldBoxes
+pub mod WideTurns
 pub mod HeaderNumbers
 pub mod SharedOpenings

@@ -1,13 +1,13 @@
 -- What is made of the numbers of a kind and an extra.
 use Rattle.std.proofs.Common.{None, Option, Some, ap, arith, option_map, refl, subst, sym, ℕ, ◌<◌, ◌∙◌, ◌≡◌, ◌≤◌}
 use Rattle.std.proofs.lemmas.Option.{none-some, same_Some}
-use Rattle.std.specs.Prelude.{MatchOption, nat_lt}
+use Rattle.std.specs.Prelude.{MatchOption}
 use Rattle.hd_model.specs.declared.data.{Kind.Kind, Make.Make, Strength.Strength}
 use Rattle.hd_model.specs.declared.data.Kind.TheVariants as kind
 use Rattle.hd_model.specs.declared.data.Make.TheVariants as make
 use Rattle.hd_model.specs.declared.data.Id.{Id}
 use Rattle.hd_model.specs.declared.data.Strength.TheVariants as strength
-use Rattle.hd_model.specs.Kinds.{is_paired, kind_number}
+use Rattle.hd_model.specs.Kinds.{kind_number}
 use Rattle.hd_model.specs.State.{Handle}
 use Rattle.hdt_c.specs.Arguments.{IsMake, counted, dependent, long, pinned, short, strength_number, strong, variable}
 
@@ -59,19 +59,6 @@ few_kinds kind.Pinned = omega arith
 few_kinds kind.Variable = omega arith
 few_kinds kind.Counted = omega arith
 few_kinds kind.Dependent = omega arith
-
-paired_number : (k : Kind) → nat_lt 3 (kind_number k) ≡ is_paired k
-paired_number kind.Short = refl
-paired_number kind.Long = refl
-paired_number kind.Strong = refl
-paired_number kind.Pinned = refl
-paired_number kind.Variable = refl
-paired_number kind.Counted = refl
-paired_number kind.Dependent = refl
-
--- kinds with one number are both paired or both not
-pub same_paired : (j k : Kind) → kind_number j ≡ kind_number k → is_paired j ≡ is_paired k
-same_paired j k same = sym (paired_number j) ∙ ap (nat_lt 3) same ∙ paired_number k
 
 -- the kind of a handle by its number
 pub kind_at : (o : Option (Handle Id)) (k : Kind) (n : ℕ) → option_map (λ (h : Handle Id). h.kind) o ≡ Some k

@@ -9,7 +9,7 @@ use Rattle.hd_ends.specs.Ends.{EndView, ends_up}
 use Rattle.hd_ends.specs.declared.end.End.{End}
 use Rattle.hd_ends.specs.declared.end.End.TheVariants.{Shared}
 use Rattle.hdt_c.specs.Outs.{AreOfEnds, IsOpened, OpensShared, RefusesShared, one_is_open, opens_all, refuses_all, values_of}
-use Rattle.hdt_c.specs.declared.held.Held.{Held}
+use Rattle.hd_held.specs.declared.held.Held.{Held}
 use Rattle.hdt_c.specs.declared.parts.Limits.{Limits}
 use Rattle.hdt_c.specs.declared.status.TheConstants.{IS_OPEN, OK}
 

@@ -1,10 +1,10 @@
 -- What an export comes to, by its status.
-use Rattle.std.specs.Prelude.{◌≡◌, ℕ, ◌+◌, ◌<◌, ◌≤◌, false, Option, Some, None}
-use Rattle.hd_model.specs.{declared.command.Cmd.Cmd, declared.data.Id.Id, declared.data.Kind.Kind, declared.data.Make.Make, declared.data.Reply.Reply, declared.data.Strength.Strength, Command.load_reply, Kinds.is_paired, Kinds.kind_number}
+use Rattle.std.specs.Prelude.{◌≡◌, ℕ, ◌+◌, ◌<◌, ◌≤◌, Option, Some, None}
+use Rattle.hd_model.specs.{declared.command.Cmd.Cmd, declared.data.Id.Id, declared.data.Kind.Kind, declared.data.Make.Make, declared.data.Reply.Reply, declared.data.Strength.Strength, Command.load_reply, Kinds.kind_number}
 use Rattle.hd_host.specs.declared.fault.Fault.{Fault}
 use Rattle.hd_host.specs.Calls.{FailsBy, FailsOf, HasReplied, RepliesOf}
 use Rattle.hd_host.specs.View.{HostView, IsAsItWas}
-use Rattle.hd_ends.specs.{Ends.EndView, Ends.TookTurn, Ends.first_of, Ends.with_last, Opened.contexts_of}
+use Rattle.hd_ends.specs.{Ends.EndView, Ends.TookTurn, Ends.busied, Ends.first_of, Ends.with_last, Opened.contexts_of}
 use Rattle.hd_ends.specs.declared.end.End.{End}
 use Rattle.hd_ends.specs.declared.end.End.TheVariants.{Own, Shared}
 use Rattle.hdt_c.specs.{Arguments.IsMake, Arguments.number_of, Arguments.strength_number, Status.status_of}
@@ -18,10 +18,11 @@ pub data Runs (Fails : HostView → Fault → Type 0) (Does : HostView → HostV
       → Runs Fails Does Kept v w (status_of f)
   does : (v w : HostView) (status : ℕ) → Does v w status → Runs Fails Does Kept v w status
 
--- What an export comes to, at an end of a host of its own and at one of a shared host. Right says, of how many
--- contexts the end has, that the arguments are in range. Fails and Does are said by which context of the host each
--- of the end's is: the same where the host is its own. An end of a shared host may be busy, with nothing done; or it
--- has its turn, and the call runs in the host that the last turn of all left.
+-- What an export comes to, at an end of a host of its own and at one of a shared host. Right says, of how
+-- many contexts the end has, that the arguments are in range. Fails and Does are said by which context of
+-- the host each of the end's is: the same where the host is its own. An end of a shared host may be busy,
+-- once all looks that a call makes were in vain, with nothing done; or it has its turn, and the call runs
+-- in the host that the last turn of all left.
 module _ (Right : ℕ → Type 0) (Fails : (ℕ → ℕ) → HostView → Fault → Type 0)
     (Does : (ℕ → ℕ) → HostView → HostView → ℕ → Type 0) (Kept : Type 0) where
   pub data Comes : Option End → Option End → ℕ → Type 0 where
@@ -29,7 +30,7 @@ module _ (Right : ℕ → Type 0) (Fails : (ℕ → ℕ) → HostView → Fault 
     is_wrong : (e : End) → (Right (contexts_of e) → ⊥) → Kept → Comes (Some e) (Some e) ARGUMENT
     runs : (v w : HostView) (status : ℕ) → Right v.machine.numbers.callers
         → Runs (Fails (λ c. c)) (Does (λ c. c)) Kept v w status → Comes (Some (Own v)) (Some (Own w)) status
-    busy : (e : EndView) → Right e.each → Kept → Comes (Some (Shared e)) (Some (Shared e)) BUSY
+    busy : (e : EndView) → Right e.each → Kept → Comes (Some (Shared e)) (Some (Shared (busied e))) BUSY
     turned : (old new : EndView) (found leaves : HostView) (status : ℕ) → Right old.each
         → TookTurn old new found leaves
         → Runs (Fails (λ c. first_of old + c)) (Does (λ c. first_of old + c)) Kept (with_last found old.last) leaves
@@ -56,7 +57,7 @@ HasLocal c d contexts = (c < contexts) × IsLocal d
 abbrev pub HasLocals : ℕ → ℕ → ℕ → ℕ → Type 0
 HasLocals c d e contexts = (c < contexts) × IsLocal d × IsLocal e
 
--- the arguments of a new object and of a new handle, a strength, and a kind that has no extra block
+-- the arguments of a new object and of a new handle, a strength, and a kind
 abbrev pub IsObject : ℕ → ℕ → ℕ → ℕ → ℕ → Type 0
 IsObject c dst fields flags contexts = HasLocal c dst contexts × (fields ≤ 61) × (flags < 2)
 
@@ -67,8 +68,8 @@ IsNewHandle c kind target extra contexts =
 abbrev pub IsStrength : ℕ → Type 0
 IsStrength number = (given : Strength) × (strength_number given ≡ number)
 
-abbrev pub IsUnpaired : ℕ → Type 0
-IsUnpaired number = (of : Kind) × (kind_number of ≡ number) × (is_paired of ≡ false)
+abbrev pub IsKind : ℕ → Type 0
+IsKind number = (of : Kind) × (kind_number of ≡ number)
 
 -- a command of a context fails, and one on a handle does
 abbrev pub FailsIn : ℕ → Cmd → HostView → Fault → Type 0

@@ -1,7 +1,8 @@
 -- What the clauses of exports cite.
-pub mod Held
 pub mod Status
 pub mod Arguments
 pub mod Exports
 pub mod Outs
+pub mod Wide
 pub mod Numbers
+pub mod Sizes

@@ -2,6 +2,7 @@
 use Rattle.std.specs.Prelude.{◌≡◌, ℕ, ◌==◌, ◌&&◌, Bool, true, not, List, [], ◌∷◌, map}
 use Rattle.std.specs.List.{list_any}
 use Rattle.hd_model.specs.Kinds.{all_kinds, kind_number}
+use Rattle.hd_model.specs.declared.limits.TheConstants.{HOST_HEAP, HOST_BLOCKS, HOST_CONTEXTS}
 use Rattle.hd_model.specs.declared.data.Kind.TheVariants as kind
 use Rattle.hd_model.specs.declared.data.Strength.TheVariants as strength
 use Rattle.hd_host.specs.declared.fault.Fault.TheVariants as fault
@@ -75,6 +76,12 @@ pub record StrengthsAreThese : Type 0 where
 pub record FlagsAreThese : Type 0 where
   pub finalizable : FINALIZABLE ≡ 1
 
+-- the most cells, blocks and contexts of a host
+pub record LimitsAreThese : Type 0 where
+  pub cells : HOST_HEAP ≡ 1073741824
+  pub blocks : HOST_BLOCKS ≡ 65536
+  pub contexts : HOST_CONTEXTS ≡ 65536
+
 pub record NumbersAreThese : Type 0 where
   pub version : ABI ≡ 2
   pub statuses : StatusesAreThese
@@ -82,3 +89,4 @@ pub record NumbersAreThese : Type 0 where
   pub kinds : KindsAreThese
   pub strengths : StrengthsAreThese
   pub flags : FlagsAreThese
+  pub limits : LimitsAreThese

@@ -1,13 +1,13 @@
 -- What lies at out parameters after an export.
-use Rattle.std.specs.Prelude.{[], ◌∷◌, ◌≡◌, ℕ, ◌+◌, ◌*◌, ◌≤◌, ◌⊎◌, List, ◌++◌, drop, length, map, replicate, Option, Some, None, IsSome}
+use Rattle.std.specs.Prelude.{[], ◌∷◌, ◌≡◌, ℕ, ◌+◌, ◌*◌, ◌≤◌, ◌⊎◌, ◌==◌, List, ◌++◌, drop, length, map, replicate, Option, Some, None}
 use Rattle.std.specs.List.{Contains}
 use Rattle.atomic_table.specs.Seated.{TableId}
 use Rattle.std.specs.FinMap.{len}
-use Rattle.hd_model.specs.{Kinds.kind_number, declared.data.Id.Id, declared.data.Report.Report as Collected, declared.data.Slot.Slot}
+use Rattle.hd_model.specs.{Kinds.kind_number, declared.data.Id.Id, declared.data.Report.Report as Collected}
 use Rattle.hd_model.specs.declared.limits.TheConstants.{CLUMPS, OLDEST, ROWS}
-use Rattle.hd_model.specs.State.{Numbers, given_of, handle_at, start_of, total_size}
+use Rattle.hd_model.specs.State.{Numbers, given_of, start_of, total_size}
 use Rattle.hd_store.specs.Offers.{HasLimits}
-use Rattle.hd_host.specs.{Changes.no_change, Handles.IsNextFrom, View.HostView}
+use Rattle.hd_host.specs.{Changes.no_change, Handles.HasNoneFrom, Handles.IsNextFrom, Kinds.HasNoneOf, Kinds.IsListedOf, View.HostView}
 use Rattle.hd_store.specs.declared.collection_calls.Root.{Root as HostRoot}
 use Rattle.hd_host.specs.declared.observing.Listed.{Listed}
 use Rattle.hd_store.specs.declared.entry_calls.Lookup.{Lookup}
@@ -16,7 +16,7 @@ use Rattle.hd_ends.specs.Ends.{EndView, ends_up, turn_of}
 use Rattle.hd_ends.specs.declared.end.End.{End}
 use Rattle.hd_ends.specs.declared.end.End.TheVariants.{Own, Shared}
 use Rattle.hdt_c.specs.Arguments.{change_out, extra_number, number_of}
-use Rattle.hdt_c.specs.declared.held.Held.{Held}
+use Rattle.hd_held.specs.declared.held.Held.{Held}
 use Rattle.hdt_c.specs.declared.parts.{Change.Change, Info.Info, Limits.Limits, Report.Report, Root.Root, Stats.Stats}
 use Rattle.hdt_c.specs.declared.status.TheConstants.{OK, CLOSED, IS_OPEN, ARGUMENT, NO_MEMORY, NONE}
 
@@ -127,18 +127,29 @@ info_of l = record {
 }
 
 -- live handles from a slot on, by rising slot: each is the next one from the one before; and where to go on
-pub data ListsFrom (v : HostView) : ℕ → List Listed → ℕ → Type 0 where
-  nothing_left : (from : ℕ) → ((slot : Slot) → from ≤ slot.0 → IsSome (handle_at v.machine.state slot) → ⊥)
-      → ListsFrom v from [] 0
-  no_room : (from : ℕ) (next : Listed) → IsNextFrom v from next → ListsFrom v from [] next.slot.0
-  listed : (from : ℕ) (l : Listed) (ls : List Listed) (next : ℕ) → IsNextFrom v from l
-      → ListsFrom v (l.slot.0 + 1) ls next → ListsFrom v from (l ∷ ls) next
+module _ (Next : ℕ → Listed → Type 0) (NoneFrom : ℕ → Type 0) where
+  pub data ListsFrom : ℕ → List Listed → ℕ → Type 0 where
+    nothing_left : (from : ℕ) → NoneFrom from → ListsFrom from [] 0
+    no_room : (from : ℕ) (next : Listed) → Next from next → ListsFrom from [] next.slot.0
+    listed : (from : ℕ) (l : Listed) (ls : List Listed) (next : ℕ) → Next from l
+        → ListsFrom (l.slot.0 + 1) ls next → ListsFrom from (l ∷ ls) next
 
--- an array has them first, as many as are left or as have room, and is as it was behind them
-pub record AreListed (v : HostView) (from : ℕ) (old new : List Info) (count next : ℕ) : Type 0 where
-  pub listed : List Listed
-  pub lists : ListsFrom v from listed next
-  pub count_is : count ≡ length listed
-  pub room : count ≤ length old
-  pub full : (next ≡ 0 → ⊥) → count ≡ length old
-  pub items : new ≡ map info_of listed ++ drop count old
+  -- an array has them first, as many as are left or as have room, and is as it was behind them
+  pub record AreListed (from : ℕ) (old new : List Info) (count next : ℕ) : Type 0 where
+    pub listed : List Listed
+    pub lists : ListsFrom from listed next
+    pub count_is : count ≡ length listed
+    pub room : count ≤ length old
+    pub full : (next ≡ 0 → ⊥) → count ≡ length old
+    pub items : new ≡ map info_of listed ++ drop count old
+
+-- a call lists all live handles, or those of some kinds, with null targets where those alone are asked for
+abbrev pub Lists : (from : ℕ) (old new : List Info) (count next : ℕ) → HostView → HostView → ℕ → Type 0
+Lists from old new count next v w status =
+    (w ≡ v) × (status ≡ OK) × AreListed (IsNextFrom v) (HasNoneFrom v) from old new count next
+
+abbrev pub ListsOf : (kinds cleared from : ℕ) (old new : List Info) (count next : ℕ)
+    → HostView → HostView → ℕ → Type 0
+ListsOf kinds cleared from old new count next v w status =
+    let null = cleared == 1 in (w ≡ v) × (status ≡ OK)
+    × AreListed (IsListedOf v kinds null) (HasNoneOf v.machine.state kinds null) from old new count next

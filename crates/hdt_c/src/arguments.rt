@@ -4,7 +4,8 @@ ghost use Rattle.std.specs.Bool.{OnFalse, OnTrue};
 ghost use Rattle.hd_model.specs.declared.data.Make.{Make};
 ghost use Rattle.hd_model.specs.Kinds.{kind_number};
 ghost use Rattle.hd_model.specs.Valid.{IsValidMake};
-ghost use Rattle.hdt_c.specs.Exports.{HasLocal, HasLocals, IsNewHandle, IsObject, IsStrength, IsUnpaired};
+ghost use Rattle.hdt_c.specs.Exports.{HasLocal, HasLocals, IsNewHandle, IsObject, IsStrength, IsKind};
+ghost use Rattle.hdt_c.specs.Wide.{AreKinds, AreLocals, HasAll, HasBoth, HasContext, HasRange, IsFilled};
 ghost use Rattle.hdt_c.specs.Arguments.{IsMake, block_number, change_out, extra_number, field_number, number_of, strength_number};
 
 use crate::parts::Change;
@@ -15,7 +16,11 @@ use hd_model::{Id, Kind, Make, Strength};
 /// The flag of an object that is registered for finalization.
 pub(crate) const FINALIZABLE: u32 = 1;
 
+// The kinds without extra data have the numbers below this one.
+const PLAIN: u32 = 4;
+
 // The number of a register of a secondary.
+#[inline(always)]
 fn local(number: u32) -> Option<u8>
     ensures { MatchOption result (REGISTERS ≤ number) (λ d. (d ≡ number) × (d < REGISTERS)) }
 {
@@ -45,6 +50,7 @@ pub(crate) fn has_locals(contexts: u32, c: u32, one: u32, other: u32) -> bool
 }
 
 /// Whether an object may be made: a context has the local, and the numbers are in range.
+#[inline(always)]
 pub(crate) fn is_object(contexts: u32, c: u32, dst: u32, fields: u32, flags: u32) -> bool
     ensures yes { OnTrue result (IsObject c dst fields flags contexts) }
     ensures no { OnFalse result (IsObject c dst fields flags contexts → ⊥) }
@@ -52,7 +58,77 @@ pub(crate) fn is_object(contexts: u32, c: u32, dst: u32, fields: u32, flags: u32
     has_local(contexts, c, dst) && fields <= FIELDS && flags <= FINALIZABLE
 }
 
+/// The mask of all kinds.
+pub(crate) const ALL_KINDS: u32 = 127;
+
+/// Whether a mask is one of kinds, and whether a number says yes or no.
+pub(crate) fn are_kinds(kinds: u32, cleared: u32) -> bool
+    ensures yes { OnTrue result (AreKinds kinds cleared) }
+    ensures no { OnFalse result (AreKinds kinds cleared → ⊥) }
+{
+    1 <= kinds && kinds <= ALL_KINDS && cleared <= 1
+}
+
+/// Whether there is a context, and room for all its locals.
+pub(crate) fn has_all(contexts: u32, c: u32, room: usize) -> bool
+    ensures yes { OnTrue result (HasAll c room contexts) }
+    ensures no { OnFalse result (HasAll c room contexts → ⊥) }
+{
+    c < contexts && room == REGISTERS as usize
+}
+
+/// Whether there is a context.
+pub(crate) fn has_context(contexts: u32, c: u32) -> bool
+    ensures yes { OnTrue result (HasContext c contexts) }
+    ensures no { OnFalse result (HasContext c contexts → ⊥) }
+{
+    c < contexts
+}
+
+/// Whether each of two contexts has a local.
+#[inline(always)]
+pub(crate) fn has_both(contexts: u32, to: u32, from: u32, dst: u32, src: u32) -> bool
+    ensures yes { OnTrue result (HasBoth to from dst src contexts) }
+    ensures no { OnFalse result (HasBoth to from dst src contexts → ⊥) }
+{
+    has_local(contexts, to, dst) && has_local(contexts, from, src)
+}
+
+/// Whether a context has so many locals from one on.
+#[inline(always)]
+pub(crate) fn has_range(contexts: u32, c: u32, first: u32, n: u32) -> bool
+    ensures yes { OnTrue result (HasRange c first n contexts) }
+    ensures no { OnFalse result (HasRange c first n contexts → ⊥) }
+{
+    c < contexts && first <= REGISTERS && n <= REGISTERS - first
+}
+
+// Whether each is the number of a local.
+fn are_locals(src: &[u32]) -> bool
+    ensures yes { OnTrue result (AreLocals src.now) }
+    ensures no { OnFalse result (AreLocals src.now → ⊥) }
+{
+    for i in 0..src.len() {
+        if src[i] >= REGISTERS {
+            return false;
+        }
+    }
+    true
+}
+
+/// Whether an object may be made with its fields: each of them is a local too.
+pub(crate) fn is_filled(contexts: u32, c: u32, dst: u32, flags: u32, src: &[u32]) -> bool
+    ensures yes { OnTrue result (IsFilled c dst flags src.now contexts) }
+    ensures no { OnFalse result (IsFilled c dst flags src.now contexts → ⊥) }
+{
+    has_local(contexts, c, dst)
+        && flags <= FINALIZABLE
+        && src.len() <= FIELDS as usize
+        && are_locals(src)
+}
+
 /// Whether a handle may be made: a context has the local, and the kind takes the extra.
+#[inline(always)]
 pub(crate) fn is_new_handle(contexts: u32, c: u32, kind: u32, target: u32, extra: u32) -> bool
     ensures yes { OnTrue result (IsNewHandle c kind target extra contexts) }
     ensures no { OnFalse result (IsNewHandle c kind target extra contexts → ⊥) }
@@ -76,6 +152,7 @@ pub(crate) fn is_generation(number: u32) -> bool
 }
 
 /// A kind.
+#[inline(always)]
 pub(crate) fn kind_of(number: u32) -> Option<Kind>
     ensures { MatchOption result (6 < number) (λ k. kind_number k ≡ number) }
 {
@@ -98,18 +175,16 @@ pub(crate) fn number_of_kind(kind: Kind) -> u32
     kind.number()
 }
 
-/// Whether it is the number of a kind that has no extra block.
-pub(crate) fn is_unpaired(number: u32) -> bool
-    ensures yes { OnTrue result (IsUnpaired number) }
-    ensures no { OnFalse result (IsUnpaired number → ⊥) }
+/// Whether it is the number of a kind.
+pub(crate) fn is_kind(number: u32) -> bool
+    ensures yes { OnTrue result (IsKind number) }
+    ensures no { OnFalse result (IsKind number → ⊥) }
 {
-    match kind_of(number) {
-        Some(kind) => !kind.paired(),
-        None => false,
-    }
+    kind_of(number).is_some()
 }
 
 /// A strength.
+#[inline(always)]
 pub(crate) fn strength_of(number: u32) -> Option<Strength>
     ensures { MatchOption result (3 < number) (λ s. strength_number s ≡ number) }
 {
@@ -143,11 +218,16 @@ fn number_of_strength(strength: Strength) -> u32
 }
 
 /// What is made of a kind with an extra.
+#[inline(always)]
 pub(crate) fn make(number: u32, extra: u32) -> Option<Make>
     ensures made { MatchOption result ((made : Make) → IsMake made number extra → ⊥)
         (λ made. IsMake made number extra) }
     ensures valid { IfSome result IsValidMake }
 {
+    // First what is made most, without a table of jumps.
+    if extra == 0 && number < PLAIN {
+        return Some(plain(number));
+    }
     match kind_of(number)? {
         Kind::Variable => Some(Make::Variable(strength_of(extra)?)),
         Kind::Dependent => Some(Make::Dependent(local(extra)?)),
@@ -159,7 +239,23 @@ pub(crate) fn make(number: u32, extra: u32) -> Option<Make>
     }
 }
 
+// What is made of the number of a kind without extra data.
+#[inline(always)]
+fn plain(number: u32) -> Make
+    requires { number < PLAIN }
+    ensures made { IsMake result number 0 }
+    ensures valid { IsValidMake result }
+{
+    match number {
+        0 => Make::Short,
+        1 => Make::Long,
+        2 => Make::Strong,
+        _ => Make::Pinned,
+    }
+}
+
 // What is made where the extra is 0.
+#[inline(always)]
 fn without_extra(make: Make, extra: u32) -> Option<Make>
     ensures { MatchOption result (extra ≡ 0 → ⊥) (λ made. (made ≡ make) × (extra ≡ 0)) }
 {

@@ -1,5 +1,5 @@
 // The exports on handles.
-ghost use Rattle.std.specs.Prelude.{◌≡◌, [], Some, None, option_map};
+ghost use Rattle.std.specs.Prelude.{◌≡◌, Some, option_map};
 ghost use Rattle.hd_model.specs.{declared.data.Make.Make, declared.data.Slot.Slot, declared.data.Strength.Strength, Kinds.kind_number, State.handle_at};
 ghost use Rattle.hd_model.specs.declared.command.Cmd.TheVariants as cmd;
 ghost use Rattle.hd_model.specs.declared.data.Reply.TheVariants as reply;
@@ -7,20 +7,18 @@ ghost use Rattle.hd_host.specs.declared.fault.Fault.TheVariants.{Stale};
 ghost use Rattle.hd_host.specs.Handles.{IsOf, IsStale};
 ghost use Rattle.hd_host.specs.Calls.{FreesHandle, MakesHandle};
 ghost use Rattle.hdt_c.specs.Arguments.{IsMake, number_of, strength_number};
-ghost use Rattle.hdt_c.specs.Exports.{Comes, Runs, KeepsNothing, NeverFails, AlwaysRight, IsNewHandle, IsStrength, HasLocal, FailsIn, FailsAt, RepliesAt, LoadsAt};
-ghost use Rattle.hdt_c.specs.Outs.{AreListed, ListsFrom};
+ghost use Rattle.hdt_c.specs.Exports.{Comes, Runs, KeepsNothing, AlwaysRight, IsNewHandle, IsStrength, HasLocal, FailsIn, FailsAt, RepliesAt, LoadsAt};
 
 use crate::arguments::{
-    has_local, is_new_handle, is_strength, make, number_of, number_of_extra, number_of_kind,
-    strength_of,
+    has_local, is_new_handle, is_strength, make, number_of, number_of_kind, strength_of,
 };
 use crate::held::{Held, on_open};
 use crate::own::on_own;
-use crate::parts::Info;
 use crate::status::{OK, status, status_of};
 use hd_host::{Handle, Host};
 use std::alloc::Global;
 
+#[inline(always)]
 fn handle_new(host: &mut Host, c: u32, kind: u32, target: u32, extra: u32, out: &mut u64) -> u32
     requires { IsNewHandle c kind target extra host.old.machine.numbers.callers }
     ensures { Runs (λ v f. (made : Make) × IsMake made kind extra ×
@@ -82,6 +80,7 @@ fn handle_new_shared(
         if is_new_handle(kind, target, extra))
 }
 
+#[inline(always)]
 fn handle_free(host: &mut Host, handle: u64) -> u32
     ensures { let command = cmd.HFree 0 in
         Runs (FailsAt 0 handle command)
@@ -113,6 +112,7 @@ fn handle_free_shared(alloc: Global, host: &mut Held, handle: u64) -> u32
     on_open!(alloc, host, handle_free(handle))
 }
 
+#[inline(always)]
 fn handle_get(host: &mut Host, c: u32, handle: u64, dst: u32, id: &mut u64) -> u32
     requires { HasLocal c dst host.old.machine.numbers.callers }
     ensures { let command = cmd.HGet dst 0 in
@@ -157,6 +157,7 @@ fn get_shared(alloc: Global, host: &mut Held, c: u32, handle: u64, dst: u32, id:
     on_open!(alloc, host, in c, handle_get(handle, dst, id) if has_local(dst))
 }
 
+#[inline(always)]
 fn handle_set(host: &mut Host, c: u32, handle: u64, src: u32) -> u32
     requires { HasLocal c src host.old.machine.numbers.callers }
     ensures { let command = cmd.HSet 0 src in
@@ -396,57 +397,4 @@ pub extern "C" fn hdt_address(alloc: Global, host: &mut Held, handle: u64, cell:
         host.old.value host.new.value result }
 {
     on_open!(alloc, host, address(handle, cell))
-}
-
-// Lists the live handles from a slot on.
-fn handles(host: &mut Host, from: u32, out: &mut [Info], count: &mut usize, next: &mut u32) -> u32
-    ensures { Runs NeverFails (λ v w s. (w ≡ v) × (s ≡ OK) ×
-        AreListed v from out.old out.new count.new next.new) ((out.new ≡ out.old) ×
-        (count.new ≡ count.old) × (next.new ≡ next.old)) host.old host.new result }
-{
-    let mut at = from;
-    for i in 0..out.len() {
-        let Some(listed) = host.next_handle(at) else {
-            *count = i;
-            *next = 0;
-            return OK;
-        };
-        out[i] = Info {
-            handle: listed.handle.0,
-            target: number_of(listed.info.target),
-            kind: number_of_kind(listed.info.kind),
-            extra: number_of_extra(listed.info.extra),
-        };
-        at = listed.slot.0 + 1;
-    }
-    *count = out.len();
-    *next = slot_after(host, at);
-    OK
-}
-
-// The slot of the next live handle from one on, 0 where there is none.
-fn slot_after(host: &Host, at: u32) -> u32
-    ensures { ListsFrom host.now at [] result }
-{
-    match host.next_handle(at) {
-        Some(listed) => listed.slot.0,
-        None => 0,
-    }
-}
-
-/// `hdt_handles`.
-#[unsafe(no_mangle)]
-pub extern "C" fn hdt_handles(
-    alloc: Global,
-    host: &mut Held,
-    from: u32,
-    out: &mut [Info],
-    count: &mut usize,
-    next: &mut u32,
-) -> u32
-    ensures { Comes AlwaysRight (λ at. NeverFails) (λ at v w s. (w ≡ v) × (s ≡ OK) ×
-        AreListed v from out.old out.new count.new next.new) ((out.new ≡ out.old) ×
-        (count.new ≡ count.old) × (next.new ≡ next.old)) host.old.value host.new.value result }
-{
-    on_open!(alloc, host, handles(from, out, count, next))
 }

@@ -1,22 +1,21 @@
-// The exports on a host as a whole: it is opened and closed, collected and trimmed.
+// The exports on a host as a whole: it is opened, closed and collected.
 ghost use Rattle.std.specs.Prelude.{◌≡◌, ◌<◌, ◌≤◌, None, Some, IfOk, MatchResult};
-ghost use Rattle.hd_model.specs.{declared.data.Kind.Kind, Kinds.kind_number};
 ghost use Rattle.hd_model.specs.declared.command.Cmd.TheVariants as cmd;
 ghost use Rattle.hd_model.specs.declared.data.Reply.TheVariants as reply;
-ghost use Rattle.hd_host.specs.{Calls.Trims, View.HostView};
+ghost use Rattle.hd_host.specs.View.{HostView};
 ghost use Rattle.hd_commands.specs.Done.{queued_reply};
 ghost use Rattle.hd_store.specs.Offers.{HasLimits};
 ghost use Rattle.hd_ends.specs.declared.end.End.TheVariants.{Own as own};
-ghost use Rattle.hdt_c.specs.Exports.{Comes, Runs, NeverFails, AlwaysRight, HasLocal, IsUnpaired, FailsIn, Replies, Returns};
+ghost use Rattle.hdt_c.specs.Exports.{Comes, Runs, NeverFails, AlwaysRight, HasLocal, FailsIn, Replies, Returns};
 ghost use Rattle.hdt_c.specs.Outs.{IsFirst, IsOpened, Opens, Refuses, TellsLast, last_out, numbers_in, report_in, stats_of};
 
-use crate::arguments::{change, has_local, is_generation, is_unpaired, kind_of};
+use crate::arguments::{change, has_local, is_generation};
 use crate::held::{Held, on_open, put, take};
 use crate::parts::{Change, Limits, Report, Stats};
 use crate::status::{ARGUMENT, CLOSED, IS_OPEN, NO_MEMORY, NONE, OK, status_of};
 use hd_ends::End;
 use hd_host::Host;
-use hd_model::limits::{BLOCKS, CALLERS, HEAP};
+use hd_model::limits::{HOST_BLOCKS, HOST_CONTEXTS, HOST_HEAP};
 use std::alloc::Global;
 
 // The version of the interface.
@@ -70,10 +69,10 @@ pub(crate) fn new_host(alloc: Global, limits: &Limits) -> Result<Host, u32>
         blocks,
         contexts,
     } = *limits;
-    if cells < 3 || cells > HEAP || blocks < 1 || blocks > BLOCKS {
+    if cells < 3 || cells > HOST_HEAP || blocks < 1 || blocks > HOST_BLOCKS {
         return Err(ARGUMENT);
     }
-    if contexts < 1 || contexts > CALLERS {
+    if contexts < 1 || contexts > HOST_CONTEXTS {
         return Err(ARGUMENT);
     }
     let limits = hd_host::Limits {
@@ -213,26 +212,4 @@ pub extern "C" fn hdt_final_next(
         (id.new ≡ id.old) host.old.value host.new.value result }
 {
     on_open!(alloc, host, in c, final_next(dst, id) if has_local(dst))
-}
-
-fn trim(host: &mut Host, kind: u32, given: &mut u32) -> u32
-    requires { IsUnpaired kind }
-    ensures { Runs NeverFails (λ v w s. (of : Kind) × (kind_number of ≡ kind) ×
-        Trims v of given.new w × (s ≡ OK)) (given.new ≡ given.old) host.old host.new result }
-{
-    let Some(of) = kind_of(kind) else {
-        unreachable!()
-    };
-    *given = host.trim(of);
-    OK
-}
-
-/// `hdt_trim`.
-#[unsafe(no_mangle)]
-pub extern "C" fn hdt_trim(alloc: Global, host: &mut Held, kind: u32, given: &mut u32) -> u32
-    ensures { Comes (λ contexts. IsUnpaired kind) (λ at. NeverFails) (λ at v w s. (of : Kind) ×
-        (kind_number of ≡ kind) × Trims v of given.new w × (s ≡ OK)) (given.new ≡ given.old)
-        host.old.value host.new.value result }
-{
-    on_open!(alloc, host, trim(kind, given) if is_unpaired(kind))
 }

@@ -15,6 +15,7 @@ use crate::status::{NONE, OK, status, status_of};
 use hd_host::Host;
 use std::alloc::Global;
 
+#[inline(always)]
 fn object_new(host: &mut Host, c: u32, dst: u32, fields: u32, flags: u32, id: &mut u64) -> u32
     requires { IsObject c dst fields flags host.old.machine.numbers.callers }
     ensures { let command = cmd.New dst fields (flags == 1) in

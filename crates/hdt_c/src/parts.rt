@@ -42,6 +42,17 @@ pub struct Info {
     pub extra: u32,
 }
 
+/// `hdt_object_out`.
+#[repr(C)]
+#[derive(Clone, Copy)]
+pub struct Object {
+    pub id: u64,
+    pub value: u64,
+    pub fields: u32,
+    pub generation: u32,
+    pub finalizable: u32,
+}
+
 /// `hdt_root`.
 #[repr(C)]
 #[derive(Clone, Copy)]
@@ -59,4 +70,15 @@ pub struct Change {
     pub data_block: u32,
     pub given_back: u32,
     pub turn: u64,
+}
+
+/// `hdt_sizes_out`.
+#[repr(C)]
+#[derive(Clone, Copy)]
+pub struct Sizes {
+    pub objects: [u32; 3],
+    pub cells: [u32; 3],
+    pub regions: [u32; 3],
+    pub free_slots: [u32; 7],
+    pub idle_slots: u32,
 }

@@ -4,7 +4,7 @@ use Rattle.std.proofs.Math.Seq.{map-set_same}
 use Rattle.std.proofs.lemmas.List.{get_or-map, length-map}
 use Rattle.hd_ends.specs.declared.end.End.{End}
 use Rattle.hdt_c.specs.Outs.{values_of}
-use Rattle.hdt_c.specs.declared.held.Held.{Held}
+use Rattle.hd_held.specs.declared.held.Held.{Held}
 use Rattle.hd_ends.proofs.EndLists.{closed_is, none_open, open_at}
 use Rattle.hdt_c.proofs.SharedOpenings.{same_count}
 use Rattle.hdt_c.proofs.on_ends.any_open.Goals as goal

@@ -1,7 +1,7 @@
 use Rattle.std.proofs.Common.{None, Some, [], ap, append_assoc, arith, get_or, length, length-append, map, replicate, set, suc, sym, ◌++◌, ◌∙◌, ◌∷◌, ◌≡◌}
 use Rattle.std.proofs.Math.ListN.{get_or-map}
 use Rattle.std.proofs.lemmas.List.{map-append, map-set}
-use Rattle.hdt_c.specs.declared.held.Held.{Held}
+use Rattle.hd_held.specs.declared.held.Held.{Held}
 use Rattle.hd_ends.proofs.EndLists.{last_closed, put_last}
 use Rattle.hdt_c.proofs.on_ends.put_all.Goals as goal
 

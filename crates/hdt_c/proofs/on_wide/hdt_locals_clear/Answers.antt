@@ -1,0 +1,21 @@
+use Rattle.std.proofs.Common.{Some, ap, refl, sym, ◌∙◌}
+use Rattle.hdt_c.proofs.Comings.{ran_own, shut, went_on, wrong_own}
+use Rattle.hdt_c.proofs.on_wide.hdt_locals_clear.Goals as goal
+
+pub returns-in_default : goal.returns-in_default
+returns-in_default c = shut tt (sym c.in_default.ensures.value) c.take.ensures.closed refl
+
+pub returns-then-not-has_range : goal.returns-then-not-has_range
+returns-then-not-has_range c =
+    wrong_own c.in-Some.ensures.value c.deref_mut.ensures.value c.in-Own.is c.put.ensures
+    c.contexts.ensures.value c.if-not-has_range.ensures.no tt
+
+pub returns-else-not-has_range : goal.returns-else-not-has_range
+returns-else-not-has_range c =
+    ran_own c.in-Some.ensures.value c.deref_mut.ensures.value c.in-Own.is c.put-in-Own.ensures
+    c.contexts.ensures.value c.if-not-has_range.ensures.yes c.locals_clear-status.ensures
+
+pub returns-in-Shared : goal.returns-in-Shared
+returns-in-Shared c =
+    went_on (c.put-in-Shared.ensures ∙ ap Some c.deref_mut.ensures.value) c.in-Some.ensures.value
+    c.locals_clear_shared.ensures

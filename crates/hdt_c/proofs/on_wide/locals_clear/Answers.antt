@@ -1,0 +1,6 @@
+use Rattle.std.proofs.Common.{refl}
+use Rattle.hdt_c.specs.Exports.{does}
+use Rattle.hdt_c.proofs.on_wide.locals_clear.Goals as goal
+
+pub returns : goal.returns
+returns c = does c.args.host.now _ _ (c.locals_clear.ensures, refl)
