@@ -131,6 +131,33 @@ void use_table(hdt::Host &host) {
     std::printf("and one more: %d\n", got(frame.final_next(found)).has_value());
 }
 
+// Calls that do several things in a row, and two frames of different contexts.
+void use_rows(hdt::Host &host) {
+    hdt::Frame caller(host, 0), frame(host, 1);
+    hdt::Local result = caller.local(), key = frame.local(), made = frame.local(), found = frame.local();
+    std::uint32_t left = got(frame.left());
+    DO(frame.make_with(key, 5, {}));
+    DO(frame.make_with(made, 7, {key, made}, true));
+    std::printf("objects made: %u\n", left - got(frame.left()));
+    hdt::Loaded loaded = got(frame.get_with_value(found, made, 0));
+    std::printf("the field has the key: %d, of value %u\n", loaded.id == got(frame.id(key)), static_cast<unsigned>(loaded.value));
+    std::printf("the other field is null: %d\n", got(frame.get_with_value(found, made, 1)).id == 0);
+    hdt::ObjectInfo info = got(frame.info(made));
+    std::printf("value %u, %u fields, to be finalized: %u\n", static_cast<unsigned>(info.value), info.fields, info.finalizable);
+    DO(frame.put(key, key));
+    DO(frame.put(key, made));
+    std::printf("found: %d\n", got(frame.find(found, key)) == info.id);
+    hdt::Handle weak = got(frame.handle(hdt::Kind::weak_long, made)), none = got(frame.handle(hdt::Kind::weak_short, found));
+    std::printf("its value: %u\n", static_cast<unsigned>(got(frame.load_with_value(found, weak)).value));
+    std::printf("the handle's: %d\n", got(weak.id()) == info.id);
+    DO(caller.pass(result, frame, made));
+    std::printf("the caller has it: %d\n", got(caller.locals())[result.number] == info.id);
+    DO(frame.clear(found));
+    DO(frame.store(none, found));
+    for (const hdt::HandleInfo &one : host.handles({hdt::Kind::weak_short, hdt::Kind::weak_long}, true))
+        std::printf("null: kind %u\n", one.kind);
+}
+
 // Two ends of one host, as two threads have them. A handle goes from one to the other by its number.
 void use_ends() {
     std::vector<hdt::Host> ends = got(hdt::Host::open_shared(2, hdt::Limits{1000, 8, 2}));
@@ -158,12 +185,16 @@ int main() {
         hdt::Host elsewhere = std::move(host);
         use_kinds(elsewhere);
         use_table(elsewhere);
+        use_rows(elsewhere);
         hdt::Frame frame(elsewhere, 0);
         hdt::Local local = frame.local();
         DO(frame.make(local, 0));
         kept = got(frame.handle(hdt::Kind::strong, local));
         std::printf("blocks given back: %u\n", got(elsewhere.trim(hdt::Kind::weak_long)));
+        std::printf("blocks given back of all kinds: %u\n", got(elsewhere.trim_all()));
         std::printf("handles: %u\n", got(elsewhere.stats()).handles);
+        hdt::Sizes sizes = got(elsewhere.sizes());
+        std::printf("objects: %u young, %u older, %u old\n", sizes.objects[0], sizes.objects[1], sizes.objects[2]);
     }
     std::printf("after the end: %s\n", hdt::name(STATUS_OF(kept.kind())));
     use_ends();

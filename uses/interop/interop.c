@@ -5,7 +5,7 @@
 #include <stdio.h>
 #include <stdlib.h>
 
-enum { PEERS = 3, PEER_FIELDS = 1 };
+enum { PEERS = 3 };
 
 static hdt_host host = HDT_CLOSED_HOST;
 
@@ -37,8 +37,7 @@ static hdt_id wrap(unsigned number, hdt_local dst) {
     hdt_id id = 0;
     if (peer->wrapper != 0) check(hdt_handle_get(&host, 0, peer->wrapper, dst, &id), "wrapper");
     if (id != 0) return id;
-    check(hdt_object_new(&host, 0, dst, PEER_FIELDS, HDT_FINALIZABLE, &id), "a new wrapper");
-    check(hdt_value_set(&host, 0, dst, number), "its peer");
+    check(hdt_object_make(&host, 0, dst, HDT_FINALIZABLE, number, &dst, 0, &id), "a new wrapper");
     check(hdt_handle_new(&host, 0, HDT_WEAK_LONG, dst, 0, &peer->wrapper), "its handle");
     peer->references++;
     printf("%s is wrapped\n", peer->name);
@@ -90,12 +89,11 @@ static void callable_release(struct callable of) {
 static void callable_call(struct callable of) {
     hdt_id id;
     uint64_t value;
-    check(hdt_handle_get(&host, 0, of.handle, HDT_LOCAL(15), &id), "target");
+    check(hdt_handle_load(&host, 0, of.handle, HDT_LOCAL(15), &id, &value), "target");
     if (id == 0) {
         printf("it is gone\n");
         return;
     }
-    check(hdt_value_get(&host, 0, HDT_LOCAL(15), &value), "value");
     printf("object %u is called\n", (unsigned)value);
     check(hdt_local_clear(&host, 0, HDT_LOCAL(15)), "clear");
 }
@@ -123,8 +121,7 @@ static void collect(uint32_t generation) {
     for (unsigned number = 0; number < PEERS; number++) {
         struct peer *peer = &peers[number];
         if (peer->wrapper == 0) continue;
-        check(hdt_handle_get(&host, 0, peer->wrapper, HDT_LOCAL(15), &id), "wrapper");
-        check(hdt_local_clear(&host, 0, HDT_LOCAL(15)), "clear");
+        check(hdt_handle_id(&host, peer->wrapper, &id), "wrapper");
         if (id != 0) continue;
         check(hdt_handle_free(&host, peer->wrapper), "free");
         if (peer->sink != 0) check(hdt_handle_free(&host, peer->sink), "free");
@@ -135,8 +132,8 @@ static void collect(uint32_t generation) {
 
 static hdt_id make(hdt_local dst, uint64_t value) {
     hdt_id id;
-    check(hdt_object_new(&host, 0, dst, 1, 0, &id), "an object");
-    check(hdt_value_set(&host, 0, dst, value), "its value");
+    check(hdt_local_clear(&host, 0, dst), "clear");
+    check(hdt_object_make(&host, 0, dst, 0, value, &dst, 1, &id), "an object"); /* its field is null, as the local was */
     return id;
 }
 
@@ -209,6 +206,9 @@ int main(void) {
     hdt_stats_out stats;
     check(hdt_stats(&host, &stats), "stats");
     printf("each released once; %u handles, %u objects left\n", stats.handles, stats.objects);
+    uint32_t given;
+    check(hdt_trim_all(&host, &given), "trim");
+    printf("of %u blocks %u are given back\n", stats.blocks, given);
     hdt_close(&host);
     return 0;
 }

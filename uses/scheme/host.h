@@ -1,0 +1,427 @@
+/* The interpreter's memory, by hdt.h. A slot is a local of a context, as one number: 16 times the context, and the local. C has a
+ * word for each: an immediate value, and then the local means nothing; or the value of the object that the local references,
+ * whose low bits say what it is. Pairs, procedures, strings and symbols never change, so that word stays true; boxes and
+ * guardians are asked again. What an object has is immediate in its value as far as it fits there, and else in its fields.
+ *
+ * A procedure's places are slots of one context, from its base on; where the callee's do not fit beside its caller's they are in
+ * the next context. If that was the last one, what the oldest has goes into an object until it is returned to. */
+#include "hdt.h"
+enum { LOCALS = 16, NULL_LOCAL = 15, PLACES = 15 }; /* the last local of a context is null between calls */
+enum { OF_PAIR = 30, OF_PROCEDURE = 22, OF_ONE = 58 }; /* bits of an immediate in an object's value .. */
+enum { AT_CODE = 3, AT_CAPTURED = 19, SORT = 3, PAYLOAD = 6, AT_BYTES = 31, SPILLED = 0 }; /* .. and where they are; a static */
+enum sort { BOX, WRAPPED, GUARDIAN, GUARDED }; /* of OTHER: in the three bits above the tag */
+enum { YOUNG = 12000 }; /* so many objects later there is a collection: what follows is made where they were */
+
+/* A constant, or a global variable with its name: its handle is strong. */
+struct cell {
+    word now;
+    hdt_handle handle;
+    const char *name;
+};
+/* What goes with the handle in a slot of the table: a symbol's, which is weak long, so that one that a guardian gives back gets
+ * no twin; or from what is guarded to what is finalized in its place, which is dependent. */
+struct note {
+    hdt_handle handle;
+    char *name; /* of a symbol */
+    uint32_t next; /* symbol of its bucket, 0 at the end */
+};
+static hdt_host host = HDT_CLOSED_HOST;
+static struct {
+    uint32_t cells, blocks, contexts;
+    bool is_stressed; /* a collection before each object */
+} of_host = { 1000000, 64, 256, false };
+static const hdt_local none[1] = { NULL_LOCAL };
+static word *words;       /* by slot */
+static uint8_t *live;     /* by context that was left for the next: how many of its places are in use */
+static word (*spilled)[LOCALS]; /* words of contexts whose references are in an object */
+static size_t spilled_room;
+static uint32_t contexts; /* that procedures have; the next one is for work of the memory itself */
+static uint32_t context;  /* the present one, numbered on and on */
+static uint32_t oldest;   /* that is not spilled */
+static uint32_t newest, lowest; /* that were entered since dead places were cleared */
+static unsigned kept;     /* locals of the present context that a call is at work with */
+static struct note *notes;
+static uint32_t buckets[1024], symbol_count, young;
+
+static inline hdt_context context_of(slot at) { return at / LOCALS; }
+static inline hdt_local local_of(slot at) { return at % LOCALS; }
+static inline uint32_t note_of(hdt_handle handle) { return handle & 0xffffff; }
+static inline void must(hdt_status status, const char *what) { if (status != HDT_OK) fail(what, hdt_status_name(status)); }
+/* An immediate in so many bits, of which the low two say which; 0 for a reference, and where it does not fit. */
+static inline word packed(word it, unsigned bits) {
+    int64_t number = (int64_t)it >> TAG_BITS, most = (int64_t)1 << (bits > 3 ? bits - 3 : 0);
+    if (bits == 0 || is_reference(it) || number < -most || number >= most) return 0;
+    return ((word)number << 2 | (1 + tag_of(it))) & (((word)1 << bits) - 1);
+}
+static inline word unpacked(word part, unsigned bits) {
+    int64_t number = (int64_t)(part << (64 - bits)) >> (66 - bits);
+    return (word)number << TAG_BITS | ((part & 3) - 1);
+}
+static inline word other(enum sort sort, word payload) { return payload << PAYLOAD | (word)sort << SORT | OTHER; }
+static inline bool is_a(word it, enum sort sort) { return (it & ((1 << PAYLOAD) - 1)) == ((word)sort << SORT | OTHER); }
+/* The word of a slot whose local was just loaded with an object of this value. */
+static inline word word_of(uint64_t value) { return is_a(value, WRAPPED) ? unpacked(value >> PAYLOAD, OF_ONE) : value; }
+
+/* ---- collections */
+/* Clears the locals of a context that are no references of the program: all from `used` on, and those with an immediate. */
+static void clear_context(hdt_context c, unsigned used, unsigned at_work) {
+    for (unsigned at = 0, first = 0; at < LOCALS; at++) {
+        bool is_live = (at < used && is_reference(words[c * LOCALS + at])) || (at_work >> at & 1);
+        if (!is_live && at >= used) words[c * LOCALS + at] = 0;
+        if (!is_live && at < NULL_LOCAL) continue;
+        unsigned end = is_live ? at : LOCALS;
+        if (first < end) must(hdt_locals_clear(&host, c, first, end - first), "clear");
+        first = at + 1;
+    }
+}
+/* What the program cannot come to any more is in no local. Contexts below the lowest that was entered are as they were. */
+static void clear_dead(slot top) {
+    for (uint32_t one = lowest > oldest ? lowest : oldest; one < context; one++)
+        clear_context(one % contexts, live[one % contexts], 0);
+    clear_context(context % contexts, local_of(top), kept);
+    for (uint32_t one = context + 1; one <= newest && one < oldest + contexts; one++) clear_context(one % contexts, 0, 0);
+    clear_context(contexts, 0, 0);
+    newest = lowest = context;
+}
+/* What is finalized stands for what is guarded: it goes to its guardian's list. */
+static void finalize(void) {
+    hdt_id id;
+    uint64_t value;
+    while (hdt_final_next(&host, contexts, 0, &id) == HDT_OK) {
+        must(hdt_value_get(&host, contexts, 0, &value), "a guard");
+        must(hdt_handle_free(&host, notes[value >> PAYLOAD].handle), "a guard");
+        must(hdt_field_get(&host, contexts, 1, 0, 1, &id), "its guardian");
+        must(hdt_field_get(&host, contexts, 2, 1, 0, &id), "its list");
+        must(hdt_field_set(&host, contexts, 0, 2, 2), "its list");
+        must(hdt_field_set(&host, contexts, 1, 0, 0), "its list");
+    }
+}
+static uint32_t *bucket_of(const char *name) {
+    uint32_t hash = 2166136261u;
+    for (; *name; name++) hash = (hash ^ (unsigned char)*name) * 16777619u;
+    return &buckets[hash % (sizeof buckets / sizeof *buckets)];
+}
+/* The name of a symbol is memory of C: it goes when the weak long handle is null. */
+static void forget_symbols(void) {
+    hdt_handle_info cleared[16];
+    size_t count;
+    uint32_t from = 0;
+    do {
+        must(hdt_handles_of(&host, 1u << HDT_WEAK_LONG, 1, from, cleared, 16, &count, &from), "symbols");
+        for (size_t i = 0; i < count; i++) {
+            struct note *note = &notes[note_of(cleared[i].handle)];
+            uint32_t *link = bucket_of(note->name);
+            while (*link != note_of(note->handle)) link = &notes[*link].next;
+            *link = note->next;
+            free(note->name);
+            must(hdt_handle_free(&host, note->handle), "a symbol's handle");
+            note->name = NULL;
+            symbol_count--;
+        }
+    } while (from != 0);
+}
+/* A collection of the young objects; of all where that is asked, or more than half of the heap is still in use. */
+static void collect(slot top, bool is_full) {
+    hdt_report report;
+    hdt_stats_out stats;
+    clear_dead(top), young = 0;
+    if (!is_full) must(hdt_collect(&host, 0, &report), "a collection");
+    must(hdt_stats(&host, &stats), "stats");
+    if (is_full || stats.cells > of_host.cells / 2) must(hdt_collect(&host, 2, &report), "a full collection");
+    finalize();
+    forget_symbols();
+}
+/* Room after so many refusals; all of the present context is taken to be in use. */
+static void make_room(unsigned refusals) {
+    if (refusals > 1) fail("the heap or the table is full", "");
+    collect(context % contexts * LOCALS + PLACES, refusals > 0);
+}
+
+/* ---- objects. What a slot has is loaded into its local and its word */
+static inline void make_object(slot dst, word value, uint32_t flags, const hdt_local *src, size_t fields) {
+    hdt_id id;
+    hdt_status status;
+    if (of_host.is_stressed || young++ == YOUNG) make_room(0);
+    for (unsigned refusals = 0;; make_room(refusals++)) {
+        status = hdt_object_make(&host, context_of(dst), local_of(dst), flags, value, src, fields, &id);
+        if (status != HDT_HEAP_FULL) break;
+    }
+    must(status, "an object");
+    words[dst] = value;
+}
+static inline void load(slot dst, slot object, uint32_t field) {
+    hdt_id id;
+    uint64_t value;
+    must(hdt_field_load(&host, context_of(dst), local_of(dst), local_of(object), field, &id, &value), "a field");
+    words[dst] = word_of(value);
+}
+static inline void copy(slot dst, slot src) {
+    words[dst] = words[src];
+    if (is_reference(words[src])) must(hdt_local_copy(&host, context_of(dst), local_of(dst), local_of(src)), "a copy");
+}
+static inline void pass(slot dst, slot src) {
+    hdt_id id;
+    words[dst] = words[src];
+    if (!is_reference(words[src])) return;
+    must(hdt_local_pass(&host, context_of(dst), local_of(dst), context_of(src), local_of(src), &id), "a reference passed");
+}
+/* The slot's own local references its immediate, until the call is done. */
+static void wrap(slot at) {
+    word it = words[at];
+    make_object(at, other(WRAPPED, packed(it, OF_ONE)), 0, none, 0);
+    words[at] = it;
+    kept |= 1u << local_of(at);
+}
+/* An object of parts: the first two are immediate in its value where they fit, from bit `at` on; the others are its fields. */
+static inline void make(slot dst, word value, unsigned at, unsigned bits, slot base, const uint32_t *from, unsigned count) {
+    hdt_local src[PLACES];
+    size_t fields = 0;
+    for (unsigned i = 0; i < count; i++) {
+        slot one = base + from[i];
+        word part = packed(words[one], i < 2 ? bits : 0);
+        if (part != 0) value |= part << (at + i * bits);
+        else if (!is_reference(words[one])) wrap(one);
+        if (part == 0) src[fields++] = local_of(one);
+    }
+    make_object(dst, value, 0, src, fields);
+    kept = 0;
+}
+static inline void get(slot dst, slot object, unsigned i, unsigned at, unsigned bits) {
+    word mask = ((word)1 << bits) - 1, first = words[object] >> at & mask, second = words[object] >> (at + bits) & mask;
+    word part = i == 0 ? first : i == 1 ? second : 0;
+    if (part != 0) words[dst] = unpacked(part, bits);
+    else load(dst, object, i - (i > 0 && first != 0) - (i > 1 && second != 0));
+}
+static inline void make_pair(slot dst, slot head, slot tail) {
+    const slot from[2] = { head, tail };
+    make(dst, PAIR, TAG_BITS, OF_PAIR, 0, from, 2);
+}
+static inline void head_of(slot dst, slot pair) { get(dst, pair, 0, TAG_BITS, OF_PAIR); }
+static inline void tail_of(slot dst, slot pair) { get(dst, pair, 1, TAG_BITS, OF_PAIR); }
+static void make_procedure(slot dst, uint32_t code, slot base, const uint32_t *captured, unsigned count) {
+    make(dst, (word)code << AT_CODE | PROCEDURE, AT_CAPTURED, OF_PROCEDURE, base, captured, count);
+}
+static inline uint32_t code_of(slot procedure) { return words[procedure] >> AT_CODE & 0xffff; }
+static inline void captured_of(slot dst, slot procedure, unsigned i) { get(dst, procedure, i, AT_CAPTURED, OF_PROCEDURE); }
+/* A box has the value of a variable that is captured and set: immediate, or in its field. One in `dst` was just loaded. */
+static void make_box(slot dst, slot src) {
+    word part = packed(words[src], OF_ONE);
+    const hdt_local from[1] = { part == 0 ? local_of(src) : NULL_LOCAL };
+    make_object(dst, other(BOX, part), 0, from, 1);
+}
+static inline void box_get(slot dst, slot box) {
+    uint64_t value = words[box];
+    if (dst != box) must(hdt_value_get(&host, context_of(box), local_of(box), &value), "a variable");
+    if (value >> PAYLOAD != 0) words[dst] = unpacked(value >> PAYLOAD, OF_ONE);
+    else load(dst, box, 0);
+}
+static void box_set(slot box, slot src) {
+    uint64_t value;
+    word part = packed(words[src], OF_ONE);
+    must(hdt_value_get(&host, context_of(box), local_of(box), &value), "a variable");
+    must(hdt_value_set(&host, context_of(box), local_of(box), other(BOX, part)), "a variable");
+    if (part != 0 && value >> PAYLOAD != 0) return;
+    must(hdt_field_set(&host, context_of(box), local_of(box), 0, part != 0 ? NULL_LOCAL : local_of(src)), "a variable");
+}
+static bool is_same(slot one, slot another) {
+    hdt_id first = words[one], second = words[another];
+    if (!is_reference(first) || !is_reference(second) || tag_of(first) == SYMBOL) return first == second;
+    must(hdt_local_id(&host, context_of(one), local_of(one), &first), "an object");
+    must(hdt_local_id(&host, context_of(another), local_of(another), &second), "an object");
+    return first == second;
+}
+
+/* ---- places of procedures */
+/* The oldest context goes into an object, behind what went before it. */
+static void spill(void) {
+    hdt_context c = oldest % contexts;
+    hdt_local src[LOCALS];
+    size_t fields = 0;
+    hdt_id id;
+    hdt_status status;
+    if (oldest >= spilled_room) spilled = (word(*)[LOCALS])grown(spilled, &spilled_room, sizeof *spilled);
+    memcpy(spilled[oldest], &words[c * LOCALS], sizeof *spilled);
+    spilled[oldest][NULL_LOCAL] = live[c];
+    for (hdt_local at = 0; at < live[c]; at++)
+        if (is_reference(words[c * LOCALS + at])) src[fields++] = at;
+    src[fields++] = NULL_LOCAL;
+    for (unsigned refusals = 0;; make_room(refusals++)) {
+        must(hdt_static_get(&host, c, NULL_LOCAL, SPILLED, &id), "frames");
+        status = hdt_object_make(&host, c, NULL_LOCAL, 0, 0, src, fields, &id);
+        if (status != HDT_HEAP_FULL) break;
+    }
+    must(status, "an object for frames");
+    must(hdt_static_set(&host, c, SPILLED, NULL_LOCAL), "frames");
+    must(hdt_locals_clear(&host, c, 0, LOCALS), "clear");
+    oldest++;
+}
+static void restore(void) {
+    hdt_context c = --oldest % contexts;
+    hdt_id id;
+    uint32_t field = 0;
+    memcpy(&words[c * LOCALS], spilled[oldest], sizeof *spilled);
+    live[c] = (uint8_t)spilled[oldest][NULL_LOCAL];
+    must(hdt_static_get(&host, c, NULL_LOCAL, SPILLED, &id), "frames");
+    for (hdt_local at = 0; at < live[c]; at++)
+        if (is_reference(words[c * LOCALS + at])) must(hdt_field_get(&host, c, at, NULL_LOCAL, field++, &id), "a frame");
+    must(hdt_field_get(&host, c, NULL_LOCAL, NULL_LOCAL, field, &id), "frames");
+    must(hdt_static_set(&host, c, SPILLED, NULL_LOCAL), "frames");
+    must(hdt_local_clear(&host, c, NULL_LOCAL), "clear");
+}
+/* Of a callee whose places do not fit: the next context, to which its procedure and arguments are passed. */
+static slot next_context(slot base, unsigned count) {
+    if (context + 1 == oldest + contexts) spill();
+    live[context_of(base)] = (uint8_t)local_of(base);
+    context++;
+    if (context > newest) newest = context;
+    slot to = context % contexts * LOCALS;
+    for (unsigned i = 0; i < count; i++) pass(to + i, base + i);
+    return to;
+}
+static inline slot enter(slot base, unsigned size, unsigned count) {
+    return local_of(base) + size <= PLACES ? base : next_context(base, count);
+}
+/* Back to the context before, with a result. What the callee left in its own is dead. */
+static void leave(slot dst, slot src) {
+    if (context == oldest) restore();
+    context--;
+    if (context < lowest) lowest = context;
+    pass(dst, src);
+}
+
+/* ---- cells */
+static hdt_handle handle_to(hdt_kind kind, slot target, uint32_t extra) {
+    hdt_handle handle;
+    uint32_t given;
+    hdt_status status;
+    for (unsigned refusals = 1;; make_room(refusals++), must(hdt_trim_all(&host, &given), "blocks")) {
+        status = hdt_handle_new(&host, context_of(target), kind, local_of(target), extra, &handle);
+        if (status != HDT_TABLE_FULL) break;
+    }
+    return must(status, "a handle"), handle;
+}
+static inline void cell_get(slot dst, const struct cell *cell) {
+    hdt_id id;
+    words[dst] = cell->now;
+    if (is_reference(cell->now)) must(hdt_handle_get(&host, context_of(dst), cell->handle, local_of(dst), &id), "a global");
+}
+static void cell_set(struct cell *cell, slot src) {
+    bool is_object = is_reference(words[src]), was_object = is_reference(cell->now);
+    cell->now = words[src];
+    if (is_object && cell->handle == 0) cell->handle = handle_to(HDT_STRONG, src, 0);
+    else if (is_object || was_object)
+        must(hdt_handle_set(&host, context_of(src), cell->handle, is_object ? local_of(src) : NULL_LOCAL), "a global");
+}
+
+/* ---- strings: four bytes beside the length, then eight in each object of a list */
+static void make_string(slot dst, const char *bytes) {
+    const hdt_local src[1] = { local_of(dst) };
+    const uint32_t length = (uint32_t)strlen(bytes);
+    uint64_t eight;
+    for (uint32_t at = length > 4 ? 4 + (length - 5) / 8 * 8 : 0, rest = at; at > 0; at = at > 4 ? at - 8 : 0) {
+        eight = 0;
+        memcpy(&eight, bytes + at, length - at < 8 ? length - at : 8);
+        make_object(dst, eight, 0, src, at < rest);
+        words[dst] = STRING;
+    }
+    eight = 0;
+    memcpy(&eight, bytes, length < 4 ? length : 4);
+    make_object(dst, eight << AT_BYTES | (word)length << TAG_BITS | STRING, 0, src, length > 4);
+}
+/* A place to print from, with others behind it. */
+static slot to_print(slot at) { return pass(contexts * LOCALS, at), contexts * LOCALS; }
+/* The bytes of a string, with a zero behind them. */
+static void bytes_of(slot string, char *bytes) {
+    const slot at_work = contexts * LOCALS + PLACES - 1;
+    const uint32_t length = words[string] >> TAG_BITS & 0xfffffff;
+    uint64_t eight = words[string] >> AT_BYTES;
+    hdt_id id;
+    memcpy(bytes, &eight, length < 4 ? length : 4);
+    bytes[length] = 0;
+    pass(at_work, string);
+    for (uint32_t at = 4; at < length; at += 8) {
+        must(hdt_field_load(&host, contexts, local_of(at_work), local_of(at_work), 0, &id, &eight), "a string");
+        memcpy(bytes + at, &eight, length - at < 8 ? length - at : 8);
+    }
+}
+
+/* ---- symbols, guardians and the weak table */
+static const char *symbol_name(slot symbol) { return notes[words[symbol] >> TAG_BITS].name; }
+static void make_symbol(slot dst, const char *name) {
+    hdt_id id;
+    uint64_t value;
+    for (uint32_t at = *bucket_of(name); at != 0; at = notes[at].next) {
+        if (strcmp(notes[at].name, name) != 0) continue;
+        must(hdt_handle_load(&host, context_of(dst), notes[at].handle, local_of(dst), &id, &value), "a symbol");
+        words[dst] = value;
+        return;
+    }
+    make_object(dst, SYMBOL, 0, none, 0);
+    hdt_handle handle = handle_to(HDT_WEAK_LONG, dst, 0);
+    words[dst] = (word)note_of(handle) << TAG_BITS | SYMBOL;
+    must(hdt_value_set(&host, context_of(dst), local_of(dst), words[dst]), "a symbol");
+    notes[note_of(handle)] = (struct note){ handle, strcpy((char *)grown(NULL, NULL, strlen(name) + 1), name), *bucket_of(name) };
+    *bucket_of(name) = note_of(handle);
+    symbol_count++;
+}
+static void make_guardian(slot dst) {
+    make_object(dst, other(GUARDIAN, 0), 0, none, 1);
+}
+static bool is_guardian(slot at) { return is_a(words[at], GUARDIAN); }
+/* What is finalized when `object` cannot be reached has it and its guardian, and is kept by it alone, over a dependent handle. */
+static void guard(slot guardian, slot object) {
+    const hdt_local src[3] = { local_of(object), local_of(guardian), NULL_LOCAL };
+    const slot at_work = object - local_of(object) + NULL_LOCAL;
+    make_object(at_work, other(GUARDED, 0), HDT_FINALIZABLE, src, 3);
+    kept = 1u << NULL_LOCAL;
+    hdt_handle handle = handle_to(HDT_DEPENDENT, object, NULL_LOCAL);
+    notes[note_of(handle)].handle = handle;
+    must(hdt_value_set(&host, context_of(object), NULL_LOCAL, other(GUARDED, note_of(handle))), "a guard");
+    must(hdt_local_clear(&host, context_of(object), NULL_LOCAL), "clear");
+    kept = 0;
+}
+/* One that was guarded and could not be reached, or #f. */
+static void guarded(slot dst, slot guardian) {
+    hdt_id id;
+    const slot at_work = contexts * LOCALS;
+    pass(at_work, guardian);
+    must(hdt_field_get(&host, contexts, 1, 0, 0, &id), "a guardian");
+    words[at_work + 1] = FALSE;
+    if (id != 0) {
+        must(hdt_field_get(&host, contexts, 2, 1, 2, &id), "its list");
+        must(hdt_field_set(&host, contexts, 0, 0, 2), "its list");
+        load(at_work + 1, at_work + 1, 0);
+    }
+    pass(dst, at_work + 1);
+}
+static void memo_set(slot key, slot value) {
+    if (!is_reference(words[value])) wrap(value);
+    kept = 0;
+    must(hdt_table_set(&host, context_of(key), local_of(key), local_of(value)), "an entry");
+}
+/* What the table has of a key, or #f. */
+static void memo_get(slot dst, slot key) {
+    hdt_id id;
+    uint64_t value = FALSE;
+    hdt_status status = hdt_table_find(&host, context_of(dst), local_of(dst), local_of(key), &id);
+    if (status != HDT_NONE) must(status, "an entry");
+    if (status == HDT_OK) must(hdt_value_get(&host, context_of(dst), local_of(dst), &value), "an entry");
+    words[dst] = word_of(value);
+}
+
+/* ---- the whole */
+static void memory_open(void) {
+    if (of_host.contexts < 3) fail("3 contexts at least", "");
+    contexts = of_host.contexts - 1;
+    hdt_limits limits = { of_host.cells, of_host.blocks, of_host.contexts };
+    must(hdt_open(&host, &limits), "a host");
+    words = (word *)calloc(of_host.contexts * LOCALS, sizeof *words);
+    live = (uint8_t *)calloc(of_host.contexts, sizeof *live);
+    notes = (struct note *)calloc((of_host.blocks + 1) * 64, sizeof *notes);
+    if (words == NULL || live == NULL || notes == NULL) fail("no memory", "");
+}
+static void memory_close(void) {
+    for (uint32_t i = 0; i < (of_host.blocks + 1) * 64; i++) free(notes[i].name);
+    hdt_close(&host);
+    free(notes), free(spilled), free(live), free(words);
+}
