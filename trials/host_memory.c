@@ -89,8 +89,31 @@ struct call {
 };
 
 static struct call next_call(void) {
-    struct call call = { any(13), any(2), any(16), any(16), any(64) };
+    struct call call = { any(20), any(2), any(16), any(16), any(64) };
     return call;
+}
+
+/* Calls that do several commands in a row, or one of a host alone. */
+static hdt_status make_wider_call(const struct call *call, hdt_handle handle) {
+    const hdt_local src[4] = { call->b, call->c, call->d % 16, call->b };
+    hdt_id id = 0;
+    uint64_t value = 0;
+    uint32_t given = 0;
+    hdt_status status;
+    switch (call->what) {
+    case 13:
+    case 14: status = hdt_object_make(&host, call->a, call->c, call->d & 1, call->d, src, call->d % 5, &id); break;
+    case 15: status = hdt_field_load(&host, call->a, call->b, call->c, call->d % 4, &id, &value); break;
+    case 16: status = hdt_handle_load(&host, call->a, handle, call->b, &id, &value); break;
+    case 17: status = hdt_table_set(&host, call->a, call->b, call->c); break;
+    case 18:
+        if (call->d % 4 == 0) return hdt_locals_clear(&host, call->a, call->b, call->d % (17 - call->b));
+        status = hdt_local_pass(&host, 1 - call->a, call->b, call->a, call->c, &id);
+        break;
+    default: status = hdt_trim_all(&host, &given);
+    }
+    if (status == HDT_OK) note(id + value + given);
+    return status;
 }
 
 static hdt_status make_call(const struct call *call) {
@@ -142,17 +165,20 @@ static hdt_status make_call(const struct call *call) {
         status = hdt_final_next(&host, call->a, call->b, &id);
         note(id);
         return status;
-    default:
-        status = hdt_trim(&host, call->d % 4, &given);
+    case 12:
+        status = hdt_trim(&host, call->d % 7, &given);
         note(given);
         return status;
+    default: return make_wider_call(call, handle);
     }
 }
 
 static const hdt_limits limits = { 3000, 8, 2 };
 
 /* Whether a call of this kind may take memory: those that make an object, collect, or look for what keeps one. */
-static bool takes_memory(const struct call *call) { return call->what <= 1 || call->what == 9 || call->what == 10; }
+static bool takes_memory(const struct call *call) {
+    return call->what <= 1 || call->what == 9 || call->what == 10 || call->what == 13 || call->what == 14;
+}
 
 /* The calls of a run, and how many requests there had been before each, where none is refused. */
 enum { CALLS = 3000 };
@@ -232,11 +258,11 @@ static unsigned long run_shared(void) {
 
 /* A list in local 0, until the heap is full; local 2 has its last object. Each object gets a handle that pins it, or an entry of
  * the table, or a handle with a second object, as long as there is room, where `handles` has room for them. */
-static size_t fill(hdt_handle *handles) {
+static size_t fill(hdt_handle *handles, uint32_t flags) {
     size_t count = 0;
     hdt_id id;
     hdt_local_clear(&host, 0, 0);
-    while (hdt_object_new(&host, 0, 1, 1, handles ? HDT_FINALIZABLE : 0, &id) == HDT_OK) {
+    while (hdt_object_new(&host, 0, 1, 1, flags, &id) == HDT_OK) {
         if (hdt_field_set(&host, 0, 1, 0, 0) != HDT_OK || hdt_local_copy(&host, 0, 0, 1) != HDT_OK) fail("no list", 0);
         if (!handles) continue;
         if (count == 0) hdt_local_copy(&host, 0, 2, 1);
@@ -259,14 +285,29 @@ static void collect(uint32_t generation) {
     if (hdt_collect(&host, generation, &report) != HDT_OK) fail("not collected", 0);
 }
 
+/* All objects are queued but one, which is looked for among them. */
+static void search_queue(void) {
+    hdt_root root;
+    hdt_id id;
+    fill(NULL, HDT_FINALIZABLE);
+    hdt_static_set(&host, 0, 1, 0);
+    hdt_field_set(&host, 0, 0, 0, 3);
+    let_go();
+    collect(2);
+    hdt_static_get(&host, 0, 0, 1, &id);
+    hdt_static_set(&host, 0, 1, 3);
+    if (hdt_root_of(&host, 0, 0, &root) != HDT_NONE) fail("a root", 0);
+    let_go();
+}
+
 /* The most that a host can take: collections and a search where all is alive, then all of it queued, and then a full heap between
  * objects that do not move. */
-enum { FILLING = 3400 }; /* calls at most */
+enum { FILLING = 8000 }; /* calls at most */
 
 static void fill_all(void) {
     static hdt_handle handles[8 * 64];
     hdt_root root;
-    size_t count = fill(handles);
+    size_t count = fill(handles, HDT_FINALIZABLE);
     for (uint32_t generation = 0; generation < 3; generation++) collect(generation);
     if (hdt_static_set(&host, 0, 0, 0) != HDT_OK || hdt_root_of(&host, 0, 2, &root) != HDT_OK) fail("no root", 0);
     hdt_static_set(&host, 0, 0, 3);
@@ -274,10 +315,15 @@ static void fill_all(void) {
     collect(2);
     let_go();
     collect(2);
-    fill(NULL);
+    fill(NULL, 0);
     collect(2);
     while (count) hdt_handle_free(&host, handles[--count]);
+    for (int i = 0; i < 2; i++) {
+        let_go();
+        collect(2);
+    }
     let_go();
+    search_queue();
 }
 
 static int run_long(unsigned long calls) {

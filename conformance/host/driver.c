@@ -3,9 +3,11 @@
  * host, and the lines are in the order of the turns in which they were done. Handle registers and the board are the driver's
  * own and have slots; a command on one is done by the handle that is in the slot at present, or by one that is stale.
  *
- *   driver [--threads] [--heap N] [--blocks N] [--bad N SEED] < script
+ *   driver [--threads] [--rows] [--heap N] [--blocks N] [--bad N SEED] < script
  *
- * With --bad, N calls at random come before each command, which must all be refused.
+ * With --rows, commands that one call does in a row are done by it: a load with the value of what was loaded, an object with its
+ * value and its fields, an entry that is set, locals that are cleared. With --bad, N calls at random come before each command or
+ * row, which must all be refused.
  */
 #include "hdt.h"
 #include <inttypes.h>
@@ -16,7 +18,7 @@
 #include <stdlib.h>
 #include <string.h>
 
-enum { CALLERS = 16, REGISTERS = 16, SLOTS = 65536, WORDS = 5, LINE = 256, REPLY = 96 };
+enum { CALLERS = 16, REGISTERS = 16, SLOTS = 65536, WORDS = 5, LINE = 256, REPLY = 96, FIELDS = 61 };
 
 struct command {
     char words[WORDS][24];
@@ -26,7 +28,16 @@ struct command {
 /* A line that was done, with the turn in which it was. */
 struct line {
     uint64_t turn;
+    bool goes_on; /* of a row: its turn is that of the line before */
     char text[REPLY];
+};
+
+/* What a row of commands gives its one call. */
+struct given {
+    uint64_t value;
+    hdt_local src[FIELDS];
+    hdt_local first;
+    uint32_t n;
 };
 
 struct caller {
@@ -37,6 +48,7 @@ struct caller {
     struct command *commands;
     struct line *lines;
     size_t count, room, done;
+    struct given given;
     uint64_t chance; /* of bad calls */
 };
 
@@ -44,7 +56,8 @@ static hdt_host ends[CALLERS]; /* all bytes 0: closed. Of callers one after anot
 static hdt_host closed = HDT_CLOSED_HOST;
 static struct caller callers[CALLERS];
 static unsigned caller_count = 1;
-static bool is_shared;
+static unsigned contexts; /* of an end: of callers one after another one more than there are, if there is one, to look in */
+static bool is_shared, in_rows;
 static unsigned long bad;
 static _Atomic hdt_handle known[SLOTS]; /* the last handle of each slot that this program was given */
 static atomic_uint collections;
@@ -167,6 +180,13 @@ CALL(hup, hdt_count_up(me->host, handle, &out->value))
 CALL(hdown, hdt_count_down(me->host, handle, &out->value))
 CALL(hfree, hdt_handle_free(me->host, handle))
 CALL(addr, hdt_address(me->host, handle, &out->number))
+
+CALL(get_and_read, hdt_field_load(me->host, me->context, place(WORD(1)), place(WORD(2)), number(WORD(3)), &out->id, &out->value))
+CALL(hget_and_read, hdt_handle_load(me->host, me->context, handle, place(WORD(1)), &out->id, &out->value))
+CALL(new_with, hdt_object_make(me->host, me->context, place(WORD(1)), flags_of(it), me->given.value, me->given.src,
+                               number(WORD(2)), &out->id))
+CALL(cremove_and_cadd, hdt_table_set(me->host, me->context, place(WORD(1)), me->given.first))
+CALL(drop_all, hdt_locals_clear(me->host, me->context, me->given.first, me->given.n))
 
 static hdt_status hnew(struct caller *me, const struct command *it, hdt_handle handle, struct answer *out) {
     hdt_kind of = kind(WORD(2));
@@ -355,7 +375,37 @@ static void note_call(struct caller *me, const struct row *row, const struct com
     known[slot] = out->handle;
 }
 
-static void do_command(struct caller *me, const struct command *it, struct line *line) {
+/* A command by the call of a row, and its line; what the call came to, of a handle register without a handle HDT_STALE. */
+static hdt_status do_call(struct caller *me, const struct row *row, const struct command *it, struct answer *out,
+                          struct line *line) {
+    uint32_t slot = row->on_handle ? me->registers[place(it->words[row->on_handle])] : 0;
+    memset(out, 0, sizeof *out);
+    if (row->on_handle && slot == 0) {
+        line->turn = no_more_than_a_turn(me);
+        put(line, "empty");
+        return HDT_STALE;
+    }
+    struct done done = call_in_a_turn(me, row, it, slot, out);
+    line->turn = done.change.turn;
+    if (done.status == HDT_OK) {
+        note_call(me, row, it, out);
+        put_answer(line, row->form, out, &done.change);
+    } else if (done.status == HDT_NONE && row->none) {
+        put(line, "%s", row->none);
+    } else {
+        put_refusal(line, &done, row->call == new_ || row->call == new_with ? number(it->words[2]) + 3 : 0);
+    }
+    return done.status;
+}
+
+static struct line *line_of(struct caller *me, size_t ahead) {
+    struct line *line = &me->lines[me->done + ahead];
+    if (line->text[0] == 0) put(line, "%u %zu ", me->number, me->done + ahead + 1);
+    return line;
+}
+
+static void do_command(struct caller *me, const struct command *it) {
+    struct line *line = line_of(me, 0);
     const char *word = it->words[0];
     bool puts = strcmp(word, "hput") == 0;
     if (puts || strcmp(word, "hpick") == 0) {
@@ -363,25 +413,126 @@ static void do_command(struct caller *me, const struct command *it, struct line 
         put(line, "ok");
         return;
     }
-    const struct row *row = row_of(word);
-    uint32_t slot = row->on_handle ? me->registers[place(it->words[row->on_handle])] : 0;
-    if (row->on_handle && slot == 0) {
-        line->turn = no_more_than_a_turn(me);
-        put(line, "empty");
-        return;
+    struct answer out;
+    (void)do_call(me, row_of(word), it, &out, line);
+}
+
+/* ---- rows: commands that are together in the script, done by one call. Each function says how many it did, 0 for none */
+
+static bool is(const struct command *it, const char *word) { return it && strcmp(it->words[0], word) == 0; }
+
+static const struct command *ahead(const struct caller *me, size_t by) {
+    return me->done + by < me->count ? &me->commands[me->done + by] : NULL;
+}
+
+static struct line *further_line(struct caller *me, size_t by) {
+    struct line *line = line_of(me, by);
+    line->turn = line_of(me, 0)->turn;
+    line->goes_on = true;
+    return line;
+}
+
+/* `get` or `hget`, and `read` of what was loaded. */
+static size_t do_load(struct caller *me, const struct command *it) {
+    static const struct row of_field = { "get", LOADED, get_and_read, 0, NULL };
+    static const struct row of_handle = { "hget", LOADED, hget_and_read, 2, NULL };
+    if ((!is(it, "get") && !is(it, "hget")) || !is(ahead(me, 1), "read") || strcmp(it->words[1], ahead(me, 1)->words[1]) != 0)
+        return 0;
+    struct answer out;
+    if (do_call(me, is(it, "get") ? &of_field : &of_handle, it, &out, line_of(me, 0)) != HDT_OK) return 1;
+    if (out.id) put(further_line(me, 1), "value %" PRIu64, out.value);
+    else put(further_line(me, 1), "nullref");
+    return 2;
+}
+
+/* How many commands after a `new` give the object its value and, from other locals, its fields; what is not given is null. */
+static size_t parts_ahead(struct caller *me, const struct command *it) {
+    uint32_t fields = number(WORD(2)), unset = fields;
+    bool is_set[FIELDS] = { false };
+    size_t count = 0;
+    me->given.value = 0;
+    for (const struct command *next; (next = ahead(me, count + 1)) != NULL; count++) {
+        if ((!is(next, "val") && !is(next, "set")) || place(next->words[1]) != place(WORD(1))) break;
+        uint32_t i = number(next->words[2]);
+        if (is(next, "set") && (i >= fields || place(next->words[3]) == place(WORD(1)))) break;
+        if (is(next, "val")) me->given.value = strtoull(next->words[2], NULL, 10);
+        else {
+            unset -= !is_set[i];
+            is_set[i] = true;
+            me->given.src[i] = place(next->words[3]);
+        }
+    }
+    hdt_id ids[REGISTERS];
+    hdt_status status;
+    hdt_local null = 0;
+    TURN(status, hdt_locals(me->host, me->context, ids, REGISTERS));
+    if (status != HDT_OK) fail("no locals");
+    while (null < REGISTERS && ids[null] != 0) null++;
+    for (uint32_t i = 0; i < fields; i++)
+        if (!is_set[i]) me->given.src[i] = null;
+    return unset > 0 && null == REGISTERS ? 0 : count;
+}
+
+static size_t do_new(struct caller *me, const struct command *it) {
+    static const struct row by = { "new", LOADED, new_with, 0, NULL };
+    if (!is(it, "new") || number(WORD(2)) > FIELDS) return 0;
+    size_t parts = parts_ahead(me, it);
+    if (parts == 0) return 0;
+    struct answer out;
+    if (do_call(me, &by, it, &out, line_of(me, 0)) != HDT_OK) return 1;
+    for (size_t i = 1; i <= parts; i++) put(further_line(me, i), "ok");
+    return 1 + parts;
+}
+
+/* Whether the key has an entry, looked up in a context of the driver's own. */
+static bool has_entry(struct caller *me, hdt_local key) {
+    hdt_id id;
+    if (hdt_local_pass(me->host, caller_count, 0, me->context, key, &id) != HDT_OK) fail("a key is not passed");
+    bool has = id != 0 && hdt_table_find(me->host, caller_count, 1, 0, &id) == HDT_OK;
+    if (hdt_locals_clear(me->host, caller_count, 0, 2) != HDT_OK) fail("locals are not cleared");
+    return has;
+}
+
+/* `cremove` and `cadd` of one key. The call does not say whether there was an entry, so of ends that share a host, where another
+ * one may come between look and call, it is not made. */
+static size_t do_entry(struct caller *me, const struct command *it) {
+    static const struct row by = { "cadd", DONE, cremove_and_cadd, 0, NULL };
+    const struct command *next = ahead(me, 1);
+    if (is_shared || contexts == caller_count || !is(it, "cremove") || !is(next, "cadd")) return 0;
+    if (place(WORD(1)) != place(next->words[1])) return 0;
+    struct answer out;
+    bool has = has_entry(me, place(WORD(1)));
+    me->given.first = place(next->words[2]);
+    hdt_status status = do_call(me, &by, it, &out, further_line(me, 1));
+    put(line_of(me, 0), status == HDT_NULL ? "nullref" : has ? "ok" : "absent");
+    return 2;
+}
+
+/* `drop` of locals of which each is beside those before. */
+static size_t do_drops(struct caller *me, const struct command *it) {
+    static const struct row by = { "drop", DONE, drop_all, 0, NULL };
+    if (!is(it, "drop") || !is(ahead(me, 1), "drop")) return 0;
+    uint32_t low = place(WORD(1)), high = low;
+    size_t count = 1;
+    for (; is(ahead(me, count), "drop"); count++) {
+        uint32_t one = place(ahead(me, count)->words[1]);
+        if (one + 1 < low || one > high + 1) break;
+        if (one < low) low = one;
+        if (one > high) high = one;
     }
     struct answer out;
-    memset(&out, 0, sizeof out);
-    struct done done = call_in_a_turn(me, row, it, slot, &out);
-    line->turn = done.change.turn;
-    if (done.status == HDT_OK) {
-        note_call(me, row, it, &out);
-        put_answer(line, row->form, &out, &done.change);
-    } else if (done.status == HDT_NONE && row->none) {
-        put(line, "%s", row->none);
-    } else {
-        put_refusal(line, &done, row->call == new_ ? number(it->words[2]) + 3 : 0);
-    }
+    me->given.first = low;
+    me->given.n = high + 1 - low;
+    if (count == 1 || do_call(me, &by, it, &out, line_of(me, 0)) != HDT_OK) return 0;
+    for (size_t i = 1; i < count; i++) put(further_line(me, i), "ok");
+    return count;
+}
+
+static size_t do_row(struct caller *me, const struct command *it) {
+    size_t done = do_load(me, it);
+    if (done == 0) done = do_new(me, it);
+    if (done == 0) done = do_entry(me, it);
+    return done > 0 ? done : do_drops(me, it);
 }
 
 /* ---- calls that must be refused */
@@ -428,7 +579,7 @@ static hdt_handle of_another_kind(struct caller *me, hdt_kind kind_is, hdt_statu
 
 /* One of the calls; what it is given may be written by nobody. */
 static hdt_status bad_call_of(struct caller *me, hdt_status *wanted, hdt_id *id, uint64_t *count, uint32_t *small) {
-    uint32_t c = me->context, each = is_shared ? 1 : caller_count, r = any(me, 16), out = 16 + any(me, 1u << 30);
+    uint32_t c = me->context, r = any(me, 16), out = 16 + any(me, 1u << 30);
     hdt_handle handle;
     hdt_report report;
     hdt_limits limits = { 1000, 1, 1 };
@@ -439,7 +590,7 @@ static hdt_status bad_call_of(struct caller *me, hdt_status *wanted, hdt_id *id,
     case 2: *wanted = HDT_STALE; return hdt_handle_set(me->host, c, stale(me), r);
     case 3: *wanted = HDT_STALE; return hdt_count_up(me->host, stale(me), count);
     case 4: return hdt_handle_get(me->host, c, stale(me), out, id);
-    case 5: return hdt_object_new(me->host, c + each, r, 0, 0, id);
+    case 5: return hdt_object_new(me->host, c + contexts, r, 0, 0, id);
     case 6: return hdt_object_new(me->host, c, r, 62 + any(me, 1000), 0, id);
     case 7: return hdt_handle_new(me->host, c, 7 + any(me, 1000), r, 0, &handle);
     case 8: return hdt_collect(me->host, 3 + any(me, 1000), &report);
@@ -487,17 +638,21 @@ static void wait_for_all(void) {
 static void *do_commands(void *given) {
     struct caller *me = (struct caller *)given;
     if (is_shared) wait_for_all();
-    for (; me->done < me->count; me->done++) {
+    for (size_t done; me->done < me->count; me->done += done) {
+        const struct command *it = &me->commands[me->done];
         for (unsigned long k = 0; k < bad; k++) bad_call(me);
-        struct line *line = &me->lines[me->done];
-        put(line, "%u %zu ", me->number, me->done + 1);
-        do_command(me, &me->commands[me->done], line);
+        done = in_rows ? do_row(me, it) : 0;
+        if (done > 0) continue;
+        do_command(me, it);
+        done = 1;
     }
     return NULL;
 }
 
+/* Lines of one turn are one caller's, who has them in their order. */
 static int by_turn(const void *one, const void *other) {
-    uint64_t a = (*(struct line *const *)one)->turn, b = (*(struct line *const *)other)->turn;
+    const struct line *a = *(struct line *const *)one, *b = *(struct line *const *)other;
+    if (a->turn != b->turn) return a->turn < b->turn ? -1 : 1;
     return a < b ? -1 : a > b;
 }
 
@@ -512,14 +667,16 @@ static void print_lines(void) {
     if (is_shared) qsort(order, all, sizeof *order, by_turn);
     for (size_t i = 0; i < all; i++) {
         uint64_t before = i > 0 ? order[i - 1]->turn : 0;
-        if (is_shared && order[i]->turn <= before) fail("two lines have one turn");
+        bool is_due = order[i]->goes_on ? order[i]->turn == before && order[i - 1] + 1 == order[i] : order[i]->turn > before;
+        if (is_shared && !is_due) fail("two lines have one turn, or a row is not together");
         puts(order[i]->text);
     }
     free(order);
 }
 
 static void open_all(hdt_limits *limits) {
-    limits->contexts = caller_count;
+    contexts = is_shared ? 1 : in_rows && caller_count < CALLERS ? caller_count + 1 : caller_count;
+    limits->contexts = is_shared ? caller_count : contexts;
     hdt_status status = is_shared ? hdt_open_shared(ends, caller_count, limits) : hdt_open(&ends[0], limits);
     if (status != HDT_OK) fail("not opened");
     for (unsigned c = 0; c < caller_count; c++) {
@@ -543,13 +700,14 @@ static void run_threads(void) {
 static void read_words(int count, char **words, hdt_limits *limits) {
     for (int i = 1; i < count; i++) {
         if (strcmp(words[i], "--threads") == 0) is_shared = true;
+        else if (strcmp(words[i], "--rows") == 0) in_rows = true;
         else if (strcmp(words[i], "--heap") == 0 && i + 1 < count) limits->cells = number(words[++i]);
         else if (strcmp(words[i], "--blocks") == 0 && i + 1 < count) limits->blocks = number(words[++i]);
         else if (strcmp(words[i], "--bad") == 0 && i + 2 < count) {
             bad = strtoul(words[i + 1], NULL, 10);
             for (unsigned c = 0; c < CALLERS; c++) callers[c].chance = strtoull(words[i + 2], NULL, 10);
             i += 2;
-        } else fail("usage: driver [--threads] [--heap N] [--blocks N] [--bad N SEED]");
+        } else fail("usage: driver [--threads] [--rows] [--heap N] [--blocks N] [--bad N SEED]");
     }
 }
 
