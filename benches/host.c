@@ -20,6 +20,7 @@ enum { CONTEXTS = 16, KEYS = 7, OBJECTS = 14, RESULT = 14, SPARE = 15, KINDS = 7
 struct pick {
     hdt_context context;
     hdt_local object, other; /* `object` is a key of the weak table, `other` is none */
+    hdt_local both[10];      /* these in turn */
     uint32_t fields, field, number;
     hdt_kind kind;
     hdt_handle any, settable, of_kind[KINDS]; /* `settable` is not dependent */
@@ -84,6 +85,7 @@ static void choose(struct pick *pick, bool scattered) {
     pick->context = scattered ? below(CONTEXTS) : 0;
     pick->object = scattered ? below(KEYS) : 0;
     pick->other = scattered ? KEYS + below(OBJECTS - KEYS) : KEYS;
+    for (int i = 0; i < 10; i++) pick->both[i] = i % 2 == 0 ? pick->object : pick->other;
     pick->field = scattered ? below(sizes[pick->context][pick->object]) : 1;
     pick->fields = scattered ? below(62) : 2;
     pick->number = scattered ? below(16) : 3;
@@ -112,6 +114,8 @@ static hdt_stats_out sums;
 static hdt_change change;
 static hdt_handle_info rows[16];
 static size_t count;
+static hdt_object_out shown;
+static hdt_id ids[16];
 
 #define CALL(name, ...) static hdt_status name(const struct pick *p) { (void)p; return __VA_ARGS__; }
 CALL(abi, hdt_abi() != HDT_ABI)
@@ -141,6 +145,16 @@ CALL(stats, hdt_stats(&host, &sums))
 CALL(last, hdt_last(&host, &change))
 CALL(trim, hdt_trim(&host, p->kind % HDT_VARIABLE, &number))
 CALL(list, hdt_handles(&host, 0, rows, 16, &count, &next))
+CALL(list_cleared, hdt_handles_of(&host, 127, 1, 0, rows, 16, &count, &next))
+CALL(field_load, hdt_field_load(&host, p->context, RESULT, p->object, p->field, &id, &value))
+CALL(handle_load, hdt_handle_load(&host, p->context, p->any, RESULT, &id, &value))
+CALL(local_pass, hdt_local_pass(&host, p->context, RESULT, p->context, p->object, &id))
+CALL(locals_clear, hdt_locals_clear(&host, CONTEXTS - 1, 0, 16))
+CALL(table_set, hdt_table_set(&host, p->context, p->object, p->other))
+CALL(handle_id, hdt_handle_id(&host, p->any, &id))
+CALL(object_info, hdt_object_info(&host, p->context, p->object, &shown))
+CALL(locals, hdt_locals(&host, p->context, ids, 16))
+CALL(context_left, hdt_context_left(&host, p->context, &number))
 CALL(root_of, hdt_root_of(&host, p->context, p->object, &root) % HDT_NONE)
 CALL(collect, hdt_collect(&host, 0, &report))
 
@@ -152,10 +166,20 @@ static hdt_status free_again(const struct pick *p, hdt_kind kind) {
 CALL(handle_new, free_again(p, p->kind % HDT_VARIABLE))
 CALL(paired_new, free_again(p, HDT_DEPENDENT))
 
-static hdt_status object_new(const struct pick *p) {
-    if (hdt_object_new(&host, p->context, RESULT, p->fields, 0, &id) == HDT_OK) return HDT_OK;
-    return hdt_collect(&host, 0, &report) | hdt_object_new(&host, p->context, RESULT, p->fields, 0, &id);
+static hdt_status new_object(const struct pick *p, uint32_t fields) {
+    if (hdt_object_new(&host, p->context, RESULT, fields, 0, &id) == HDT_OK) return HDT_OK;
+    return hdt_collect(&host, 0, &report) | hdt_object_new(&host, p->context, RESULT, fields, 0, &id);
 }
+
+static hdt_status filled(const struct pick *p, size_t fields) {
+    if (hdt_object_make(&host, p->context, RESULT, 0, p->field, p->both, fields, &id) == HDT_OK) return HDT_OK;
+    return hdt_collect(&host, 0, &report) | hdt_object_make(&host, p->context, RESULT, 0, p->field, p->both, fields, &id);
+}
+CALL(object_new, new_object(p, p->fields))
+CALL(new_two, new_object(p, 2))
+CALL(new_ten, new_object(p, 10))
+CALL(make_two, filled(p, 2))
+CALL(make_ten, filled(p, 10))
 
 #define ROW(name) { #name, name }
 static const struct { const char *name; hdt_status (*make)(const struct pick *); } calls[] = {
@@ -163,7 +187,9 @@ static const struct { const char *name; hdt_status (*make)(const struct pick *);
     ROW(field_set), ROW(field_get), ROW(value_get), ROW(value_set), ROW(local_id), ROW(local_copy), ROW(local_clear),
     ROW(static_get), ROW(static_set), ROW(generation), ROW(reregister), ROW(secondary_get), ROW(secondary_set),
     ROW(strength_set), ROW(count_up), ROW(address), ROW(table_find), ROW(table_add), ROW(final_next), ROW(stats),
-    ROW(last), ROW(trim), ROW(list), ROW(root_of), ROW(collect),
+    ROW(last), ROW(trim), ROW(list), ROW(list_cleared), ROW(root_of), ROW(collect), ROW(field_load), ROW(handle_load),
+    ROW(new_two), ROW(make_two), ROW(new_ten), ROW(make_ten), ROW(local_pass), ROW(locals_clear), ROW(table_set), ROW(handle_id),
+    ROW(object_info), ROW(locals), ROW(context_left),
 };
 enum { CALLS = sizeof calls / sizeof *calls };
 

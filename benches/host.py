@@ -1,5 +1,5 @@
 #!/usr/bin/env python3
-"""host.py [--only CALL..] [--counts] [--before LIBRARY] [--coreclr PROGRAM] [--mono PROGRAM] LIBRARY..: what each call of the C
+"""host.py [--only CALL..] [--counts] [--before LIBRARY] [--coreclr PROGRAM] [--jni PROGRAM] [--mono PROGRAM] LIBRARY..: what each call of the C
 library costs, one thread. Instructions a call (callgrind of 200,000 calls less as many of `hdt_abi` with the same operands) of
 one object and one handle (near), and of objects of 1 to 61 fields and 1,000 live handles of all kinds at random (scattered); and
 nanoseconds a call that the processor gave the thread, near, beside those of CoreCLR's machine and of mono's embedding API, in
@@ -19,14 +19,18 @@ import tempfile
 HERE = os.path.dirname(os.path.abspath(__file__))
 COUNTED = 200_000
 # These walk: fewer calls tell.
-WALKING = {"trim": 20_000, "list": 20_000, "root_of": 200, "collect": 2_000}
+WALKING = {"trim": 20_000, "list": 20_000, "list_cleared": 20_000, "root_of": 200, "collect": 2_000}
 # So many objects fill the heap five times; the first time its regions are taken.
-NUMBERS = {**WALKING, "object_new": 1_000_000}
+NUMBERS = {**WALKING, **dict.fromkeys(["object_new", "new_two", "make_two", "new_ten", "make_ten"], 1_000_000)}
 TIMED = 5_000_000
 RUNS = 5
 # Instructions, in both scenes (a tenth more where they are scattered).
 ASKED = {"handle_get": 40, "handle_new": 150, "handle_set": 80, "object_new": 115, "field_set": 55, "field_get": 50,
-         "value_get": 30, "value_set": 30, "local_copy": 25, "local_clear": 25, "static_get": 40, "static_set": 40}
+         "value_get": 30, "value_set": 30, "local_copy": 25, "local_clear": 25, "static_get": 40, "static_set": 40,
+         "local_pass": 44, "locals_clear": 80}
+# And so many more than another call takes.
+OVER = {"field_load": ("field_get", 12), "handle_load": ("handle_get", 8), "make_two": ("new_two", 56),
+        "make_ten": ("new_ten", 248)}
 # An object's fields are zeroed, so what is asked of `object_new` is of one with two.
 NEAR_ALONE = {"object_new"}
 OTHERS_MAKE = {"handle_get", "handle_new", "object_new", "field_set"}
@@ -46,9 +50,16 @@ def instructions(program, scene, call):
     return (counts[1] - counts[0]) / times
 
 
+def asked_of(call, column, found):
+    """What is asked of a call in a column, or nothing."""
+    base, more = OVER.get(call, (None, 0))
+    return found[base][column] + more if base in found else ASKED.get(call)
+
+
 def others_of(options):
     """Who else makes the calls, with the words that have it make them."""
     found = [("CoreCLR", [options.coreclr, "calls"])] if options.coreclr else []
+    found += [("JNI", [options.jni])] if options.jni else []
     return found + ([("mono", [options.mono])] if options.mono else [])
 
 
@@ -73,7 +84,7 @@ def built(folder, name, libraries):
 
 
 def main(options):
-    missed, others, scenes = [], others_of(options), ["near", "scattered"]
+    missed, found, others, scenes = [], {}, others_of(options), ["near", "scattered"]
     with tempfile.TemporaryDirectory() as folder:
         program = built(folder, "host_bench", options.libraries)
         measured = [(program, scene) for scene in scenes]
@@ -86,10 +97,11 @@ def main(options):
         print(f"| {' | '.join(titles)} |\n|{'---|' * len(titles)}")
         for call in options.only or calls[1:]:
             each = [instructions(*it, call) - less for it, less in zip(measured, base)]
-            asked = ASKED.get(call)
-            if asked and (each[-2] > asked or call not in NEAR_ALONE and each[-1] > 1.1 * asked):
+            found[call] = each
+            near, far = (asked_of(call, column, found) for column in (-2, -1))
+            if near and (each[-2] > near or call not in NEAR_ALONE and each[-1] > 1.1 * far):
                 missed.append(call)
-            shown = [f"`{call}`", *(f"{it:,.1f}" for it in each), str(asked or "")]
+            shown = [f"`{call}`", *(f"{it:,.1f}" for it in each), f"{near:,.0f}" if near else ""]
             is_timed = call not in WALKING and not options.counts
             shown += timed(program, call, others) if is_timed else [""] * (1 + len(others))
             print(f"| {' | '.join(shown)} |", flush=True)
@@ -104,6 +116,7 @@ if __name__ == "__main__":
     WORDS.add_argument("--counts", action="store_true")
     WORDS.add_argument("--before", metavar="LIBRARY")
     WORDS.add_argument("--coreclr")
+    WORDS.add_argument("--jni")
     WORDS.add_argument("--mono")
     WORDS.add_argument("libraries", nargs="+")
     main(WORDS.parse_args())
