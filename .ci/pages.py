@@ -18,6 +18,8 @@ OUTSIDE = set("""
     kit-13f logic mutant grep allow-holes fact tidy your GetValue
     DeleteLocalRef PushLocalFrame NewGlobalRef NewWeakGlobalRef NewLocalRef DeleteGlobalRef DeleteWeakGlobalRef IsSameObject
     GetPrimitiveArrayCritical ReferenceEquals mono_array_addr mono_gc_collect mono_gchandle_new_v2 mono_gchandle_new_weakref_v2
+    GetObjectField GetLongField GetObjectClass NewObject SetObjectField PopLocalFrame mono_field_get_value
+    mono_object_new gchandles GetGCMemoryInfo mono_gc_get_used_size
     mono_gchandle_get_target_v2 mono_gchandle_set_target mono_gchandle_free_v2 _find JNIEnv AttachCurrentThread mono_thread_attach
 """.split())
 PATHS_OUTSIDE = {"external/corert", "out/machine"}
