@@ -21,6 +21,7 @@ use std::alloc::{AllocError, Global};
 
 /// A shortest chain of fields and dependent handles from an anchor to `goal`, if there is one. The
 /// anchors come in any order, and may repeat. It takes memory by what it reaches.
+#[inline(never)]
 pub fn search(
     alloc: Global,
     heap: &Heap,
