@@ -66,35 +66,6 @@ impl Store {
         ensures { let c = cmd.HSet 0 t in
             HasReturnedOf self.old caller slot c (λ _. reply.Done) self.new result }
     {
-        // A kind without extra data has none to write, and that is known where it is asked first.
-        if self.contents.is_paired(slot) {
-            self.set_target_beside(caller, slot, t)
-        } else {
-            self.set_target_of(caller, slot, t)
-        }
-    }
-
-    // The same as `set_target`, out of line.
-    #[inline(never)]
-    fn set_target_beside(&mut self, caller: u32, slot: Slot, t: u8) -> Result<(), Refusal>
-        requires caller { caller < self.old.numbers.callers }
-        requires register { t < REGISTERS }
-        requires live { IsSome (handle_at self.old.state slot) }
-        ensures { let c = cmd.HSet 0 t in
-            HasReturnedOf self.old caller slot c (λ _. reply.Done) self.new result }
-    {
-        self.set_target_of(caller, slot, t)
-    }
-
-    // The same, of any kind.
-    #[inline(always)]
-    fn set_target_of(&mut self, caller: u32, slot: Slot, t: u8) -> Result<(), Refusal>
-        requires caller { caller < self.old.numbers.callers }
-        requires register { t < REGISTERS }
-        requires live { IsSome (handle_at self.old.state slot) }
-        ensures { let c = cmd.HSet 0 t in
-            HasReturnedOf self.old caller slot c (λ _. reply.Done) self.new result }
-    {
         let _before = self.contents.objects();
         let handle = self.contents.live_handle(slot);
         let came = on_handles::set_target_of(&mut self.contents, caller, slot, handle, t);

@@ -40,14 +40,6 @@ impl Contents {
         self.table.target(slot)
     }
 
-    /// Whether the kind of the handle in a live slot has extra data.
-    #[inline(always)]
-    pub(crate) fn is_paired(&self, slot: Slot) -> bool
-        requires { IsSome (handle_at self.now.state slot) }
-    {
-        self.table.live_kind(slot).paired()
-    }
-
     /// The handle in a live slot.
     #[inline(always)]
     pub(crate) fn live_handle(&self, slot: Slot) -> Handle<Addr>

@@ -1,7 +1,7 @@
 use Rattle.hd_model.specs.declared.data.Reply.TheVariants as reply
 use Rattle.hd_commands.specs.Done.{done_with}
 use Rattle.hd_store.proofs.{SoundCalls.has-handles, SlotCalls.sets-target}
-use Rattle.hd_store.proofs.store.Store.set_target_of.Goals as goal
+use Rattle.hd_store.proofs.store.Store.set_target.Goals as goal
 
 pub live_handle-handle-requires-clause-handles : goal.live_handle-handle-requires-clause-handles
 live_handle-handle-requires-clause-handles c = has-handles c.self.inside.contents c.self.invariant
