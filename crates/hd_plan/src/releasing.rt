@@ -12,6 +12,7 @@ use hd_model::limits::OLDEST;
 
 /// Removes the objects of these moves from their old addresses, but for those that stay, where
 /// their region stays. The other regions are given up whole.
+#[inline(never)]
 pub(crate) fn remove_left(
     heap: &mut Heap,
     moves: &[Move],
