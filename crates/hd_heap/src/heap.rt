@@ -66,8 +66,7 @@ impl Model for Heap {
 
     ghost use Rattle.std.specs.VecDeque.{deque_capacity};
     ghost use Rattle.hd_heap.specs.Areas.{heap_of};
-    ghost use Rattle.hd_heap.specs.Inside.{IsKept};
-    ghost use Rattle.hd_heap.specs.Inside.{AreOthersFull, HasFlags, HasLeft, HasOlder};
+    ghost use Rattle.hd_heap.specs.Inside.{IsKept, AreOthersFull, HasFlags, HasLeft, HasOlder};
 
     ghost view = { λ h. heap_of h.areas.items h.free.items h.limit };
 
@@ -717,7 +716,7 @@ impl Heap {
     }
 
     /// A reference to an object, or null, as it is stored in a field: 0 for null.
-    fn stored(&self, v: Option<Addr>) -> u32
+    pub(crate) fn stored(&self, v: Option<Addr>) -> u32
         requires { IfSome v (λ y. has_object self.now y ≡ true) }
         ensures { address result ≡ v }
     {
@@ -740,7 +739,7 @@ impl Heap {
     }
 
     /// Writes a part of the object at `at`, without the write barrier.
-    fn write(&mut self, at: Addr, part: Part)
+    pub(crate) fn write(&mut self, at: Addr, part: Part)
         requires object { has_object self.old at ≡ true }
         requires within { HasPart (placed_at self.old at).fields part }
         ensures { let after = with_part (placed_at self.old at) part in

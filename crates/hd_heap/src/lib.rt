@@ -11,6 +11,7 @@ mod heap;
 mod moves;
 mod notes;
 mod sizes;
+mod young;
 
 pub use area::CARDS;
 pub use condemned::{Extent, ObjectHeader, RegionInfo, RegionObjects};
