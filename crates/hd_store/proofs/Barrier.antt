@@ -1,7 +1,7 @@
 -- A field of an object of a store is written through the barrier.
-use Rattle.hd_store.proofs.StoreWords.{Addr, Bool, Contains, Heap, Id, IfSome, IsField, IsStored, List, Machine, Object, Option, Parts, Placed, Some, T, ap, arith, card_of, cases_eq, eq-eqb, eq_by_cmp, false, fields_in, generation_at, get_or, get_or-set_other, get_or-set_same, has_object, id_at, if◌then◌else◌, inl, inr, is_younger, length, length-set, lt-ltb, machine_of, map, map-set, named_in, nat_cmp, nat_cmp_total, object_at, option_map, placed_at, read_object, refl, set, subst, sym, true, unsigned_tied, with_field, ℕ, ◌<◌, ◌||◌, ◌∙◌, ◌≡◌, ◌⊎◌}
+use Rattle.hd_store.proofs.StoreWords.{Addr, Bool, Contains, Heap, Id, IfSome, IsField, IsNamed, IsSome, IsStored, List, Machine, Object, Option, Parts, Placed, Some, T, ap, arith, card_of, cases_eq, eq-eqb, eq_by_cmp, false, fields_in, generation_at, get, get_or, get_or-set_other, get_or-set_same, has_object, id_at, if◌then◌else◌, inl, inr, is_younger, length, length-set, lt-ltb, machine_of, map, map-set, name_in, named_in, nat_cmp, nat_cmp_total, object_at, object_named, option_map, placed_at, read_object, refl, set, subst, sym, true, unsigned_tied, with_field, with_object, without_free, ℕ, ◌<◌, ◌||◌, ◌∙◌, ◌≡◌, ◌⊎◌}
 use Rattle.hd_heap.specs.Calls.{stored as with_stored}
-use Rattle.hd_store.proofs.{IdentityReadings.named-is, HeapCallReadings.placed_is, HeapCallReadings.object_is, StoreWrite.Writes}
+use Rattle.hd_store.proofs.{IdentityReadings.named-is, HeapCallReadings.placed_is, HeapCallReadings.object_is, HeapCallReadings.in_heap, HeapCallReadings.named_objects, StoreWrite.Writes, StoreWrite.stored-write, StoreWrite.with_heap, StoreWrite.written}
 use Rattle.std.specs.FinSet as set
 
 -- what is in a list with one item written
@@ -78,3 +78,26 @@ module _ (f : Parts) (stored : IsStored f) (at : Addr) (known : has_object f.hea
         fields = set (map (option_map (id_at f.heap)) (placed_at f.heap at).fields) i
             ((sym (named-is f.heap v) ∙ ap (λ (n : Machine). named_in n.names v) view) k);
       })
+
+-- such a write, as the store and the machine have it
+pub field-written : (f : Parts) (m : Machine) → machine_of f ≡ m → IsStored f → (at : Addr)
+    → IsSome (get m.names at.0) → (i : ℕ) (v : Option Addr) → IsNamed m.names v → (k : Heap)
+    → k ≡ with_stored f.heap at i v → IsStored (with_heap f k) × (machine_of (with_heap f k)
+    ≡ record m {
+      state = with_object m.state (name_in m.names at) (record (object_named m at) {
+        fields = set (object_named m at).fields i (named_in m.names v);
+      });
+      heap = without_free k;
+    })
+field-written f m view stored at known i v named k made =
+    let there = in_heap f m view stored at known in
+    let target = named_objects f.heap v (subst (λ (n : Machine). IsNamed n.names v) (sym view) named) in
+    let new = field_new f stored at there i v target in
+    let w : Writes f.heap k at (placed_at f.heap at) new =
+    subst (λ h. Writes f.heap h at (placed_at f.heap at) new) (sym made)
+    (writes_field f stored at there i v target) in (
+      stored-write f k at (placed_at f.heap at) new w stored,
+      written f m view stored at known k new w
+          (λ o. record o { fields = set o.fields i (named_in m.names v) })
+          (reads_field f stored at there i v target m view),
+    )

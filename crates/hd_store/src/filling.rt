@@ -1,9 +1,9 @@
 // What a store does with an object that is made with its value and its fields, and with registers
 // that are cleared.
-ghost use Rattle.std.specs.Prelude.{◌≡◌, ℕ, ◌+◌, ◌<◌, ◌≤◌, ◌^◌, length, map, slice_index, None, IsSome, IfOk, IfErr, OnErr};
+ghost use Rattle.std.specs.Prelude.{◌≡◌, ℕ, ◌+◌, ◌<◌, ◌≤◌, ◌^◌, length, map, slice_index, slice_set, None, IsSome, IfOk, IfErr, OnErr};
 ghost use Rattle.std.specs.FinMap.{get};
 ghost use Rattle.hd_model.specs.State.{identity_of, last_serial, register_of, total_size, with_object};
-ghost use Rattle.hd_store.specs.{Objects.object_named, Reading.name_in, Inside.IsObjectRefused};
+ghost use Rattle.hd_store.specs.{Objects.object_named, Reading.name_in, Reading.named_in, Reading.IsNamed, Inside.IsObjectRefused};
 ghost use Rattle.hd_store.specs.Hosted.{nulled, object_report, with_cleared, Fills, HasAdded};
 
 use crate::contents::{Contents, INDEXES};
@@ -67,13 +67,31 @@ impl Contents {
         self.heap.set_value(at, value);
     }
 
-    // Writes the value of an object and its fields, which get what registers of a caller reference.
+    // Field `i` of an object of generation 0 becomes `v`.
+    #[inline(always)]
+    fn fill_field(&mut self, at: Addr, i: u32, v: Option<Addr>)
+        requires known { IsSome (get self.old.names at.0) }
+        requires young { (object_named self.old at).generation ≡ 0 }
+        requires field { i < length (object_named self.old at).fields }
+        requires named { IsNamed self.old.names v }
+        ensures { let object = object_named self.old at in
+            let fields = slice_set object.fields i (named_in self.old.names v) in
+            let after = record object { fields = fields } in
+            let state = with_object self.old.state (name_in self.old.names at) after in
+            self.new ≡ record self.old { state = state; heap = self.new.heap } }
+    {
+        self.heap.store_young(at, i, v);
+    }
+
+    // Writes the value of an object of generation 0 and its fields, which get what registers of a
+    // caller reference.
     fn fill_object(&mut self, at: Addr, value: u64, caller: u32, src: &[u32])
         requires known { IsSome (get self.old.names at.0) }
         requires caller { caller < self.old.numbers.callers }
         requires sources { (i : ℕ) → i < length src.now → slice_index src.now i < REGISTERS }
         requires few { length src.now ≤ FIELDS }
         requires fields { length src.now ≡ length (object_named self.old at).fields }
+        requires young { (object_named self.old at).generation ≡ 0 }
         ensures { let fields = map (register_of self.old.state caller) src.now in
             let object = record (object_named self.old at) { fields = fields; value = value } in
             let state = with_object self.old.state (name_in self.old.names at) object in
@@ -81,10 +99,10 @@ impl Contents {
     {
         self.write_value(at, value);
         for i in 0..src.len() {
-            let index = i as u8;
+            let index = i as u32;
             let from = src[i] as u8;
             let target = self.register(caller, from);
-            self.set_field(at, index, target);
+            self.fill_field(at, index, target);
         }
     }
 
