@@ -11,6 +11,6 @@ pub use Rattle.std.specs.List.{list_any, range_with_len}
 pub use Rattle.std.specs.Ordering.{eq_by_cmp, nat_cmp}
 pub use Rattle.std.specs.Prelude.{IfNone, IfSome, MatchResult, is_some, nat_eq}
 pub use Rattle.hd_tiers.specs.{Inside.IsTiered, Inside.Lengthened, Sets.is_marked}
-pub use Rattle.hd_tiers.specs.Sets.{HasAllOf, HasNoneBetween, HasNoneFrom, HasNoneOf, HasSomeOf, NumberSet, IsLeastFrom, IsLeastOf, numbers_of}
+pub use Rattle.hd_tiers.specs.Sets.{HasAllBetween, HasAllOf, HasNoneBetween, HasNoneFrom, HasNoneOf, HasSomeOf, IsGapFrom, NumberSet, IsLeastFrom, IsLeastOf, numbers_of}
 pub use Rattle.hd_mask.specs.declared.TheConstants.{BITS}
 pub use Rattle.std.proofs.lemmas.Nat.{and_le_l}

@@ -111,6 +111,17 @@ no_marks masks zeros =
     ∙ ap (λ m. bit_at m (q % BITS) == 1) (zeros (q / BITS)) ∙ ap (λ b. b == 1) (bit_at-zero (q % BITS))
     ∙ sym (contains-empty nat_cmp q))
 
+-- a set bit of a shifted word is one of its 64 bits
+pub row_within : (word k row : ℕ) → word < 2 ^ 64 → bit_at (word / 2 ^ k) row ≡ 1 → k + row < BITS
+row_within word k row fits set =
+    elim (cases_lt (k + row) BITS) [
+      | inl lt ↦ lt
+      | inr le ↦
+          let one : bit_at word (k + row) ≡ 1 = sym (bit_at-shr word k row) ∙ set in
+          let none : bit_at word (k + row) ≡ 0 = bit_at_above word BITS (k + row) fits le in
+          absurd (omega (arith, sym none ∙ one))
+    ]
+
 -- ---- what callers see
 
 abbrev pub seen : List ℕ → NumberSet
@@ -238,15 +249,7 @@ module _ (masks : List ℕ) (s : NumberSet) (is : seen masks ≡ s) where
     module _ (row : ℕ) (set : bit_at (mask / 2 ^ (from % BITS)) row ≡ 1)
         (least : (k : ℕ) → k < row → bit_at (mask / 2 ^ (from % BITS)) k ≡ 0) where
       pub row_low : from % BITS + row < BITS
-      row_low =
-          elim (cases_lt (from % BITS + row) BITS) [
-            | inl lt ↦ lt
-            | inr le ↦
-                let one : bit_at mask (from % BITS + row) ≡ 1 = sym (bit_at-shr mask (from % BITS) row) ∙ set in
-                let none : bit_at mask (from % BITS + row) ≡ 0 =
-                bit_at_above mask BITS (from % BITS + row) fits le in
-                absurd (omega (arith, sym none ∙ one))
-          ]
+      row_low = row_within mask (from % BITS) row fits set
 
       pub beside : IsLeastFrom s.members from (from + row)
       beside =

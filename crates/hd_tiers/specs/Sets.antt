@@ -51,6 +51,16 @@ pub record IsLeastBetween (s : FinSet nat_cmp) (from to i : ℕ) : Type 0 where
 abbrev pub HasNoneBetween : FinSet nat_cmp → ℕ → ℕ → Type 0
 HasNoneBetween s from to = (k : ℕ) → from ≤ k → k < to → contains s k ≡ false
 
+-- all numbers from one on and below another are members
+abbrev pub HasAllBetween : FinSet nat_cmp → ℕ → ℕ → Type 0
+HasAllBetween s from to = (k : ℕ) → from ≤ k → k < to → contains s k ≡ true
+
+-- the least number from one on that is no member
+pub record IsGapFrom (s : FinSet nat_cmp) (from i : ℕ) : Type 0 where
+  pub low : from ≤ i
+  pub outside : contains s i ≡ false
+  pub inside : HasAllBetween s from i
+
 -- all numbers of a block are members
 abbrev pub HasAllOf : FinSet nat_cmp → ℕ → Type 0
 HasAllOf s block = (i : ℕ) → i / BITS ≡ block → contains s i ≡ true

@@ -1,6 +1,7 @@
 ghost use Rattle.std.specs.Prelude.{◌≡◌, ◌↔◌, ℕ, ◌+◌, ◌*◌, ◌/◌, ◌^◌, ◌<◌, ◌≤◌, ◌⊎◌, true, false, length, IfSome, IfNone, IsTrue, MatchResult};
 ghost use Rattle.std.specs.FinSet.{contains, insert, remove, union, difference};
 ghost use Rattle.hd_tiers.specs.Sets.{numbers_of, IsLeastFrom, HasNoneFrom, HasNoneBetween, HasAllOf, HasNoneOf, HasSomeOf, IsLeastOf};
+ghost use Rattle.hd_tiers.specs.Sets.{HasAllBetween, IsGapFrom};
 ghost use Rattle.hd_tiers.specs.Inside.{mask_of, Lengthened};
 
 use crate::numbers::Numbers;
@@ -167,6 +168,40 @@ impl Masks {
             }
         }
         None
+    }
+
+    /// The least number from `from` on that is no member. It may be past the room.
+    pub(crate) fn gap_from(&self, from: u32) -> u32
+        ensures { IsGapFrom self.now.members from result }
+    {
+        match self.gap_beside(from) {
+            Some(i) => i,
+            None => self.gap_beyond(from / BITS + 1),
+        }
+    }
+
+    // The least number from `from` on in the block of `from` that is no member.
+    fn gap_beside(&self, from: u32) -> Option<u32>
+        ensures found { IfSome result (IsGapFrom self.now.members from) }
+        ensures none { IfNone result
+            (HasAllBetween self.now.members from (BITS * (from / BITS + 1))) }
+        ensures within { IfNone result (BITS * (from / BITS + 1) ≤ self.now.room) }
+    {
+        let row = lowest(!mask_of(&self.masks, from / BITS) >> (from % BITS))?;
+        Some(from + row)
+    }
+
+    // The least number of the blocks from `block` on that is no member.
+    fn gap_beyond(&self, block: u32) -> u32
+        requires { BITS * block ≤ self.now.room }
+        ensures { IsGapFrom self.now.members (BITS * block) result }
+    {
+        for at in block..blocks_of(&self.masks) {
+            if let Some(row) = lowest(!self.masks[at as usize]) {
+                return at * BITS + row;
+            }
+        }
+        blocks_of(&self.masks) * BITS
     }
 }
 

@@ -1,3 +1,5 @@
+ghost use Rattle.hd_tiers.specs.Sets.{IsGapFrom};
+
 use crate::masks::Masks;
 use crate::numbers::Numbers;
 use hd_mask::BITS;
@@ -26,6 +28,16 @@ impl<S: Numbers> Model for Tier<S> {
     ghost view = { λ s. s.numbers };
 
     ghost invariant = { λ s. IsTiered s.numbers (S.seen s.marked) };
+}
+
+impl<S: Numbers> Tier<S> {
+    /// The least number from `from` on that is no member. It reads the masks from that of `from` on
+    /// up to one that is not full.
+    pub fn gap_from(&self, from: u32) -> u32
+        ensures { IsGapFrom self.now.members from result }
+    {
+        self.numbers.gap_from(from)
+    }
 }
 
 impl<S: Numbers> Numbers for Tier<S> {
