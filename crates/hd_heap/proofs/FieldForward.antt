@@ -37,10 +37,10 @@ module _ (g : ℕ → ℕ) where
 -- the object that was put at an offset
 module _ (r : Contents) (m : fin.FinMap nat_cmp Object) (at : ℕ) (o : Object)
     (is : r.objects ≡ fin.insert m at o) where
-  placed_there : IsObject r at
+  pub placed_there : IsObject r at
   placed_there = ap (λ x. is_some (fin.get x at)) is ∙ ap is_some (get_inserted m at o)
 
-  placed_is : object_at r at ≡ o
+  pub placed_is : object_at r at ≡ o
   placed_is = ap (λ x. unwrap_or (fin.get x at) no_object) is
       ∙ ap (λ x. unwrap_or x no_object) (get_inserted m at o)
 

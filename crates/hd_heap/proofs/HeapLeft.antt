@@ -1,6 +1,7 @@
 -- What is known of the cells that are left in the region of the last new object.
-use Rattle.hd_heap.proofs.Basics.{HasLeft, HasRoom, Heap, Option, Placed, REGION, Region, Some, ap, arith, cases_eq, cells_of, cond, eq-eqb, get_inserted, inl, inr, is_some, nat_eq, ne_eqb, region_at, region_generation, sym, unwrap_or, with_fresh, with_put, ℕ, ◌+◌, ◌-◌, ◌<◌, ◌∙◌, ◌≡◌, ◌≤◌}
-use Rattle.hd_heap.proofs.HeapValues.{blank, get_same}
+use Rattle.hd_heap.proofs.Basics.{HasLeft, HasRoom, Heap, Option, Placed, REGION, Region, Some, ap, arith, cases_eq, cells_of, cond, eq-eqb, get_inserted, heap_of, inl, inr, is_some, nat_eq, ne_eqb, region_at, region_generation, sym, unwrap_or, with_fresh, with_put, ℕ, ◌+◌, ◌-◌, ◌<◌, ◌∙◌, ◌≡◌, ◌≤◌}
+use Rattle.hd_heap.proofs.{HeapValues.blank, HeapValues.get_same, RegionReads.left_read}
+use Rattle.hd_heap.specs.declared.heap.Heap.TheInside.{Inside}
 use Rattle.std.specs.FinMap as fin
 
 -- where less is used
@@ -17,6 +18,13 @@ current_room h current used left size is some fits =
     let was = is (λ none. omega (arith, none, some, fits)) in
     let limit : used + size ≤ h.limit = omega (arith, was.3, fits) in
     (record { held = was.0; young = was.1; room = omega (arith, was.2, fits) }, limit)
+
+-- the same of what a heap has inside
+pub room_inside : (s : Inside) {h : Heap} → heap_of s.areas.items s.free.items s.limit ≡ h
+    → HasLeft (heap_of s.areas.items s.free.items s.limit) s.current s.used s.left → (size : ℕ) → 0 < size
+    → size ≤ s.left → HasRoom h s.current size × (s.used + size ≤ h.limit)
+room_inside s {h} view is size some fits =
+    current_room h s.current s.used s.left size (left_read s view is) some fits
 
 -- a region is begun
 pub left_begun : (h : Heap) (r used left : ℕ) → left ≤ REGION → left ≤ h.limit - used

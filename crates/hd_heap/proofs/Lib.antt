@@ -15,6 +15,7 @@ pub mod HeapValues
 pub mod HeapNotes
 pub mod HeapLeft
 pub mod FieldForward
+pub mod FieldFill
 pub mod HeapReferences
 pub mod RunCopies
 pub mod RegionCopy

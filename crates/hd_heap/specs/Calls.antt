@@ -1,5 +1,5 @@
 -- What the calls of a heap return, and how they leave it.
-use Rattle.std.specs.Prelude.{◌≡◌, ◌≢◌, ℕ, ◌+◌, ◌*◌, ◌/◌, ◌<◌, ◌≤◌, ◌&&◌, ◌++◌, ◌∷◌, Bool, true, false, not, if◌then◌else◌, List, [], map as each, drop, length, replicate, slice_set, slice_index, sum_by, nat_lt, nat_le, nat_eq, AllPairs, Contains, Option, Some, None, MatchOption, option_map}
+use Rattle.std.specs.Prelude.{◌≡◌, ◌≢◌, ℕ, ◌+◌, ◌*◌, ◌/◌, ◌<◌, ◌≤◌, ◌&&◌, ◌++◌, ◌∷◌, Bool, true, false, not, if◌then◌else◌, List, [], map as each, drop, length, replicate, slice_set, slice_index, slice_index_or, sum_by, nat_lt, nat_le, nat_eq, AllPairs, Contains, Option, Some, None, MatchOption, option_map}
 use Rattle.std.specs.FinMap as map
 use Rattle.std.specs.FinSet as set
 use Rattle.hd_model.specs.declared.limits.TheConstants.{REGION, REGIONS, LEFT}
@@ -31,6 +31,15 @@ new_object id count registered = record {
   id = id;
   fields = replicate count None;
   value = 0;
+  registered = registered;
+}
+
+-- a new object with a value, and with the targets at some numbers behind one as its fields
+abbrev pub filled_object : Id → ℕ → Bool → List (Option Addr) → ℕ → List ℕ → Placed
+filled_object id value registered targets first src = record {
+  id = id;
+  fields = each (λ i. slice_index_or targets (first + i) None) src;
+  value = value;
   registered = registered;
 }
 

@@ -327,6 +327,20 @@ with_part p (Value v) = record p { value = v }
 with_part p (Registered on) = record p { registered = on }
 with_part p (Field i n) = with_field p i (address n)
 
+-- a reference as it is stored in a field
+abbrev pub stored_target : Option Addr → ℕ
+stored_target None = 0
+stored_target (Some a) = a.0
+
+-- an object of a region with a value, and with the targets at some numbers behind one as its fields
+abbrev pub region_filled : (id value : ℕ) → Bool → List (Option Addr) → ℕ → List ℕ → Object
+region_filled id value registered targets first src = record {
+  identity = id;
+  fields = map (λ i. stored_target (slice_index_or targets (first + i) None)) src;
+  value = value;
+  registered = registered;
+}
+
 -- whether it registers the object
 abbrev pub registers : Part → Bool
 registers (Value v) = false

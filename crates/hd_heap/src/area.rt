@@ -1,6 +1,6 @@
 // A region of a heap, with what the heap keeps of it.
 ghost use Rattle.std.specs.Prelude.{◌≡◌, ◌≢◌, ℕ, ◌+◌, ◌-◌, ◌/◌, ◌<◌, ◌≤◌, ◌&&◌, ◌⊎◌, true, false, nat_lt, nat_eq, not};
-ghost use Rattle.std.specs.Prelude.{Some, None, IfSome, IsTrue, length};
+ghost use Rattle.std.specs.Prelude.{Some, None, IfSome, IsTrue, length, slice_index};
 ghost use Rattle.std.specs.FinMap as map;
 ghost use Rattle.hd_cells.specs.Object.{new_object, size_of};
 ghost use Rattle.hd_cells.specs.Region.{IsFirstFrom, IsLaidOut, IsObject, empty_region};
@@ -9,13 +9,14 @@ ghost use Rattle.hd_heap.specs.{Areas.contents, Areas.card_in, Inside.BeginsIn, 
 ghost use Rattle.hd_heap.specs.Inside.{wants, HasPart, IsAsked, IsFirstAt, IsFirstSince, IsTaken};
 ghost use Rattle.hd_heap.specs.Inside.{IsFreed, area_put, area_written, region_with_part, registers};
 ghost use Rattle.hd_heap.specs.{Inside.area_run, Inside.cells_run, Inside.AreLaidOut, Inside.MayPutRun, Runs.IsRun};
-ghost use Rattle.hd_heap.specs.Inside.{region_forwarded, MayForward};
+ghost use Rattle.hd_heap.specs.Inside.{region_filled, region_forwarded, MayForward};
 
+use crate::filling::put_filled;
 use crate::forwarding::{copy_run, forward_fields};
 use crate::moves::Move;
 use hd_cells::Region;
-use hd_model::Forward;
 use hd_model::limits::{CARD, FIELDS, HEADER, OLDEST, REGION};
+use hd_model::{Addr, Forward};
 use std::boxed::Box;
 
 /// The cards of a region.
@@ -153,6 +154,35 @@ impl Area {
         self.live += fields + HEADER;
         self.count += 1;
         self.region.put_object(id, fields, registered)
+    }
+
+    /// Puts an object with a value and with its fields after all others, and returns its offset.
+    #[inline(always)]
+    pub(crate) fn put_filled(
+        &mut self,
+        id: u64,
+        value: u64,
+        registered: bool,
+        targets: &[Option<Addr>],
+        first: usize,
+        src: &[u32],
+    ) -> u32
+        requires area { IsArea self.old }
+        requires held { self.old.held ≡ true }
+        requires identified { id ≢ 0 }
+        requires few { length src.now ≤ FIELDS }
+        requires sources { (i : ℕ) → i < length src.now
+            → first + slice_index src.now i < length targets.now }
+        requires room { (contents self.old).fill + (length src.now + HEADER) ≤ REGION }
+        ensures area { IsArea self.new }
+        ensures offset { result ≡ (contents self.old).fill }
+        ensures put { self.new
+            ≡ area_put self.old (region_filled id value registered targets.now first src.now) }
+    {
+        self.live += src.len() as u32 + HEADER;
+        let at = put_filled(&mut self.region, id, value, registered, targets, first, src);
+        self.count += 1;
+        at
     }
 
     /// Puts a copy of an object of another region after all others, and returns its offset.

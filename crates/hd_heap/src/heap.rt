@@ -47,13 +47,13 @@ pub struct Heap {
     pub(crate) held: u32,
     pub(crate) older: Older,
     // The region of the last new object, or 0 where other ones may have room for the next.
-    current: u32,
+    pub(crate) current: u32,
     // Cells that are left in that region, which is then of generation 0, and within the limit: as
     // far as is known, or 0.
-    left: u32,
+    pub(crate) left: u32,
     // Whether a card may be set, and whether an object may be registered for finalization.
     carding: bool,
-    registering: bool,
+    pub(crate) registering: bool,
 }
 
 impl Model for Heap {
@@ -716,7 +716,7 @@ impl Heap {
     }
 
     /// A reference to an object, or null, as it is stored in a field: 0 for null.
-    pub(crate) fn stored(&self, v: Option<Addr>) -> u32
+    fn stored(&self, v: Option<Addr>) -> u32
         requires { IfSome v (λ y. has_object self.now y ≡ true) }
         ensures { address result ≡ v }
     {
@@ -739,7 +739,7 @@ impl Heap {
     }
 
     /// Writes a part of the object at `at`, without the write barrier.
-    pub(crate) fn write(&mut self, at: Addr, part: Part)
+    fn write(&mut self, at: Addr, part: Part)
         requires object { has_object self.old at ≡ true }
         requires within { HasPart (placed_at self.old at).fields part }
         ensures { let after = with_part (placed_at self.old at) part in

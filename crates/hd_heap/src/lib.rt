@@ -6,12 +6,12 @@ mod area;
 mod condemned;
 mod fault;
 mod fields;
+mod filling;
 mod forwarding;
 mod heap;
 mod moves;
 mod notes;
 mod sizes;
-mod young;
 
 pub use area::CARDS;
 pub use condemned::{Extent, ObjectHeader, RegionInfo, RegionObjects};

@@ -37,3 +37,13 @@ pub(crate) fn noted(flag: bool, on: bool) -> bool
 {
     flag || on
 }
+
+/// Notes something in a flag, if it is so. Where it rarely is, a test takes less than a write.
+#[inline(always)]
+pub(crate) fn note(flag: &mut bool, on: bool)
+    ensures { flag.new ≡ (flag.old || on) }
+{
+    if on {
+        *flag = true;
+    }
+}
