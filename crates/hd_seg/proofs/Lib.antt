@@ -2,6 +2,7 @@ pub mod Basics
 pub mod FunctionMaps
 pub mod ChainLinks
 pub mod UnusedBlocks
+pub mod GivenBlocks
 pub mod BlockAdd
 pub mod BlockRemove
 pub mod DataRemove
@@ -12,3 +13,5 @@ pub mod RowCalls
 pub mod BlockChange
 pub mod ReadCalls
 pub mod RowRewrite
+pub mod MoreBlocks
+pub mod MoreRows

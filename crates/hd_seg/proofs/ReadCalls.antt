@@ -1,5 +1,5 @@
 -- What the reading calls return, by the fields and the value of a table.
-use Rattle.hd_seg.proofs.Basics.{Addr, Bool, BlockUse, CLUMP, CLUMPS, Contains, Handle, IfSome, IsLeastWithout, IsSeg, IsTable, Kind, List, None, Option, ROWS, Some, Table, Uses, Vectors, [], ap, arith, bit_and, bit_at, bit_at-shr, chain_of, cond, contains_key, drop, drop_more, empty, empty_table, false, get, get-empty, get_beside, get_or, get_or_from_slice_get, handles_of, has_handles, is_some, kind_at, len, len-empty, length, length-replicate, live_bit, mapped, nat_cmp, refl, replicate, row_in, slice_get, slice_get_within, subst, suc, sym, table_in, take, take-append-drop, true, with_block, zero, ℕ, ◌%◌, ◌*◌, ◌++◌, ◌+◌, ◌/◌, ◌<◌, ◌==◌, ◌^◌, ◌∙◌, ◌∷◌, ◌≡◌, ◌≤◌}
+use Rattle.hd_seg.proofs.Basics.{Addr, Bool, BlockUse, CLUMP, CLUMPS, Contains, Handle, IfSome, IsLeastWithout, IsSeg, IsTable, Kind, List, None, Option, ROWS, Some, Table, Uses, Vectors, [], ap, arith, bit_and, bit_at, bit_at-shr, chain_of, cond, contains_key, drop, drop_more, empty, empty_table, false, get, get-empty, get_beside, get_or, get_or_from_slice_get, handles_of, has_handles, is_some, kind_at, len, len-empty, length, length-replicate, live_bit, mapped, nat_cmp, refl, replicate, row_in, slice_get, slice_get_within, subst, suc, sym, table_in, take, take-append-drop, true, with_block, zero, ℕ, ◌%◌, ◌*◌, ◌++◌, ◌+◌, ◌/◌, ◌<◌, ◌==◌, ◌^◌, ◌∙◌, ◌∷◌, ◌≡◌, ◌≤◌, Extra}
 use Rattle.std.proofs.lemmas.Nat.Bits.{bit_at-zero, bit_at_and, bit_at_ones, bit_at-lt}
 use Rattle.hd_model.proofs.WholeScenes.{if_some_from}
 use Rattle.hd_seg.proofs.{FunctionMaps.mapped-empty, RowCalls.row_seen}
@@ -155,9 +155,9 @@ module _ (blocks : ℕ) where
       bare 0
   seg-none table = record {
     table = table;
-    targets = length-replicate (ROWS * (blocks + 1)) None;
-    extras = length-replicate (ROWS * (blocks + 1)) Nothing;
-    masks = length-replicate (blocks + 1) 0;
+    targets = omega (arith, length-replicate {A = Option Addr} (ROWS * (blocks + 1)) None);
+    extras = omega (arith, length-replicate {A = Extra Addr} (ROWS * (blocks + 1)) Nothing);
+    masks = omega (arith, length-replicate {A = ℕ} (blocks + 1) 0);
     counted = sym (ap len no_rows ∙ len-empty nat_cmp (Handle Addr));
     placed = λ q _. no_bit q;
     fitting = λ q h is. absurd (none_is_some _ (no_row q) (some_of _ _ is));

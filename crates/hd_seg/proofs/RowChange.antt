@@ -28,9 +28,9 @@ module _ {u : Uses} {v w : Vectors} {live : ℕ} (inv : IsSeg u v live)
       → ((h : Handle Addr) → row_in u w slot ≡ Some h → fits h.kind h.extra ≡ true) → IsSeg u w new_live
   seg-after new_live counted fitting = record {
     table = inv.table;
-    targets = write.targets ∙ inv.targets;
-    extras = write.extras ∙ inv.extras;
-    masks = write.masks ∙ inv.masks;
+    targets = omega (arith, write.targets, inv.targets);
+    extras = omega (arith, write.extras, inv.extras);
+    masks = omega (arith, write.masks, inv.masks);
     counted = counted;
     placed = λ q none.
         let apart : q ≢ slot =

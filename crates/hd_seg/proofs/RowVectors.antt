@@ -125,7 +125,7 @@ module _ {u : Uses} (p : IsPaired u) where
 
     -- the extra that was written, or nothing where the kind has no extra data
     pub extra_same : (k : Kind) → get u.table.uses (slot / ROWS) ≡ Some (handles_of k)
-        → length extras ≡ ROWS * (u.table.blocks + 1) → fits k (extra_of e) ≡ true
+        → ROWS * (u.table.blocks + 1) ≤ length extras → fits k (extra_of e) ≡ true
         → extra_of (extra_at (with_extra extras (extra_index u slot) e) (extra_index u slot)) ≡ extra_of e
     extra_same k in_block room fitting =
         elim (cases_option (get u.extras (slot / ROWS))) [

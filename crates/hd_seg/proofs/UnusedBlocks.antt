@@ -4,11 +4,11 @@ use Rattle.std.specs.FinSet.{FinSet, empty, insert, remove}
 use Rattle.hd_tiers.proofs.SetMembers.{insert_same, insert_other, insert_keeps, remove_same, remove_other}
 use Rattle.hd_seg.proofs.ChainLinks.{none_is_some, use_is}
 
-no_use : (o : Option BlockUse) → is_none o ≡ true → o ≡ None
+pub no_use : (o : Option BlockUse) → is_none o ≡ true → o ≡ None
 no_use None e = refl
 no_use (Some x) e = absurd (true≢false (sym e))
 
-some_use : (o : Option BlockUse) → is_none o ≡ false → IsSome o
+pub some_use : (o : Option BlockUse) → is_none o ≡ false → IsSome o
 some_use None e = absurd (true≢false e)
 some_use (Some x) e = refl
 

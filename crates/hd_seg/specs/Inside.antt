@@ -41,6 +41,13 @@ pub record ListsUnused (number : ℕ) (table : List Block) (s : NumberSet) : Typ
   pub within : (b : ℕ) → contains s.members b ≡ true → (1 ≤ b) × (b ≤ number)
   pub each : (b : ℕ) → 1 ≤ b → b ≤ number → contains s.members b ≡ is_none (use_at table b)
 
+-- a set got the numbers after `from` up to `to`
+pub record HasAdded (from to : ℕ) (old new : NumberSet) : Type 0 where
+  pub room : new.room ≡ old.room
+  pub added : (b : ℕ) → from < b → b ≤ to → contains new.members b ≡ true
+  pub low : (b : ℕ) → b ≤ from → contains new.members b ≡ contains old.members b
+  pub high : (b : ℕ) → to < b → contains new.members b ≡ contains old.members b
+
 -- block b has handles of a kind, and a chain index
 pub record IsListed (number : ℕ) (table : List Block) (k : Kind) (b at : ℕ) : Type 0 where
   pub low : 1 ≤ b
@@ -89,13 +96,13 @@ pub record IsPaired (u : Uses) : Type 0 where
   pub within : (b d : ℕ) → get u.extras b ≡ Some d → d ≤ u.table.blocks
   pub apart : (a b d : ℕ) → get u.extras a ≡ Some d → get u.extras b ≡ Some d → a ≡ b
 
--- what is always true of a table: only blocks of handles have a set bit, so the live rows are exactly the set
--- bits; and a live row has a fitting extra
+-- what is always true of a table, whose vectors may have more than its blocks need: only blocks of handles have
+-- a set bit, so the live rows are exactly the set bits; and a live row has a fitting extra
 pub record IsSeg (u : Uses) (v : Vectors) (live : ℕ) : Type 0 where
   pub table : IsTable u.table
-  pub targets : length v.targets ≡ ROWS * (u.table.blocks + 1)
-  pub extras : length v.extras ≡ ROWS * (u.table.blocks + 1)
-  pub masks : length v.masks ≡ u.table.blocks + 1
+  pub targets : ROWS * (u.table.blocks + 1) ≤ length v.targets
+  pub extras : ROWS * (u.table.blocks + 1) ≤ length v.extras
+  pub masks : u.table.blocks + 1 ≤ length v.masks
   pub counted : live ≡ len (mapped ROWS (ROWS * u.table.blocks) (row_in u v))
   pub placed : (q : ℕ) → has_handles (get u.table.uses (q / ROWS)) ≡ false → live_bit v.masks q ≡ 0
   pub fitting : (slot : ℕ) (h : Handle Addr) → row_in u v slot ≡ Some h → fits h.kind h.extra ≡ true

@@ -4,4 +4,5 @@ pub mod Blocks
 pub mod Rows
 pub mod Rewriting
 pub mod Pairs
+pub mod Given
 pub mod Inside

@@ -2,19 +2,23 @@
 
 ghost use Rattle.std.specs.Prelude.{◌≡◌, ℕ, ◌+◌, ◌<◌, ◌≤◌, ◌++◌, ◌∷◌, List, [], Some, None, All, true, IsSome};
 ghost use Rattle.std.specs.Prelude.{drop, length, map, replicate, slice_get, slice_index, vec_capacity};
-ghost use Rattle.std.specs.Prelude.{IfOk};
+ghost use Rattle.std.specs.Prelude.{IfOk, IfSome, MatchOption};
 ghost use Rattle.std.specs.FinMap.{get, insert, len, empty, remove};
 ghost use Rattle.hd_model.specs.Table.{empty_table, chain_of, has_handles, IsLeastWithout, kind_at};
 ghost use Rattle.hd_model.specs.Table.{with_block, with_data, without_block};
+ghost use Rattle.std.specs.Prelude.{MatchResult, max};
 ghost use Rattle.hd_model.specs.Table.{IsTable};
 ghost use Rattle.hd_model.specs.State.{extra_data};
 ghost use Rattle.hd_seg.specs.Row.{block_kind_of};
 ghost use Rattle.hd_seg.specs.Inside.{numbered};
 ghost use Rattle.hd_seg.specs.Pairs.{without_data};
+ghost use Rattle.hd_seg.specs.Given.{HasNoneGiven, IsNextGiven};
 
 use crate::block::{Block, UNUSED};
+use crate::lists::{lengthen, reserve_each};
 use crate::row::BlockKind;
-use crate::unused::{numbers_to, take_from};
+use crate::unused::{add_numbers, numbers_to, take_from};
+use hd_mask::BITS;
 use hd_model::limits::{HOST_BLOCKS, KINDS};
 use hd_model::{Kind, Memory, filled};
 use hd_tiers::{Masks, Numbers, Tier};
@@ -94,6 +98,28 @@ impl Blocks {
         })
     }
 
+    /// Makes them `number` blocks at least.
+    pub(crate) fn reserve(&mut self, number: u32) -> Result<(), Memory>
+        requires { number ≤ HOST_BLOCKS }
+        ensures after { MatchResult result
+            (λ _. self.new ≡ record self.old {
+              table =
+                  record self.old.table { blocks = max self.old.table.blocks number };
+            })
+            (λ _. self.new ≡ self.old) }
+        ensures table { IsTable self.new.table }
+    {
+        if number <= self.number {
+            return Ok(());
+        }
+        self.unused.reserve(number / BITS + 1)?;
+        reserve_each(&mut self.chains, number as usize)?;
+        lengthen(&mut self.table, UNUSED, number + 1)?;
+        add_numbers(&mut self.unused, self.number, number);
+        self.number = number;
+        Ok(())
+    }
+
     /// The number of unused blocks.
     pub(crate) fn unused(&self) -> u32
         ensures value { result + len self.now.table.uses ≡ self.now.table.blocks }
@@ -116,6 +142,39 @@ impl Blocks {
         ensures { result ≡ block_kind_of (get self.now.table.uses block) }
     {
         self.table[block as usize].kind
+    }
+
+    /// The least block from one on that has a use, if there is one.
+    #[inline(always)]
+    pub(crate) fn next_given(&self, from: u32) -> Option<u32>
+        requires { 1 ≤ from }
+        ensures next { let uses = self.now.table.uses in
+            MatchOption result (HasNoneGiven uses from) (IsNextGiven uses from) }
+        ensures within { IfSome result (λ block. block ≤ self.now.table.blocks) }
+    {
+        let last = self.number;
+        if from > last {
+            return None;
+        }
+        match self.kind(from) {
+            BlockKind::Rows(_kind) => Some(from),
+            BlockKind::Extras => Some(from),
+            BlockKind::Unused => self.given_beyond(from),
+        }
+    }
+
+    // The same, by the set of unused blocks. It is out of line, so that blocks in a row cost no
+    // more than a look at what each is used for.
+    #[inline(never)]
+    fn given_beyond(&self, from: u32) -> Option<u32>
+        requires { 1 ≤ from }
+        ensures next { let uses = self.now.table.uses in
+            MatchOption result (HasNoneGiven uses from) (IsNextGiven uses from) }
+        ensures within { IfSome result (λ block. block ≤ self.now.table.blocks) }
+    {
+        let last = self.number;
+        let block = self.unused.gap_from(from);
+        if block <= last { Some(block) } else { None }
     }
 
     /// The block with the extras of a block's rows, if they have any.

@@ -2,12 +2,13 @@
 //! chain of its blocks.
 //!
 //! The extra of a row (its strength, count or secondary) is stored in the block's data block.
-//! All memory is taken when a table is opened.
+//! All memory is taken when a table is opened or made larger.
 #![tactic(auto)]
 
 mod block;
 mod blocks;
 mod change;
+mod lists;
 mod row;
 mod seg;
 mod unused;

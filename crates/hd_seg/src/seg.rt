@@ -1,7 +1,8 @@
 ghost use Rattle.std.specs.Prelude.{◌≡◌, ℕ, ◌+◌, ◌*◌, ◌/◌, ◌<◌, ◌≤◌, ◌++◌, ◌∷◌, List, Bool, true, cond, Some, None};
-ghost use Rattle.std.specs.Prelude.{option_map, slice_get, IfOk, IfErr, OnOk, OnErr, IfSome, IsSome};
+ghost use Rattle.std.specs.Prelude.{option_map, slice_get, IfOk, IfErr, OnOk, OnErr, IfSome, IsSome, MatchOption};
 ghost use Rattle.std.specs.FinMap.{get, len, contains_key};
 ghost use Rattle.std.specs.Int.{bit_at};
+ghost use Rattle.std.specs.Prelude.{MatchResult, max};
 ghost use Rattle.hd_model.specs.{Kinds.is_paired, State.block_of, State.extra_data, State.handles_of, State.nothing};
 ghost use Rattle.hd_model.specs.Step.{blocks_needed};
 ghost use Rattle.hd_model.specs.Table.{IsTable, IsGrowth, chain_of, empty_table, fits, fits_in, grown_by};
@@ -9,9 +10,11 @@ ghost use Rattle.hd_model.specs.Table.{has_handles, is_single, kind_at, live_at,
 ghost use Rattle.hd_model.specs.Table.{without_block};
 ghost use Rattle.hd_model.specs.Handles.{extra_of};
 ghost use Rattle.hd_seg.specs.Row.{handle_of, row_of, block_kind_of};
+ghost use Rattle.hd_seg.specs.Given.{HasNoneGiven, IsNextGiven};
 ghost use Rattle.hd_seg.specs.Pairs.{is_pair, without_data};
 
 use crate::blocks::Blocks;
+use crate::lists::lengthen;
 use crate::row::{BlockKind, Full, Row};
 use crate::writes::{extra_in, extra_index, is_marked, write_extra};
 use hd_mask::bit;
@@ -75,6 +78,20 @@ impl Seg {
         })
     }
 
+    /// Makes the table one of at least `blocks` blocks. Those that come are unused.
+    pub fn reserve(&mut self, blocks: u32) -> Result<(), Memory>
+        requires { blocks ≤ HOST_BLOCKS }
+        ensures after { MatchResult result
+            (λ _. self.new ≡ record self.old { blocks = max self.old.blocks blocks })
+            (λ _. self.new ≡ self.old) }
+        ensures table { IsTable self.new }
+    {
+        lengthen(&mut self.targets, None, ROWS * (blocks + 1))?;
+        lengthen(&mut self.extras, Extra::Nothing, ROWS * (blocks + 1))?;
+        lengthen(&mut self.masks, 0, blocks + 1)?;
+        self.blocks.reserve(blocks)
+    }
+
     /// Gives a block to a kind, at the end of its chain, and a data block for it where the kind has
     /// extra data. A refusal changes nothing.
     pub fn give_block(&mut self, kind: Kind) -> Result<Grown, Full>
@@ -131,6 +148,19 @@ impl Seg {
         ensures table { IsTable self.now }
     {
         self.blocks.kind(block)
+    }
+
+    /// The least block from one on that has a use, if there is one. It passes over blocks without
+    /// a use by the masks of these, 64 at once.
+    #[inline(always)]
+    pub fn next_given(&self, from: u32) -> Option<u32>
+        requires { 1 ≤ from }
+        ensures next { let uses = self.now.uses in
+            MatchOption result (HasNoneGiven uses from) (IsNextGiven uses from) }
+        ensures within { IfSome result (λ block. block ≤ self.now.blocks) }
+        ensures table { IsTable self.now }
+    {
+        self.blocks.next_given(from)
     }
 
     /// The number of blocks in use.

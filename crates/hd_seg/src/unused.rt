@@ -2,7 +2,7 @@
 ghost use Rattle.std.specs.Prelude.{◌≡◌, ℕ, ◌<◌, ◌≤◌, true, IfOk};
 ghost use Rattle.std.specs.FinSet.{contains, remove};
 ghost use Rattle.hd_tiers.specs.Sets.{IsLeastFrom};
-ghost use Rattle.hd_seg.specs.Inside.{HasFrom, HasNumbers};
+ghost use Rattle.hd_seg.specs.Inside.{HasAdded, HasFrom, HasNumbers};
 
 use hd_mask::BITS;
 use hd_model::Memory;
@@ -20,6 +20,18 @@ pub(crate) fn numbers_to(alloc: Global, last: u32) -> Result<Tier<Masks>, Memory
         numbers.insert(before + 1);
     }
     Ok(numbers)
+}
+
+/// Adds the numbers after `from` up to `to`.
+pub(crate) fn add_numbers(numbers: &mut Tier<Masks>, from: u32, to: u32)
+    requires room { to < numbers.old.room }
+    requires few { to ≤ HOST_BLOCKS }
+    requires low { from ≤ to }
+    ensures { HasAdded from to numbers.old numbers.new }
+{
+    for before in from..to {
+        numbers.insert(before + 1);
+    }
 }
 
 /// Takes the least member from `from` on out of a set that has one.

@@ -1,4 +1,4 @@
-use Rattle.hd_seg.proofs.Basics.{Block, List, ap, arith, block_at, get_or_read, ◌∙◌, ◌≡◌}
+use Rattle.hd_seg.proofs.Basics.{ap, arith, get_or_read, ◌∙◌}
 use Rattle.hd_seg.proofs.ChainLinks.{is_table}
 use Rattle.hd_seg.proofs.DataRemove.{blocks-freed, d_inside, extras_read, extras_was, owner_inside, some_given, unused-freed, view-freed}
 use Rattle.std.specs.FinSet.{insert}
