@@ -6,6 +6,7 @@ pub mod MappedPrefixes
 pub mod ClumpBits
 pub mod YoungestAge
 pub mod YoungBlocks
+pub mod BlockCount
 pub mod WalkSteps
 pub mod WalkSlots
 pub mod WalkFrame

@@ -1,5 +1,5 @@
 -- The sets of blocks with young clumps: what a search in one finds, and what a new word for a block does to it.
-use Rattle.hd_ages.proofs.Basics.{All, All-replicate, All-weaker, AreAbove, CLUMPS, HasNoneFrom, HasYoung, IfNone, IfSome, IsLeastFrom, List, None, NumberSet, Option, Some, ages_in, ages_of, ap, arith, both_ways, cases_eq, cases_lt, contains, contains-empty, drop, false, get_or, get_or-drop, get_or-take, inl, inr, length, length-set, refl, replicate, set, subst, sym, true, ℕ, ◌%◌, ◌*◌, ◌+◌, ◌-◌, ◌/◌, ◌<◌, ◌∙◌, ◌≡◌, ◌≢◌, ◌≤◌}
+use Rattle.hd_ages.proofs.Basics.{All, All-replicate, All-weaker, AreAbove, CLUMPS, HasNoneFrom, HasYoung, IfNone, IfSome, IsLeastFrom, List, None, NumberSet, Option, Some, ages_in, ages_of, ap, arith, both_ways, cases_eq, cases_lt, contains, contains-empty, drop, false, get_or, get_or-drop, get_or-take, inl, inr, length, length-set, replicate, set, subst, sym, ℕ, ◌%◌, ◌*◌, ◌+◌, ◌-◌, ◌/◌, ◌<◌, ◌∙◌, ◌≡◌, ◌≢◌, ◌≤◌}
 use Rattle.std.proofs.lemmas.List.{get_or-replicate, get_or-set_other, get_or-set_same, length-replicate}
 use Rattle.std.specs.FinSet.{empty, insert, remove}
 use Rattle.std.specs.Ordering.{nat_cmp}

@@ -49,3 +49,9 @@ pub record HasYoung (k : ℕ) (words : List ℕ) (s : NumberSet) : Type 0 where
 -- the ages from one index on and below another are above n
 abbrev pub AreAbove : ℕ → List ℕ → ℕ → ℕ → Type 0
 AreAbove n ages from to = (i : ℕ) → from ≤ i → i < to → n < slice_index ages i
+
+-- a set kept its room and what is below a block, and got nothing new
+pub record IsCutFrom (first : ℕ) (old new : NumberSet) : Type 0 where
+  pub room : new.room ≡ old.room
+  pub below : (b : ℕ) → b < first → contains new.members b ≡ contains old.members b
+  pub fewer : (b : ℕ) → contains new.members b ≡ true → contains old.members b ≡ true

@@ -1,11 +1,13 @@
 ghost use Rattle.std.specs.Prelude.{◌≡◌, ℕ, ◌+◌, ◌-◌, ◌*◌, ◌<◌, ◌≤◌, ◌^◌, List, cond, nat_le, length, map, filter};
-ghost use Rattle.std.specs.Prelude.{true, false, replicate, slice_index, All, IfOk, IfSome, IfNone};
-ghost use Rattle.std.specs.FinSet.{insert, remove};
+ghost use Rattle.std.specs.Prelude.{true, false, replicate, slice_index, take, ◌++◌, All, IfOk, IfSome, IfNone};
+ghost use Rattle.std.specs.Prelude.{MatchResult};
+ghost use Rattle.std.specs.FinSet.{contains, insert, remove};
 ghost use Rattle.std.specs.Int.{bit_at};
 ghost use Rattle.hd_mask.specs.Mask.{set_bits};
 ghost use Rattle.hd_model.specs.Ages.{clumps_of, grown, lowered};
 ghost use Rattle.hd_ages.specs.Clumps.{IsSlotOf, ages_at, clump_at, grown_at, with_ages};
-ghost use Rattle.hd_ages.specs.Inside.{AreAbove, IsWord, ages_in};
+ghost use Rattle.hd_tiers.specs.Sets.{HasNoneFrom};
+ghost use Rattle.hd_ages.specs.Inside.{AreAbove, IsCutFrom, IsWord, ages_in};
 
 use crate::word;
 use crate::word::ALL_OLDEST;
@@ -56,6 +58,29 @@ impl AgeMap {
             zero,
             young,
         })
+    }
+
+    /// Makes the map one of at least `blocks` blocks: the ages that come are 2.
+    pub fn reserve(&mut self, blocks: u32) -> Result<(), Memory>
+        requires { blocks ≤ HOST_BLOCKS }
+        ensures { MatchResult result
+            (λ _. self.new ≡
+            self.old ++ replicate (CLUMPS * blocks - length self.old) OLDEST)
+            (λ _. self.new ≡ self.old) }
+    {
+        self.zero.reserve(blocks / BITS + 1)?;
+        self.young.reserve(blocks / BITS + 1)?;
+        lengthen(&mut self.words, blocks)
+    }
+
+    /// Leaves the ages of the first `blocks` blocks alone. Their memory is kept.
+    pub fn cut(&mut self, blocks: u32)
+        requires { blocks ≤ HOST_BLOCKS }
+        ensures { self.new ≡ take (CLUMPS * blocks) self.old }
+    {
+        cut_from(&mut self.zero, blocks + 1);
+        cut_from(&mut self.young, blocks + 1);
+        self.words.truncate(blocks as usize);
     }
 
     /// The number of blocks.
@@ -220,5 +245,36 @@ fn note(set: &mut Tier<Masks>, block: u32, least: u8, most: u8)
         set.insert(block);
     } else {
         set.remove(block);
+    }
+}
+
+// At least `blocks` words: those that come are of four ages of 2.
+fn lengthen(words: &mut Vec<u8>, blocks: u32) -> Result<(), Memory>
+    ensures { MatchResult result
+        (λ _. words.new.items ≡
+        words.old.items ++ replicate (blocks - length words.old.items) ALL_OLDEST)
+        (λ _. words.new.items ≡ words.old.items) }
+{
+    if blocks as usize <= words.len() {
+        return Ok(());
+    }
+    match words.resize(blocks as usize, ALL_OLDEST) {
+        Ok(()) => Ok(()),
+        Err(_) => Err(Memory),
+    }
+}
+
+// Removes the blocks from `first` on.
+fn cut_from(set: &mut Tier<Masks>, first: u32)
+    requires few { (b : ℕ) → contains set.old.members b ≡ true → b ≤ HOST_BLOCKS }
+    requires within { (b : ℕ) → contains set.old.members b ≡ true → b < set.old.room }
+    requires first { first ≤ HOST_BLOCKS + 1 }
+    ensures kept { IsCutFrom first set.old set.new }
+    ensures none { HasNoneFrom set.new.members first }
+{
+    let mut from = first;
+    while let Some(block) = set.least_from(from) {
+        set.remove(block);
+        from = block + 1;
     }
 }

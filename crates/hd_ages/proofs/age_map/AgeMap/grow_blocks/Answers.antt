@@ -1,4 +1,4 @@
-use Rattle.hd_ages.proofs.Basics.{CLUMPS, ap, arith, length, raised, sym, ◌*◌, ◌≡◌}
+use Rattle.hd_ages.proofs.Basics.{CLUMPS, ap, arith, length, raised, sym, ◌*◌}
 use Rattle.hd_ages.proofs.MappedPrefixes.{grown_past, grown_rest, length-mapped_to, mapped_none}
 use Rattle.hd_ages.proofs.age_map.AgeMap.grow_blocks.Goals as goal
 
