@@ -1,11 +1,12 @@
 -- The names that most proofs of this crate cite, passed on from one place.
 pub use Rattle.std.proofs.lemmas.Nat.{row_fits, same_from_place}
 pub use Rattle.std.proofs.lemmas.Option.{same_Some}
-pub use Rattle.std.proofs.Common.{Bool, IsSome, List, None, Option, Some, ap, arith, false, get_or, inl, inr, length, min, refl, replicate, rules, set, subst, sym, true, ℕ, ◌*◌, ◌+◌, ◌-◌, ◌/◌, ◌<◌, ◌∙◌, ◌≡◌, ◌≢◌, ◌≤◌, ◌⊎◌}
-pub use Rattle.std.proofs.lemmas.Bool.{both_ways, cases_eq, cases_lt, cases_order, true≢false}
+pub use Rattle.std.proofs.Common.{Bool, IsSome, List, None, Option, Some, [], ap, arith, cond, false, get_or, inl, inr, length, length-append, max, min, refl, replicate, rules, set, subst, suc, sym, true, zero, ℕ, ◌*◌, ◌++◌, ◌+◌, ◌-◌, ◌/◌, ◌<◌, ◌∙◌, ◌∷◌, ◌≡◌, ◌≢◌, ◌≤◌, ◌⊎◌}
+pub use Rattle.std.proofs.lemmas.Bool.{both_ways, cases_eq, cases_lt, cases_order, false_from_ne_true, true≢false}
 pub use Rattle.std.proofs.lemmas.Grind.{get_or_default_zero}
 pub use Rattle.std.proofs.lemmas.List.{get_or-replicate, get_or-set_other, get_or-set_same, get_or_past, get_or_read, length-replicate, length-set}
-pub use Rattle.std.specs.FinMap.{get}
+pub use Rattle.std.specs.Cmp.{nat_cmp_total}
+pub use Rattle.std.specs.FinMap.{get, nat_cmp-IsAntisymmetric, same_map}
 pub use Rattle.std.specs.FinSet.{FinSet, contains, contains-empty, difference, empty, insert, remove, union}
 pub use Rattle.std.specs.Ordering.{nat_cmp}
 pub use Rattle.std.specs.Prelude.{IfNone, IfSome, IsTrue, is_some, ◌↔◌}

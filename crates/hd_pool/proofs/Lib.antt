@@ -2,3 +2,4 @@ pub mod Basics
 pub mod LeastByKind
 pub mod PoolCalls
 pub mod WholeBlocks
+pub mod MovedLists

@@ -1,7 +1,7 @@
 -- What private clauses alone cite: what is always true of the fields of a pool.
-use Rattle.std.specs.Prelude.{◌≡◌, ℕ, ◌/◌, ◌<◌, ◌≤◌, true, false, ◌+◌, ◌*◌, List, length, slice_index_or, Option, Some, None, IsSome, refl}
+use Rattle.std.specs.Prelude.{◌≡◌, ℕ, ◌/◌, ◌<◌, ◌≤◌, true, false, cond, ◌+◌, ◌*◌, List, length, slice_index_or, Option, Some, None, IsSome, refl}
 use Rattle.std.specs.Coded.{Coded, code_by, coded×, coded_ℕ}
-use Rattle.std.specs.{FinSet.FinSet, FinSet.code, FinSet.contains, Ordering.nat_cmp}
+use Rattle.std.specs.{FinSet.FinSet, FinSet.code, FinSet.contains, FinSet.insert, Ordering.nat_cmp}
 use Rattle.hd_model.specs.{declared.data.Kind.Kind, Kinds.kind_number}
 use Rattle.hd_model.specs.declared.limits.TheConstants.{HOST_BLOCKS, KINDS, ROWS}
 use Rattle.hd_tiers.specs.Sets.{NumberSet, HasAllOf, HasSomeOf}
@@ -31,7 +31,7 @@ pub record IsPool (kinds : List (Option Kind)) (free : NumberSet) (ready : KindB
   pub some : 1 ≤ length kinds
   pub limit : length kinds ≤ HOST_BLOCKS + 1
   pub wide : length kinds ≤ ready.stride
-  pub room : free.room ≡ ROWS * length kinds
+  pub room : ROWS * length kinds ≤ free.room
   pub ready_room : KINDS * ready.stride ≤ ready.room
   pub added : (slot : ℕ) → contains free.members slot ≡ true → IsSome (kind_at kinds (slot / ROWS))
   pub opened : (kind : Kind) (slot : ℕ) → kind_at kinds (slot / ROWS) ≡ Some kind
@@ -50,6 +50,20 @@ pub record IsWholes (kinds : List (Option Kind)) (free : NumberSet) (stride : �
     pub all_free : (kind : Kind) (block : ℕ) → block < stride
         → contains wholes.members (index_of stride kind block) ≡ true
         → (kind_at kinds block ≡ Some kind) × HasAllOf free.members block
+
+-- a set with a block in it, at its number of a stride `to`, where an old set has it at that of a stride `from`
+abbrev pub with_block : (from to : ℕ) → Option Kind → ℕ → (old new : FinSet nat_cmp) → FinSet nat_cmp
+with_block from to None block old new = new
+with_block from to (Some kind) block old new =
+    cond (contains old (index_of from kind block)) (insert new (index_of to kind block)) new
+
+-- a set has, at the numbers of a stride `to`, what another has at those of a stride `from`, for the blocks
+-- below one
+pub record IsMoved (kinds : List (Option Kind)) (from to upto : ℕ) (old new : FinSet nat_cmp) : Type 0 where
+  pub kept : (kind : Kind) (block : ℕ) → block < upto → kind_at kinds block ≡ Some kind
+      → contains new (index_of to kind block) ≡ contains old (index_of from kind block)
+  pub only : (kind : Kind) (block : ℕ) → block < to → contains new (index_of to kind block) ≡ true
+      → (kind_at kinds block ≡ Some kind) × ((block < upto) × (contains old (index_of from kind block) ≡ true))
 
 -- the least member from a number on and below another, or a number that is not below the other
 pub record IsLeastOrEnd (s : FinSet nat_cmp) (from to n : ℕ) : Type 0 where

@@ -3,7 +3,9 @@ ghost use Rattle.std.specs.FinMap.{get};
 ghost use Rattle.std.specs.FinMap as map;
 ghost use Rattle.std.specs.FinSet.{contains};
 ghost use Rattle.std.specs.FinSet as set;
+ghost use Rattle.std.specs.Prelude.{length, max, replicate, ◌+◌, ◌-◌, ◌++◌, MatchResult};
 ghost use Rattle.hd_model.specs.State.{block_of};
+ghost use Rattle.hd_pool.specs.Inside.{IsMoved, with_block};
 ghost use Rattle.hd_pool.specs.Pool.{slots_of, IsLeastFreeFor, HasNoneFor, IsWhole, IsLeastWholeOf, HasNoWholeOf};
 
 use crate::ready::Ready;
@@ -15,7 +17,7 @@ use std::alloc::Global;
 use std::marker::Model;
 
 /// The free slots of a table, seen as the kind of each added block and the set of free slots. A
-/// block has 64 slots. All memory is taken by `open`.
+/// block has 64 slots. All memory is taken by `open` and `reserve`.
 ///
 /// Each call reads a few masks, whatever the number of blocks: `take` and `put` mostly one.
 #[derive(Drop)]
@@ -68,6 +70,27 @@ impl Pool {
             }),
             Err(_) => Err(Memory),
         }
+    }
+
+    /// Makes it a pool for at least `blocks` blocks. It looks at each block, so a caller that takes
+    /// one more again and again doubles.
+    pub fn reserve(&mut self, blocks: u32) -> Result<(), Memory>
+        requires { blocks ≤ HOST_BLOCKS }
+        ensures { MatchResult result
+            (λ _. self.new ≡ record self.old { blocks = max self.old.blocks blocks })
+            (λ _. self.new ≡ self.old) }
+    {
+        if (blocks as usize) < self.kinds.len() {
+            return Ok(());
+        }
+        let stride = blocks + 1;
+        let alloc = *self.kinds.allocator();
+        let (ready, wholes) = widened(alloc, &self.kinds, &self.ready, &self.wholes, stride)?;
+        self.free.reserve(stride)?;
+        lengthen(&mut self.kinds, stride)?;
+        self.ready = ready;
+        self.wholes = wholes;
+        Ok(())
     }
 
     /// Adds a block of a kind. Its slots are free.
@@ -200,4 +223,83 @@ fn remove(numbers: &mut Tier<Tier<Masks>>, i: u32)
     ensures { numbers.new ≡ record numbers.old { members = set.remove numbers.old.members i } }
 {
     numbers.remove(i);
+}
+
+// The lists of blocks by kind, those that have a free slot and those whose slots are all free, with
+// `stride` numbers for each kind.
+fn widened(
+    alloc: Global,
+    kinds: &Vec<Option<Kind>>,
+    ready: &Ready,
+    wholes: &Tier<Tier<Masks>>,
+    stride: u32,
+) -> Result<(Ready, Tier<Tier<Masks>>), Memory>
+    requires few { stride ≤ HOST_BLOCKS + 1 }
+    requires within { length kinds.now.items ≤ ready.now.stride }
+    requires wide { length kinds.now.items ≤ stride }
+    ensures stride { IfOk result (λ made. made.0.stride ≡ stride) }
+    ensures ready_room { IfOk result (λ made. KINDS * stride ≤ made.0.room) }
+    ensures room { IfOk result (λ made. KINDS * stride ≤ made.1.room) }
+    ensures ready { IfOk result (λ made. IsMoved kinds.now.items ready.now.stride stride
+        (length kinds.now.items) ready.now.members made.0.members) }
+    ensures wholes { IfOk result (λ made. IsMoved kinds.now.items ready.now.stride stride
+        (length kinds.now.items) wholes.now.members made.1.members) }
+{
+    let mut after = Ready::open(alloc, stride)?;
+    let mut whole = Tier::<Tier<Masks>>::open(alloc, KINDS * stride / BITS + 1)?;
+    for block in 0..kinds.len() as u32 {
+        move_block(
+            kinds[block as usize],
+            block,
+            ready,
+            wholes,
+            &mut after,
+            &mut whole,
+        );
+    }
+    Ok((after, whole))
+}
+
+// Lists a block, which may have no kind, where it was listed before.
+fn move_block(
+    kind: Option<Kind>,
+    block: u32,
+    ready: &Ready,
+    wholes: &Tier<Tier<Masks>>,
+    after: &mut Ready,
+    whole: &mut Tier<Tier<Masks>>,
+)
+    requires low { (block < ready.now.stride) × (block < after.old.stride) }
+    requires ready_room { KINDS * after.old.stride ≤ after.old.room }
+    requires room { KINDS * after.old.stride ≤ whole.old.room }
+    ensures ready { let members = with_block ready.now.stride after.old.stride kind block
+        ready.now.members after.old.members in
+        after.new ≡ record after.old { members = members } }
+    ensures wholes { let members = with_block ready.now.stride after.old.stride kind block
+        wholes.now.members whole.old.members in
+        whole.new ≡ record whole.old { members = members } }
+{
+    let Some(kind) = kind else {
+        return;
+    };
+    let from = ready.number_of(kind, block);
+    let to = after.number_of(kind, block);
+    after.insert_where(ready.contains(from), kind, to);
+    insert_where(wholes.contains(from), whole, to);
+}
+
+// At least `count` blocks: those that come have no kind.
+fn lengthen(kinds: &mut Vec<Option<Kind>>, count: u32) -> Result<(), Memory>
+    ensures { MatchResult result
+        (λ _. kinds.new.items ≡
+        kinds.old.items ++ replicate (count - length kinds.old.items) None)
+        (λ _. kinds.new.items ≡ kinds.old.items) }
+{
+    if count as usize <= kinds.len() {
+        return Ok(());
+    }
+    match kinds.resize(count as usize, None) {
+        Ok(()) => Ok(()),
+        Err(_) => Err(Memory),
+    }
 }

@@ -90,6 +90,13 @@ impl Ready {
         below(at, end)
     }
 
+    /// Whether a number is a member.
+    pub(crate) fn contains(&self, i: u32) -> bool
+        ensures { result ≡ set.contains self.now.members i }
+    {
+        self.numbers.contains(i)
+    }
+
     /// Adds a number of a kind. Out of line, since it is rare.
     #[inline(never)]
     pub(crate) fn insert(&mut self, kind: Kind, i: u32)
