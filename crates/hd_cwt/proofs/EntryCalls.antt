@@ -1,5 +1,5 @@
 -- What each call does to the entries, by their fields and their value.
-use Rattle.hd_cwt.proofs.Basics.{HasIdle, HasKey, HasNoneFrom, Id, IfNone, IfSome, IsEntries, IsIdle, IsLeastFrom, IsLinked, IsSome, List, None, NumberSet, Option, Some, WeakTable, ap, arith, both_ways, bucket_in, bucket_of, by_index, by_index-put, cases_lt, entry_at, exchanged, false≢true, get, get-by_index, get_or, get_or_default_zero, get_or_past, inl, inr, is_some, length, length-set, node_at, refl, set, slots_of, subst, sym, turned, ℕ, ◌+◌, ◌<◌, ◌∙◌, ◌≡◌, ◌≤◌, ROWS, by_index-clear}
+use Rattle.hd_cwt.proofs.Basics.{HasIdle, HasKey, HasNoneFrom, Id, IfNone, IfSome, IsEntries, IsIdle, IsLeastFrom, IsLinked, IsSome, List, None, NumberSet, Option, Some, WeakTable, ap, arith, both_ways, bucket_in, bucket_of, by_index, by_index-put, cases_lt, entry_at, exchanged, false≢true, get, get-by_index, get_or, get_or_default_zero, get_or_past, inl, inr, is_some, length, length-set, node_at, refl, set, slots_of, subst, sym, turned, ℕ, ◌+◌, ◌<◌, ◌∙◌, ◌≡◌, ◌≤◌, by_index-clear}
 use Rattle.std.specs.FinMap as map
 use Rattle.std.specs.FinSet.{insert, remove}
 use Rattle.hd_cwt.proofs.{BucketChange.put_linked, BucketChange.clear_linked, BucketChange.release_linked, IdleSlots.put_idle, IdleSlots.clear_idle, IdleSlots.release_idle, IdleSlots.is_member, IdleSlots.of_member}

@@ -186,7 +186,7 @@ module _ {t : WeakTable} {count : ℕ} {slots indexes : List ℕ} {capacity : �
             table = clear_table had;
             counted = is.counted ∙ sym (len_again t.held s None had);
             room = is.room;
-            size = ap length off.replaced ∙ length-set indexes last at ∙ is.size;
+            size = omega (arith, is.size, ap length off.replaced, length-set indexes last at);
             into = λ q. insert_cases t.held s
                 (λ x o. keyed_in o ≡ true → IsListedAt new_slots new_indexes x) None q
                 (λ e. absurd (false≢true e)) (listed_still q);
@@ -261,7 +261,7 @@ module _ {t : WeakTable} {count : ℕ} {slots indexes : List ℕ} {capacity : �
         table = put_table fits;
         counted = counts;
         room = is.room;
-        size = length-set indexes s (length slots) ∙ is.size;
+        size = omega (arith, is.size, length-set indexes s (length slots));
         into = λ q. insert_cases t.held s
             (λ x o. keyed_in o ≡ true → IsListedAt longer (set indexes s (length slots)) x) (Some key) q
             (λ _. (omega (arith, here, long), ap (node_at longer) here ∙ end_is))
@@ -375,7 +375,7 @@ none_listed blocks capacity indexes limit room size = record {
   };
   counted = sym (len-empty nat_cmp (Option Id));
   room = room;
-  size = size;
+  size = omega (arith, size);
   into = λ s keyed. absurd (false≢true (sym (ap keyed_in (get-empty nat_cmp s)) ∙ keyed));
   from = λ i low. absurd (omega (arith, low));
   placed = λ i low. absurd (omega (arith, low));

@@ -8,3 +8,5 @@ pub mod EntryCalls
 pub mod EntryOpen
 pub mod KeyChanges
 pub mod IdleCount
+pub mod MoreSlots
+pub mod SpreadRings

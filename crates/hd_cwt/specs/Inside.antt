@@ -1,5 +1,5 @@
 -- What private clauses alone cite.
-use Rattle.std.specs.Prelude.{◌≡◌, ℕ, ◌<◌, List, [], ◌∷◌, length, slice_index_or, slice_set, ◌≢◌, ◌+◌, ◌-◌, ◌*◌, ◌≤◌, true, false, Bool, is_none, Option, Some, None, Contains, AllPairs}
+use Rattle.std.specs.Prelude.{◌≡◌, ℕ, ◌<◌, List, [], ◌∷◌, length, slice_index_or, slice_set, ◌≢◌, ◌+◌, ◌-◌, ◌*◌, ◌≤◌, true, false, Bool, cond, nat_le, is_none, Option, Some, None, Contains, AllPairs}
 use Rattle.std.specs.FinMap.{get, insert, len}
 use Rattle.std.specs.FinSet.{contains}
 use Rattle.hd_model.specs.{declared.data.Id.Id, declared.limits.TheConstants.HOST_BLOCKS, declared.limits.TheConstants.ROWS, Table.Table, Table.live_at}
@@ -32,6 +32,17 @@ pub record IsRings (next previous : List ℕ) : Type 0 where
   pub back_within : (x : ℕ) → x < length next → node_at previous x < length next
   pub ahead : (x : ℕ) → x < length next → node_at previous (node_at next x) ≡ x
   pub behind : (x : ℕ) → x < length next → node_at next (node_at previous x) ≡ x
+
+-- the number of a node, once more nodes come after the first ones
+abbrev pub shifted : (first more : ℕ) → ℕ → ℕ
+shifted first more x = cond (nat_le first x) (x + more) x
+
+-- a list of nodes with more nodes after the first ones, which are alone: of the old nodes, those up to a number
+-- have theirs
+pub record IsSpread (first more upto : ℕ) (old new : List ℕ) : Type 0 where
+  pub size : length new ≡ length old + more
+  pub moved : (x : ℕ) → x < upto → node_at new (shifted first more x) ≡ shifted first more (node_at old x)
+  pub alone : (x : ℕ) → first ≤ x → x < first + more → node_at new x ≡ x
 
 -- ---- what is always true of the fields of a weak table
 
@@ -101,7 +112,7 @@ pub record IsListed (t : WeakTable) (count : ℕ) (slots indexes : List ℕ) (ca
   pub table : IsWeakTable t
   pub counted : count ≡ len t.held
   pub room : room_of t ≤ capacity
-  pub size : length indexes ≡ slots_of t
+  pub size : slots_of t ≤ length indexes
   pub into : (s : ℕ) → keyed_in (get t.held s) ≡ true → IsListedAt slots indexes s
   pub from : (i : ℕ) → i < length slots → keyed_in (get t.held (node_at slots i)) ≡ true
   pub placed : (i : ℕ) → i < length slots → node_at indexes (node_at slots i) ≡ i

@@ -1,5 +1,5 @@
 ghost use Rattle.std.specs.Prelude.{◌≡◌, ℕ, ◌+◌, ◌<◌, ◌≤◌, ◌↔◌, Some, None, option_map};
-ghost use Rattle.std.specs.Prelude.{◌⊎◌, ◌-◌, IfOk, IfSome, IsSome, IsNone, length, vec_capacity};
+ghost use Rattle.std.specs.Prelude.{◌⊎◌, ◌-◌, MatchResult, max, IfOk, IfSome, IsSome, IsNone, length, vec_capacity};
 ghost use Rattle.std.specs.FinMap as map;
 ghost use Rattle.std.specs.FinMap.{get, len, contains_key};
 ghost use Rattle.hd_model.specs.{Counting.Counts, Table.live_at};
@@ -20,7 +20,8 @@ use std::sync::ledger::{Blank, Ledger};
 /// The weak table: the slots that it holds, and the key in each, if it has one.
 ///
 /// A held slot stays held until it is idle and released. It may lose its key and get another. Values
-/// are not here: they are the secondaries of the slots' rows. All memory is taken by `open`.
+/// are not here: they are the secondaries of the slots' rows. All memory is taken by `open` and
+/// `reserve`.
 #[derive(Drop)]
 pub struct Cwt {
     entries: Entries,
@@ -57,6 +58,19 @@ impl Cwt {
             count: 0,
             keyed,
         })
+    }
+
+    /// Makes it a table for the slots of at least `blocks` blocks. No slot that comes is held. It
+    /// looks at each slot, so a caller that takes one more again and again doubles.
+    pub fn reserve(&mut self, blocks: u32) -> Result<(), Memory>
+        requires { blocks ≤ HOST_BLOCKS }
+        ensures { MatchResult result
+            (λ _. self.new ≡ record self.old { blocks = max self.old.blocks blocks })
+            (λ _. self.new ≡ self.old) }
+    {
+        self.keyed
+            .reserve(ROWS * (blocks + 1), ROWS * (blocks / 2))?;
+        self.entries.reserve(blocks)
     }
 
     /// Whether a slot, which may be any number, is held.

@@ -1,12 +1,13 @@
 // The entries of the table: the key of each held slot, and how a key is found.
 ghost use Rattle.std.specs.Prelude.{◌≡◌, ℕ, ◌+◌, ◌<◌, ◌≤◌, length};
-ghost use Rattle.std.specs.Prelude.{Some, None, IfOk, IfSome, IfNone, IsSome};
+ghost use Rattle.std.specs.Prelude.{Some, None, IfOk, IfSome, IfNone, IsSome, MatchResult, max};
 ghost use Rattle.std.specs.FinMap as map;
 ghost use Rattle.std.specs.FinMap.{get};
 ghost use Rattle.hd_model.specs.Indexed.{by_index};
 ghost use Rattle.hd_cwt.specs.WeakTable.{IsIdle, HasKey, LooksAt, bucket_of, entries_in, slots_of};
 ghost use Rattle.hd_cwt.specs.Inside.{HasBucket, entry_at, keyed_in};
 
+use crate::lists::lengthen;
 use crate::rings::Rings;
 use hd_model::limits::{HOST_BLOCKS, ROWS};
 use hd_model::{Id, Memory, Steps, filled};
@@ -59,6 +60,26 @@ impl Entries {
             rings,
             idle,
         })
+    }
+
+    /// Makes them those of at least `blocks` blocks. No slot that comes is held.
+    pub(crate) fn reserve(&mut self, blocks: u32) -> Result<(), Memory>
+        requires { blocks ≤ HOST_BLOCKS }
+        ensures { MatchResult result
+            (λ _. self.new ≡ record self.old { blocks = max self.old.blocks blocks })
+            (λ _. self.new ≡ self.old) }
+    {
+        if blocks <= self.blocks {
+            return Ok(());
+        }
+        let slots = ROWS * (blocks + 1);
+        let before = self.held.len() as u32;
+        let rings = self.rings.spread(before, slots - before)?;
+        self.idle.reserve(blocks + 1)?;
+        lengthen(&mut self.held, None, slots)?;
+        self.rings = rings;
+        self.blocks = blocks;
+        Ok(())
     }
 
     /// Whether a slot, which may be any number, is held, and its key.

@@ -6,6 +6,7 @@ mod cwt;
 mod entries;
 mod keyed;
 mod laws;
+mod lists;
 mod rings;
 
 pub use cwt::Cwt;
