@@ -31,7 +31,7 @@ pub use Rattle.hd_model.specs.Names.{HasClosedFields}
 pub use Rattle.hd_model.specs.Scene.{IsCondemned, IsField, Objects, fields_at, fields_in, generation_at, generation_in, is_object}
 pub use Rattle.hd_model.specs.State.{Object}
 pub use Rattle.hd_model.specs.declared.data.Addr.{Addr}
-pub use Rattle.hd_plan.specs.Commit.{ChangesRegions, Commits, IsSameShape, NeedsCard, moved_object}
+pub use Rattle.hd_plan.specs.Commit.{all_regions, ChangesRegions, Commits, IsSameShape, NeedsCard, moved_object}
 pub use Rattle.hd_plan.specs.Inside.{AreAlike, AreCarded, AreCopied, AreGivenUp, AreRemovedIn, AreRewritten, AreSettledRegions, CanCopy, HasEnd, HasKeptFields, HaveGone, IsGone, IsKeptAt, IsLeft, IsStayedAt, MayCard, MayGoFrom, MayOpen, NamesYounger, is_pinned, opened_for, starts_in}
 pub use Rattle.hd_plan.specs.Inside.{AreChosen, AreMovesTo, ArePut, CanPutAt, HasMoveRoom, HasForwards, HasRegionRoom, HasSlack, IsCursor, IsFresh, IsLaying, IsMoveOf, IsPassed, IsPlan, IsPut, IsRoom, IsToLay, WasFree, begun, cell_at, cells_laid, first_at, forwarding_among, forwarding_from, spot_in}
 pub use Rattle.hd_plan.specs.{Layout.AreMoves, Layout.AreMovesOf, Layout.AreRegions, Layout.AreRegionsOf, Layout.Fits, Layout.FitsMove, Layout.Followed, Layout.HasNoMove, Layout.HasStay, Layout.IsCondemnedRegion, Layout.IsRising, Layout.Opened, Layout.Room, Layout.condemned_at, Layout.cursor_of, Layout.filled, Layout.find_move, Layout.followed_cursor, Layout.is_kept_by, Layout.opened_cursor, Layout.forwarding_by, Layout.put_cursors, Layout.put_fate, Layout.put_move, Layout.region_in, Layout.room_at, Layout.room_of, Layout.stays_among, Layout.with_cursor, Inside.has_region}

@@ -1,5 +1,5 @@
 -- What is removed singly and what is given up with its region come to all that is left.
-use Rattle.hd_plan.proofs.Basics.{Addr, AreGivenUp, AreRemovedIn, AreSettledRegions, Bool, HasForwards, HasStay, Heap, IsCondemnedRegion, IsGone, List, None, Option, PlanOf, Some, ap, arith, both_ways, cases_Bool, cases_eq, condemned_at, false, false_from_ne_true, first_at, has-get, has_object, inl, inr, is_condemned, is_in_use, is_pinned, is_some, length, move_at, refl, region_of, subst, sym, true, ℕ, ◌-◌, ◌<◌, ◌∙◌, ◌≡◌, ◌≤◌}
+use Rattle.hd_plan.proofs.Basics.{Addr, AreGivenUp, AreRemovedIn, AreSettledRegions, Bool, HasForwards, HasStay, Heap, IsCondemnedRegion, IsGone, List, None, Option, PlanOf, Some, all_regions, ap, arith, both_ways, cases_Bool, cases_eq, condemned_at, false, false_from_ne_true, first_at, has-get, has_object, inl, inr, is_condemned, is_in_use, is_pinned, is_some, length, move_at, refl, region_of, subst, sym, true, ℕ, ◌-◌, ◌<◌, ◌∙◌, ◌≡◌, ◌≤◌}
 use Rattle.hd_plan.proofs.{KeptObjectSteps.left_there, KeptObjectSteps.put_all, CommitShape.AreAtNewAddresses, CommitShape.AreCleared, CommitShape.IsCommitting, CommitShape.listed_at, CommitShape.move_listed, CommitShape.regions_now, CommitShape.shape_condemned, CondemnedAddresses.condemned_of, CommitGenerations.forwards_same}
 use Rattle.std.specs.FinMap as fin
 
@@ -106,4 +106,5 @@ module _ {p : PlanOf} {old h1 h2 h3 : Heap} (c : IsCommitting p old) (m : AreAtN
         regions = subst (λ rs. AreSettledRegions rs h5.regions p.regions (length p.regions))
             (ap (λ (x : Heap). x.regions) r4.same) r5.regions;
         limit = r5.limit ∙ ap (λ (x : Heap). x.limit) r4.same;
+        number = r5.number ∙ ap {B = ℕ} (λ (x : Heap). all_regions x) r4.same;
       }

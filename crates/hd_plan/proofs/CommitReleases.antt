@@ -1,8 +1,9 @@
 -- Lemmas on what is removed.
-use Rattle.hd_plan.proofs.Basics.{Addr, AreGivenUp, AreRemovedIn, Bool, CARD, Condemned, Heap, IsRemoved, List, Move, None, Option, REGION, Region, Some, ap, arith, both_ways, cases_Bool, cases_eq, condemned_at, false, false≢true, get_left, get_other, get_removed, get_same, has-get, has_object, inl, inr, is_set, is_some, is_staying, length, move_at, nat_cmp, not, refl, region_at, same_address, subst, sym, true, unwrap_or, with_generation, without_region, ℕ, ⊎_elim, ◌+◌, ◌/◌, ◌<◌, ◌∙◌, ◌≡◌, ◌≢◌}
+use Rattle.hd_plan.proofs.Basics.{Addr, AreGivenUp, AreRemovedIn, Bool, CARD, Condemned, Heap, IsRemoved, List, Move, None, Option, REGION, Region, Some, [], all_regions, ap, arith, both_ways, cases_Bool, cases_eq, condemned_at, false, false≢true, get_left, get_other, get_removed, get_same, has-get, has_object, inl, inr, is_in_use, is_set, is_some, is_staying, length, length-append, move_at, nat_cmp, not, refl, region_at, same_address, subst, sym, true, unwrap_or, with_generation, without_region, ℕ, ⊎_elim, ◌+◌, ◌/◌, ◌<◌, ◌∙◌, ◌∷◌, ◌≡◌, ◌≢◌}
 use Rattle.hd_model.specs.Heap.{region_of, card_of}
 use Rattle.hd_heap.proofs.RegionGiveUp.{object_gone, object_left, card_left}
 use Rattle.hd_plan.proofs.{MoveEnds.up_to, MoveEnds.ends_more, MoveEnds.ends_here, MoveEnds.ends_cases, CommitCopies.has_alike, CommitCopies.no_region}
+use Rattle.hd_model.proofs.ReadAfterWrite.{len_again, len_less}
 use Rattle.std.specs.FinMap as fin
 
 -- what a map has where something was removed
@@ -84,7 +85,8 @@ card_region a = omega arith
 -- the regions, one after another
 module _ {old h : Heap} {cs : List Condemned} {i : ℕ} (r : AreGivenUp old h cs i) (low : i < length cs)
     (rising : (j k : ℕ) → j < k → k < length cs
-    → (condemned_at cs j).region < (condemned_at cs k).region) where
+    → (condemned_at cs j).region < (condemned_at cs k).region)
+    (in_use : (k : ℕ) → k < length cs → is_in_use old (condemned_at cs k).region ≡ true) where
   region_apart : (k : ℕ) → k < i → (condemned_at cs k).region ≢ (condemned_at cs i).region
   region_apart k below same = (let less = rising k i below low in omega arith)
 
@@ -105,6 +107,7 @@ module _ {old h : Heap} {cs : List Condemned} {i : ℕ} (r : AreGivenUp old h cs
     cards : (a : Addr) → has_object new a ≡ true
         → (has_object h a ≡ true) × (is_set new (card_of a) ≡ is_set h (card_of a))
     limit : new.limit ≡ h.limit
+    number : all_regions new ≡ all_regions h
 
   settled_on : (new : Heap) (g : Option Region) → LeavesRegion new g → AreGivenUp old new cs (i + 1)
   settled_on new g is = record {
@@ -132,7 +135,15 @@ module _ {old h : Heap} {cs : List Condemned} {i : ℕ} (r : AreGivenUp old h cs
         let was = r.cards a now.0 in
         (was.0, now.1 ∙ was.1);
     limit = is.limit ∙ r.limit;
+    number = is.number ∙ r.number;
   }
+
+  -- the region is in use until then
+  region_was : fin.get h.regions (condemned_at cs i).region ≡ fin.get old.regions (condemned_at cs i).region
+  region_was = r.regions.others (condemned_at cs i).region region_apart
+
+  still_in_use : is_in_use h (condemned_at cs i).region ≡ true
+  still_in_use = ap is_some region_was ∙ in_use i low
 
   settled_raised : (new : Heap) → (condemned_at cs i).pinned ≡ true
       → new ≡ with_generation h (condemned_at cs i).region (condemned_at cs i).generation
@@ -140,12 +151,12 @@ module _ {old h : Heap} {cs : List Condemned} {i : ℕ} (r : AreGivenUp old h cs
   settled_raised new pinned step =
       let n = (condemned_at cs i).region in
       let g : Region = record { generation = (condemned_at cs i).generation; fill = (region_at h n).fill } in
-      let was : fin.get h.regions n ≡ fin.get old.regions n = r.regions.others n region_apart in
       let objects : new.objects ≡ h.objects = ap (λ (x : Heap). x.objects) step in
       settled_on new (Some g) (record {
         here = λ q same. ap (λ (x : Heap). fin.get x.regions q) step ∙ get_same h.regions n q g same;
         beside = λ q apart. ap (λ (x : Heap). fin.get x.regions q) step ∙ get_other h.regions n q g apart;
-        raised = λ p. ap (λ (o : Option Region). Some (record g { fill = (unwrap_or o no_region).fill })) was;
+        raised = λ p. ap (λ (o : Option Region). Some (record g { fill = (unwrap_or o no_region).fill }))
+            region_was;
         given_up = λ p. absurd (both_ways _ p pinned);
         gone = λ p. absurd (both_ways _ p pinned);
         left = λ a other. ap (λ os. fin.get os a.0) objects;
@@ -154,6 +165,8 @@ module _ {old h : Heap} {cs : List Condemned} {i : ℕ} (r : AreGivenUp old h cs
           ap (λ (x : Heap). is_set x (card_of a)) step,
         );
         limit = ap (λ (x : Heap). x.limit) step;
+        number = ap {B = ℕ} (λ (x : Heap). all_regions x) step
+            ∙ ap {B = ℕ} (λ m. m + length h.free) (len_again h.regions n g still_in_use);
       })
 
   settled_given_up : (new : Heap) → (condemned_at cs i).pinned ≡ false
@@ -178,6 +191,9 @@ module _ {old h : Heap} {cs : List Condemned} {i : ℕ} (r : AreGivenUp old h cs
             let was = sym (has_alike h new a (left a apart)) ∙ there in
             (was, ap (λ (x : Heap). is_set x (card_of a)) step ∙ kept);
         limit = ap (λ (x : Heap). x.limit) step;
+        number =
+            let now = ap {B = ℕ} (λ (x : Heap). all_regions x) step in
+            omega (arith, now, len_less h.regions n still_in_use, length-append h.free (n ∷ []));
       })
 
   pub settled_step : (new : Heap) → ((condemned_at cs i).pinned ≡ true

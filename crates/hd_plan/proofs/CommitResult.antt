@@ -1,6 +1,6 @@
 -- The heap after the moving.
 use Rattle.hd_heap.proofs.NextObjects.{generation_is}
-use Rattle.hd_plan.proofs.Basics.{Addr, AreAlike, AreCarded, ChangesRegions, Commits, Contains, HEADER, HasClosedFields, HasNoEmptyRegion, HasSoundCards, HasStay, Heap, IsCondemned, IsCondemnedRegion, IsField, IsKeptAt, IsPacked, List, NamesYounger, NeedsCard, None, Option, Placed, PlanOf, Region, Some, and_from, and_parts, ap, arith, both_ways, card_of, cases_Bool, cases_lt, cells_of, condemned_at, false, false_from_ne_true, fields_at, fields_in, fields_placed, forwarded, generation_at, has_object, has_region, id_in, inl, inr, is_carded, is_in_use, is_kept_fate, is_moving, is_older_region, is_set, is_some, kept_in, length, length-map, lt-ltb, ltb-false, ltb-true, map, mapped_from, may_card, member_same, move_at, moved_object, nat_lt, object_at, object_in, option_map, forwarding_in, placed_at, raised, raised_older, refl, region_generation, region_of, room_at, same_Some, same_address, share, stays_in, subst, sym, true, unwrap_or, used_of, ℕ, ◌&&◌, ◌+◌, ◌<◌, ◌↔◌, ◌∙◌, ◌≡◌, ◌≤◌}
+use Rattle.hd_plan.proofs.Basics.{Addr, AreAlike, AreCarded, ChangesRegions, Commits, Contains, HEADER, HasClosedFields, HasNoEmptyRegion, HasSoundCards, HasStay, Heap, IsCondemned, IsCondemnedRegion, IsField, IsKeptAt, IsPacked, List, NamesYounger, NeedsCard, None, Option, Placed, PlanOf, Region, Some, all_regions, and_from, and_parts, ap, arith, both_ways, card_of, cases_Bool, cases_lt, cells_of, condemned_at, false, false_from_ne_true, fields_at, fields_in, fields_placed, forwarded, generation_at, has_object, has_region, id_in, inl, inr, is_carded, is_in_use, is_kept_fate, is_moving, is_older_region, is_set, is_some, kept_in, length, length-drop, length-map, lt-ltb, ltb-false, ltb-true, map, mapped_from, may_card, member_same, move_at, moved_object, nat_lt, object_at, object_in, option_map, forwarding_in, placed_at, raised, raised_older, refl, region_generation, region_of, room_at, same_Some, same_address, share, stays_in, subst, sym, true, unwrap_or, used_of, ℕ, ◌&&◌, ◌+◌, ◌<◌, ◌↔◌, ◌∙◌, ◌≡◌, ◌≤◌}
 use Rattle.hd_plan.proofs.{CommitCards.has_from, CommitCards.names_alike, MoveWeights.sum-coming, KeptMoves.moving_kept, KeptMoves.staying_is, PackedRegions.IsTaken, PackedRegions.packed, PackedRegions.compact, CommitCopies.get_placed, CommitCopies.has_got, CommitCopies.no_placed, CommitCopies.no_region, CommitShape.AreMoved, CommitShape.IsCommitting, CommitShape.listed_at, CommitShape.moves_now, CommitShape.regions_now, CommitShape.closed_now, KeptObjectSteps.kept_by, KeptObjectSteps.kept_older, KeptObjectSteps.forwarding_older, KeptObjectSteps.kept_move, KeptObjectSteps.forwarding_move, KeptObjectSteps.put_all, KeptObjectSteps.kept_object, KeptObjectSteps.from_condemned, KeptObjectSteps.stays_there, KeptObjectSteps.image_at, KeptObjectSteps.image_only, CommitGenerations.forwards_same, CommitGenerations.raised_above, CommitGenerations.raised_within, CommitGenerations.raised_some, CommitGenerations.forwarding_generation, CommitGenerations.region_still, CommitGenerations.region_new, CommitGenerations.region_raised, CommitGenerations.region_given_up}
 use Rattle.hd_plan.specs.Plan.{StartsInRegion}
 use Rattle.std.specs.FinMap as fin
@@ -334,6 +334,14 @@ module _ {p : PlanOf} {old h1 h2 h3 h5 : Heap} (m : AreMoved p old h1 h2 h3 h5) 
         let both = and_parts _ _ is in changes.older r both.0 (ltb-true _ _ both.1))
         moved_there held_taken
 
+    number : all_regions h7 ≡ all_regions old
+    number =
+        let opened = (room_at old p.moves (length p.moves)).cursors.opened in
+        let now = ap {B = ℕ} (λ (x : Heap). all_regions x) same7 ∙ m.cleared.number
+        ∙ ap {B = ℕ} (λ (x : Heap). all_regions x) (forwards_same m.forwards) in
+        let room = (put_all c).room in
+        omega (arith, now, room.number, room.few, length-drop opened old.free)
+
     pub ended : ((card : ℕ) → (is_set h7 card ≡ true) ↔ NeedsCard h7 card) → Commits p old h7
     ended exact = record {
       objects = λ a kept. ap (option_map (object_in (region_generation h7 (region_of (forwarding_in p a)))))
@@ -346,6 +354,7 @@ module _ {p : PlanOf} {old h1 h2 h3 h5 : Heap} (m : AreMoved p old h1 h2 h3 h5) 
       only = ending_only h7 same7;
       regions = changes;
       cards = exact;
+      number = number;
       limit = ap (λ (x : Heap). x.limit) same7 ∙ m.cleared.limit
           ∙ ap (λ (x : Heap). x.limit) (forwards_same m.forwards);
       used = used;

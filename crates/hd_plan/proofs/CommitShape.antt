@@ -1,5 +1,5 @@
 -- A plan is valid for each heap of the same shape as the one for which it was laid.
-use Rattle.hd_plan.proofs.Basics.{Addr, AllocCursors, AreMoves, AreCopied, AreRegions, AreRewritten, AreSettledRegions, CanCopy, Condemned, Fits, HEADER, HasSoundCards, HasStay, Heap, IsCondemned, IsField, IsGone, IsLaid, IsSameShape, IsStayedAt, IsSound, List, Move, None, PlanOf, Room, Some, ap, arith, cells_of, condemned_at, fields_at, fields_placed, find_move, generation_at, is_carded, is_condemned, is_in_use, is_old_carded, is_kept_by, is_staying, has_object, kept_in, length, member_same, move_at, nat_le, nat_lt, object_at, forwarding_in, placed_at, put_fate, raised, region_generation, region_of, room_of, subst, suc, sym, true, zero, ℕ, ◌&&◌, ◌+◌, ◌<◌, ◌||◌, ◌∙◌, ◌≡◌}
+use Rattle.hd_plan.proofs.Basics.{Addr, AllocCursors, AreMoves, AreCopied, AreRegions, AreRewritten, AreSettledRegions, CanCopy, Condemned, Fits, HEADER, HasSoundCards, HasStay, Heap, IsCondemned, IsField, IsGone, IsLaid, IsSameShape, IsStayedAt, IsSound, List, Move, None, PlanOf, Room, Some, all_regions, ap, arith, cells_of, condemned_at, fields_at, fields_placed, find_move, generation_at, is_carded, is_condemned, is_in_use, is_old_carded, is_kept_by, is_staying, has_object, kept_in, length, member_same, move_at, nat_le, nat_lt, object_at, forwarding_in, placed_at, put_fate, raised, region_generation, region_of, room_of, subst, suc, sym, true, zero, ℕ, ◌&&◌, ◌+◌, ◌<◌, ◌||◌, ◌∙◌, ◌≡◌}
 use Rattle.hd_plan.specs.Layout.{room_at}
 use Rattle.hd_plan.proofs.{CommitCopies.generation_alike, CommitCards.has_from, KeptMoves.generation_some, KeptMoves.are_put, KeptMoves.is_condemned_at, KeptMoves.kept, CondemnedAddresses.region_young}
 use Rattle.std.specs.FinMap as fin
@@ -19,6 +19,7 @@ pub record AreCleared (p : PlanOf) (old h : Heap) : Type 0 where
   pub cards : (a : Addr) → has_object h a ≡ true → is_carded h a ≡ is_carded old a
   pub regions : AreSettledRegions old.regions h.regions p.regions (length p.regions)
   pub limit : h.limit ≡ old.limit
+  pub number : all_regions h ≡ all_regions old
 
 module _ {h k : Heap} (s : IsSameShape h k) where
   pub shape_generation : (a : Addr) → generation_at (object_at k) a ≡ generation_at (object_at h) a

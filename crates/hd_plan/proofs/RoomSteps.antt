@@ -1,7 +1,9 @@
 -- The room while objects are laid: each fate of an object keeps what is true of it.
-use Rattle.hd_plan.proofs.Basics.{Addr, Bool, CanPutAt, Dead, FIELDS, Fate, FinMap, Fits, Followed, HEADER, HasSlack, Heap, IsCursor, IsFresh, IsPut, IsRoom, IsSound, LEFT, List, Moves, MovesToNewRegion, OPEN, Opened, Option, Pinned, REGION, Region, Room, Some, WasFree, ap, arith, begun, cases_eq, cond, cursor_of, eq-eqb, false, filled, followed_cursor, get, get_other, get_same, has_region, inl, inr, insert, is_in_use, is_moving, is_some, length, nat_cmp, ne_eqb, opened_cursor, put_fate, refl, region_in, room_of, slice_index, subst, sym, true, true≢false, unwrap_or, with_cursor, ℕ, ⊎_elim, ◌*◌, ◌+◌, ◌/◌, ◌<◌, ◌^◌, ◌∙◌, ◌≡◌, ◌≢◌, ◌≤◌, ◌⊎◌}
+use Rattle.hd_plan.proofs.Basics.{Addr, Bool, CanPutAt, Dead, FIELDS, Fate, FinMap, Fits, Followed, HEADER, HasSlack, Heap, IsCursor, IsFresh, IsPut, IsRoom, IsSound, LEFT, List, Moves, MovesToNewRegion, OPEN, Opened, Option, Pinned, REGION, Region, Room, Some, WasFree, ap, arith, begun, cases_eq, cond, cursor_of, eq-eqb, false, false_from_ne_true, filled, followed_cursor, get, get_other, get_same, has_region, inl, inr, insert, is_in_use, is_moving, is_some, len, length, nat_cmp, ne_eqb, opened_cursor, put_fate, refl, region_in, room_of, slice_index, subst, sym, true, true≢false, unwrap_or, with_cursor, ℕ, ⊎_elim, ◌*◌, ◌+◌, ◌/◌, ◌<◌, ◌^◌, ◌∙◌, ◌≡◌, ◌≢◌, ◌≤◌, ◌⊎◌}
 use Rattle.hd_model.specs.Heap.{region_of}
 use Rattle.hd_plan.specs.declared.cursors.AllocCursor.{AllocCursor}
+use Rattle.hd_model.proofs.ReadAfterWrite.{len_again}
+use Rattle.std.specs.{FinMap.len-insert, Cmp.nat_cmp_total}
 
 abbrev Regions : Type 0
 Regions = FinMap nat_cmp Region
@@ -84,6 +86,8 @@ module _ (h : Heap) where
     first = no_cursor h.regions 1;
     second = no_cursor h.regions 2;
     slack = omega arith;
+    number = omega arith;
+    few = omega arith;
   }
 
   -- the cursor of a generation
@@ -109,6 +113,8 @@ module _ (h : Heap) where
     was : WasFree h p.cursors.opened c.region
     weighs : LEFT * p.cursors.opened + c.fill + LEFT * begun (cursor_of q.cursors g) + q.cells
         ≤ LEFT * q.cursors.opened + (cursor_of q.cursors g).fill + p.cells + LEFT
+    number : len p.regions + q.cursors.opened ≡ len q.regions + p.cursors.opened
+    few : p.cursors.opened ≤ length h.free
 
   -- an object meets its fate, and is put where it moves
   pub record Goes (moving : Bool) (q p : Room) (to : Addr) (g cells : ℕ) : Type 0 where
@@ -233,6 +239,8 @@ module _ (h : Heap) where
             first = first;
             second = second;
             slack = slack;
+            number = omega (arith, room.number, puts.number);
+            few = puts.few;
           }
 
       -- what was put is still there
@@ -295,6 +303,20 @@ module _ (h : Heap) where
         | inr was ↦ sound.free_apart was.at q.cursors.opened was.before within was.number
       ]
 
+      -- one region more is in use then
+      regions_opened : q.cursors.opened < length h.free
+          → len (filled (insert q.regions (slice_index h.free q.cursors.opened)
+          (record { generation = g; fill = 0 })) (slice_index h.free q.cursors.opened) cells)
+          ≡ len q.regions + 1
+      regions_opened within =
+          let r = slice_index h.free q.cursors.opened in
+          let one : Regions = insert q.regions r (record { generation = g; fill = 0 }) in
+          len_again one r (record (region_in one r) { fill = (region_in one r).fill + cells })
+          (ap is_some (get_same q.regions r r _ refl))
+          ∙ len-insert nat_cmp_total q.regions r (record { generation = g; fill = 0 })
+          ∙ ap {B = ℕ} (λ b. cond b (len q.regions) (len q.regions + 1))
+          (false_from_ne_true _ (opened_new within))
+
       opens_puts : Opened h.free q.cursors to g cells
           → Puts q (put_fate MovesToNewRegion h.free q g cells) g (opened_cursor h.free q.cursors cells)
       opens_puts is = record {
@@ -310,6 +332,8 @@ module _ (h : Heap) where
         was = record { at = q.cursors.opened; before = omega arith; within = is.free; number = refl };
         weighs = ⊎_elim (λ none. omega (arith, begun_none (cursor_of q.cursors g) none))
             (λ over. omega (arith, over, small.1, begun_most (cursor_of q.cursors g))) is.left;
+        number = omega (arith, regions_opened is.free);
+        few = omega (arith, is.free);
       }
 
       follows_puts : Followed q.cursors to g cells
@@ -330,6 +354,14 @@ module _ (h : Heap) where
             was = ⊎_elim (λ held. absurd (true≢false (sym held ∙ at.0.new))) (λ w. w)
                 (room.held (cursor_of q.cursors g).region at.0.held);
             weighs = omega (arith, begun_some (cursor_of q.cursors g) is.begun);
+            number = omega (
+              arith,
+              len_again q.regions (cursor_of q.cursors g).region
+                  (record (region_in q.regions (cursor_of q.cursors g).region) {
+                    fill = (region_in q.regions (cursor_of q.cursors g).region).fill + cells;
+                  }) at.0.held,
+            );
+            few = room.few;
           }
 
       -- an object that moves is put

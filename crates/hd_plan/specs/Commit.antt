@@ -1,10 +1,14 @@
 -- What the moving of all kept objects leaves.
-use Rattle.std.specs.Prelude.{◌≡◌, ℕ, ◌+◌, ◌/◌, ◌≤◌, ◌<◌, ◌↔◌, true, false, map, option_map}
+use Rattle.std.specs.Prelude.{◌≡◌, ℕ, ◌+◌, ◌/◌, ◌≤◌, ◌<◌, ◌↔◌, true, false, length, map, option_map}
 use Rattle.std.specs.FinMap.{len}
 use Rattle.hd_model.specs.{declared.data.Addr.Addr, Ages.raised, State.Object, Scene.generation_at, Scene.IsField, declared.limits.TheConstants.OLDEST, declared.limits.TheConstants.LEFT, declared.limits.TheConstants.OPEN}
 use Rattle.hd_model.specs.Heap.{Heap, card_of, region_at, is_in_use, has_object, object_at, placed_at, id_at, is_set, used_of}
 use Rattle.hd_plan.specs.{Layout.HasStay, Layout.IsCondemnedRegion, PackedRegions.IsPacked}
 use Rattle.hd_plan.specs.Plan.{PlanOf, kept_in, forwarding_in, stays_in, HasNoEmptyRegion}
+
+-- how many regions a heap has, in use and free
+abbrev pub all_regions : Heap → ℕ
+all_regions h = len h.regions + length h.free
 
 -- k has the objects, identities, fields and regions of h; values, registrations and cards may differ
 pub record IsSameShape (h k : Heap) : Type 0 where
@@ -42,7 +46,7 @@ pub record ChangesRegions (p : PlanOf) (old new : Heap) : Type 0 where
       → is_in_use new r ≡ false
 
 -- what `commit` leaves: the kept objects at their new addresses, and no other; cards are set exactly where an
--- object needs it
+-- object needs it; a region that is in use no more is free
 pub record Commits (p : PlanOf) (old new : Heap) : Type 0 where
   pub objects : (a : Addr) → kept_in p a ≡ true
       → object_at new (forwarding_in p a) ≡ option_map (moved_object (forwarding_in p) p.basis.condemned)
@@ -52,6 +56,7 @@ pub record Commits (p : PlanOf) (old new : Heap) : Type 0 where
       × ((kept_in p a ≡ true) × (forwarding_in p a ≡ b))
   pub regions : ChangesRegions p old new
   pub cards : (card : ℕ) → (is_set new card ≡ true) ↔ NeedsCard new card
+  pub number : all_regions new ≡ all_regions old
   pub limit : new.limit ≡ old.limit
   pub used : used_of new ≤ used_of old
   pub full : HasNoEmptyRegion old → HasNoEmptyRegion new

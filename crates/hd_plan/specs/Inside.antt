@@ -1,6 +1,6 @@
 -- What private clauses alone cite.
 use Rattle.std.specs.Prelude.{ℕ, Bool, ◌≡◌, ◌≢◌, ◌+◌, ◌*◌, ◌<◌, ◌≤◌, ◌⊎◌, ◌↔◌, cond, nat_eq, true, false, List, length, slice_index, ◌^◌, ◌%◌, ◌&&◌, slice_index_or, suc, sum_by, zero, not, if◌then◌else◌, ◌-◌, Some, None, MatchBool, option_map, drop}
-use Rattle.std.specs.{Ordering.nat_cmp, FinMap.FinMap, FinMap.get}
+use Rattle.std.specs.{Ordering.nat_cmp, FinMap.FinMap, FinMap.get, FinMap.len}
 use Rattle.hd_model.specs.Heap.{Region, Heap, has_object, region_of, is_in_use, placed_at, cells_of, object_at, card_of, is_set, is_carded}
 use Rattle.hd_model.specs.{declared.data.Addr.Addr, Ages.raised, Counting.Counts}
 use Rattle.hd_model.specs.Scene.{generation_at, IsCondemned, IsField}
@@ -9,7 +9,7 @@ use Rattle.hd_heap.specs.{declared.moves.Move.Move, declared.condemned.Extent.Ex
 use Rattle.hd_heap.specs.Calls.{HasCondemned, IsExtent, is_condemned, NamesBelow, forwarded, with_fresh, with_card}
 use Rattle.hd_heap.specs.Moves.{is_kept_fate, is_moving, is_staying, move_at, is_opening}
 use Rattle.hd_heap.specs.Runs.{IsRun, MayRun, run_copied}
-use Rattle.hd_plan.specs.{declared.cursors.AllocCursor.AllocCursor, declared.cursors.AllocCursors.AllocCursors, declared.moves.Condemned.Condemned, Plan.PlanOf, Plan.Takes}
+use Rattle.hd_plan.specs.{declared.cursors.AllocCursor.AllocCursor, declared.cursors.AllocCursors.AllocCursors, declared.moves.Condemned.Condemned, Commit.all_regions, Plan.PlanOf, Plan.Takes}
 use Rattle.hd_plan.specs.Layout.{Room, region_in, room_at, put_cursors, with_cursor, condemned_at, AreMovesOf, AreRegionsOf, Fits, HasNoMove, HasStay, FitsMove}
 use Rattle.std.specs.FinMap as map
 
@@ -58,6 +58,8 @@ pub record IsRoom (h : Heap) (q : Room) : Type 0 where
   pub first : IsCursor h q.regions 1 q.cursors.first
   pub second : IsCursor h q.regions 2 q.cursors.second
   pub slack : HasSlack q.cursors q.cells
+  pub number : len q.regions ≡ len h.regions + q.cursors.opened
+  pub few : q.cursors.opened ≤ length h.free
 
 -- an object of `cells` cells was put at an address
 pub record IsPut (h : Heap) (rs : FinMap nat_cmp Region) (to : Addr) (g cells : ℕ) : Type 0 where
@@ -351,6 +353,7 @@ pub record AreGivenUp (old h : Heap) (cs : List Condemned) (i : ℕ) : Type 0 wh
   pub cards : (a : Addr) → has_object h a ≡ true
       → (has_object old a ≡ true) × (is_carded h a ≡ is_carded old a)
   pub limit : h.limit ≡ old.limit
+  pub number : all_regions h ≡ all_regions old
 
 -- an object has a field to a younger one
 abbrev pub NamesYounger : Heap → Addr → Type 0
