@@ -1,5 +1,8 @@
--- Free regions are nothing to a collection.
-use Rattle.hd_gc.proofs.Basics.{Collected, Heap, IsReady, List, Parts, Report, subst, sym, ℕ, ◌≡◌}
+-- Free regions are nothing to a collection, but for their number.
+use Rattle.hd_gc.proofs.Basics.{Collected, Heap, IsReady, List, Parts, Report, ap, arith, len, length, subst, sym, ℕ, ◌+◌, ◌∙◌, ◌≡◌}
+use Rattle.hd_gc.specs.Collected.{HoldsRegions}
+use Rattle.hd_plan.specs.Commit.{all_regions}
+use Rattle.hd_plan.specs.Plan.{FreeAtMost, FreeNeeded}
 
 ready_with : {p : Parts} (free : List ℕ) → IsReady p
     → IsReady (record p { heap = record p.heap { free = free } })
@@ -56,3 +59,18 @@ pub collected_with_free : {p q : Parts} {k : Heap} {n : ℕ} {report : Report} {
 collected_with_free {p} {q} {k} {n} {report} {a} {b} same c =
     collected_with {free = k.free}
     (subst (λ (g : Heap). Collected (record p { heap = g }) q n report a b) same c)
+
+-- what a plan took is within what is needed
+pub at_most : {old new : Heap} {n : ℕ} → FreeNeeded old new n → FreeAtMost old new n
+at_most f = record { needed = f.needed; needs = f.needs; free = omega (arith, f.free) }
+
+-- after free regions were added for a plan, registrations were lost and the plan was carried out
+pub holds_regions : {old taken middle new : Heap} {n : ℕ} → taken ≡ record old { free = taken.free }
+    → FreeNeeded old taken n → middle ≡ record taken { objects = middle.objects }
+    → all_regions new ≡ all_regions middle → HoldsRegions old new n
+holds_regions {old} {taken} {middle} {new} {n} same f shape number = record {
+  needed = f.needed;
+  needs = f.needs;
+  number = number ∙ ap {B = ℕ} (λ (h : Heap). all_regions h) shape
+      ∙ (λ i. len (same i).regions + f.free i);
+}

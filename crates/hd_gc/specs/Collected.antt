@@ -1,9 +1,10 @@
 -- What a collection leaves.
-use Rattle.std.specs.Prelude.{◌≡◌, ◌↔◌, ℕ, ◌<◌, ◌≤◌, true}
+use Rattle.std.specs.Prelude.{◌≡◌, ◌↔◌, ℕ, ◌+◌, ◌<◌, ◌≤◌, true, length, max}
+use Rattle.std.specs.FinMap.{len}
 use Rattle.hd_model.specs.{declared.data.Id.Id, declared.data.Addr.Addr, declared.data.Report.Report, declared.limits.TheConstants.OLDEST, Reach.IsPinned, Collect.Collects, Counting.Counts, Ages.grown, Compact.IsCompact, Table.Table, Table.row_at, Visits.IsSameTable}
 use Rattle.hd_model.specs.Scene.{Scene, IsReading, IsCondemned, generation_at}
 use Rattle.hd_model.specs.Heap.{Heap, has_object, object_at, id_at, is_set, used_of}
-use Rattle.hd_plan.specs.{Commit.NeedsCard, PackedRegions.IsPacked}
+use Rattle.hd_plan.specs.{Commit.NeedsCard, Commit.all_regions, Plan.NeedsFree, PackedRegions.IsPacked}
 use Rattle.hd_gc.specs.Ready.{Parts, scene_of, IsReady}
 use Rattle.hd_gc.specs.Steps.{collected_steps}
 
@@ -13,6 +14,12 @@ pub record LeavesPacked (h h2 : Heap) (t : Table) (n : ℕ) : Type 0 where
   pub pinned : ℕ
   pub pinned_is : Counts (λ x. IsCondemned (object_at h) n x × IsPinned (row_at t) x) pinned
   pub regions : IsPacked h h2 n pinned
+
+-- no region is lost, and none is added where as many are free as all condemned objects may need
+pub record HoldsRegions (h h2 : Heap) (n : ℕ) : Type 0 where
+  pub needed : ℕ
+  pub needs : NeedsFree h n needed
+  pub number : all_regions h2 ≡ len h.regions + max needed (length h.free)
 
 -- whatever reads the state before and after by identity sees a collection of n with the report; the state is
 -- ready for another one; an object that a handle pins keeps its address; cards are set exactly where they are

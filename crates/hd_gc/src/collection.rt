@@ -1,8 +1,8 @@
 // A whole collection.
-ghost use Rattle.std.specs.Prelude.{◌≡◌, ◌≤◌, true, MatchResult};
-ghost use Rattle.hd_gc.specs.{Ready.IsReady, Ready.parts, Collected.Collected, Inside.Reports};
+ghost use Rattle.std.specs.Prelude.{◌≡◌, ◌≤◌, true, length, take, MatchResult};
+ghost use Rattle.hd_gc.specs.{Ready.IsReady, Ready.parts, Collected.Collected, Collected.HoldsRegions, Inside.Reports};
 ghost use Rattle.hd_model.specs.{Counting.Counts, Heap.objects_of, Scene.IsCondemned};
-ghost use Rattle.hd_plan.specs.Plan.{IsLaid, kept_in};
+ghost use Rattle.hd_plan.specs.Plan.{FreeAtMost, IsLaid, kept_in};
 
 use crate::moving::{relocate_roots, relocate_rows};
 use crate::phases::{ClearedCounts, Context};
@@ -25,6 +25,7 @@ use std::sync::ledger::Ledger;
 /// of handles that a pass visits.
 ///
 /// Where memory runs out, nothing is done, but free regions that were added stay.
+#[tactic(auto, using(crate::proofs::FreeRegions::at_most))]
 pub fn collect<L: Ledger>(
     alloc: Global,
     heap: &mut Heap,
@@ -37,12 +38,15 @@ pub fn collect<L: Ledger>(
 ) -> Result<Report, Memory>
     requires generation { n ≤ OLDEST }
     requires ready { IsReady (parts heap.old seg.old ages.old fin.old roots.old) }
-    ensures { MatchResult result
+    ensures collected { MatchResult result
         (λ report. Collected (parts heap.old seg.old ages.old fin.old roots.old)
         (parts heap.new seg.new ages.new fin.new roots.new) n report steps.old steps.new)
         (λ _. (heap.new ≡ record heap.old { free = heap.new.free }) × (seg.new ≡ seg.old)
         × (ages.new ≡ ages.old) × (fin.new ≡ fin.old) × (roots.new ≡ roots.old)
         × (steps.new ≡ steps.old)) }
+    ensures regions { MatchResult result (λ _. HoldsRegions heap.old heap.new n)
+        (λ _. (take (length heap.old.free) heap.new.free ≡ heap.old.free)
+        × FreeAtMost heap.old heap.new n) }
 {
     let mut plan = Plan::take(alloc, heap, n)?;
     let joined = fin.len();

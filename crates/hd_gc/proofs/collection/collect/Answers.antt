@@ -1,5 +1,5 @@
 use Rattle.hd_gc.proofs.Basics.{Basis, Counts, Heap, IsCondemned, IsSameShape, ap, arith, kept_in, objects_of, subst, sym, true, ◌≡◌}
-use Rattle.hd_gc.proofs.{FreeRegions.ready_with_free, FreeRegions.collected_with_free, CollectedScene.collected}
+use Rattle.hd_gc.proofs.{FreeRegions.ready_with_free, FreeRegions.collected_with_free, FreeRegions.holds_regions, CollectedScene.collected}
 use Rattle.hd_gc.proofs.KeptScene.{clumps_left, queue_kept, queue_objects, roots_kept, rows_kept}
 use Rattle.hd_gc.proofs.LostRegistrations.{same_shape, same_cards}
 use Rattle.hd_gc.proofs.collection.collect.Goals as goal
@@ -53,8 +53,8 @@ pub commit-requires-clause-cards : goal.commit-requires-clause-cards
 commit-requires-clause-cards g c =
     same_cards c.settle.ensures (ready_with_free c.take.ensures.same c.requires.ready).cards_sound
 
-pub returns : goal.returns
-returns g c =
+pub returns-clause-collected : goal.returns-clause-collected
+returns-clause-collected g c =
     collected_with_free c.take.ensures.same
     (collected (ready_with_free c.take.ensures.same c.requires.ready) c.in_ok-found.ensures.found
     c.report-report.ensures
@@ -70,3 +70,8 @@ returns g c =
       steps = c.relocate_rows.ensures.steps;
     })
     (omega (arith, c.len-joined.ensures.value)) c.args.steps.now c.in_ok-found.ensures.steps)
+
+pub returns-clause-regions : goal.returns-clause-regions
+returns-clause-regions g c =
+    holds_regions c.take.ensures.same c.in_ok-plan.ensures.needed c.settle.ensures.same
+    c.commit.ensures.commits.number
