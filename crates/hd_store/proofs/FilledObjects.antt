@@ -84,12 +84,6 @@ module _ (m : Machine) (at : Addr) (value caller : ℕ) (src : List ℕ) where
       subst (λ (x : Machine). i < length (object_named x at).fields) (sym so_far)
       (subst (λ (o : Object Id). i < length o.fields) (sym (object-back i)) (omega (arith, fields, same, low)))
 
-  pub fills-young : (i : ℕ) (u : Machine) → (object_named m at).generation ≡ 0 → u ≡ filled_to i u.heap
-      → (object_named u at).generation ≡ 0
-  fills-young i u young so_far =
-      ap (λ (x : Machine). (object_named x at).generation) so_far
-      ∙ ap (λ (o : Object Id). o.generation) (object-back i) ∙ young
-
   pub fills-next : (i : ℕ) (u k : Machine) (v : Option Addr) → i < length src → u ≡ filled_to i u.heap
       → named_in u.names v ≡ register_of u.state caller (get_or src i 0)
       → k ≡ record u {

@@ -1,6 +1,6 @@
 -- The free slots of a kind, block by block: the rows that the mask of a block leaves.
 use Rattle.hd_store.proofs.StoreWords.{BlockUse, Bool, Heap, IsFree, IsOfTable, IsSome, Kind, None, Option, Slot, Some, State, Table, ap, arith, block_of, cases_eq, cond, counts_named, extra_data, false, false≢true, filter, get, handle_at, handles_of, id_at, inl, inr, is_some, kind_number, length, option_map, option_or, pairs_passing, passing_from, passing_in, range_with_len, refl, rename_handle, sym, true, weak_handle, ℕ, ⊎_elim, ◌%◌, ◌*◌, ◌+◌, ◌/◌, ◌<◌, ◌^◌, ◌↔◌, ◌∙◌, ◌≡◌, ◌≢◌, ◌≤◌, ◌⊎◌}
-use Rattle.std.proofs.lemmas.Bool.{eqb-true, eq-eqb}
+use Rattle.std.proofs.lemmas.Bool.{cases_lt, eqb-true, eq-eqb}
 use Rattle.std.specs.Prelude.{◌==◌}
 use Rattle.std.specs.FinMap.{contains_key}
 use Rattle.std.proofs.lemmas.List.FromFn.{get_or-range_with_len, length-range_with_len}
@@ -13,9 +13,10 @@ use Rattle.hd_model.proofs.PropertyCounts.{counts_join, counts_like, counts_none
 use Rattle.hd_model.proofs.StepWrites.{same_slot}
 use Rattle.hd_model.specs.Counting.{Counts}
 use Rattle.hd_model.specs.declared.limits.TheConstants.{ROWS}
-use Rattle.hd_seg.specs.Row.{block_kind_of}
+use Rattle.hd_seg.specs.{Given.HasNoneGiven, Given.IsNextGiven, Row.block_kind_of}
 use Rattle.hd_seg.specs.declared.row.BlockKind.{BlockKind}
 use Rattle.hd_seg.specs.declared.row.BlockKind.TheVariants as block
+use Rattle.hd_store.proofs.IdentityReadings.{no_some}
 use Rattle.hd_store.specs.Sizes.{IsFreeRow}
 
 -- ---- what a block is used for
@@ -135,14 +136,29 @@ module _ (t : Table) (kind : Kind) where
       ])
       (counts_join (IsFreeBelow b) IsHere n m (λ slot low at. omega (arith, low.1, at.1)) below here)
 
-  module _ (within : (b : ℕ) → IsSome (get t.uses b) → (1 ≤ b) × (b ≤ t.blocks)) where
-    pub free_begins : Counts (IsFreeBelow 1) 0
-    free_begins = counts_none (IsFreeBelow 1)
-        (λ slot h. omega (arith, h.1, (within (block_of slot) (ap is_some h.0.1)).0))
+  pub free_begins : ((b : ℕ) → IsSome (get t.uses b) → (1 ≤ b) × (b ≤ t.blocks)) → Counts (IsFreeBelow 1) 0
+  free_begins within = counts_none (IsFreeBelow 1)
+      (λ slot h. omega (arith, h.1, (within (block_of slot) (ap is_some h.0.1)).0))
 
-    pub free_ends : (b n : ℕ) → t.blocks < b → Counts (IsFreeBelow b) n → Counts (IsFreeRow t kind) n
-    free_ends b n past = counts_like (IsFreeBelow b) (IsFreeRow t kind) n (λ slot h. h.0)
-        (λ slot h. (h, omega (arith, past, (within (block_of slot) (ap is_some h.1)).1)))
+  -- blocks without a use have none
+  unused : (slot : Slot) → get t.uses (block_of slot) ≡ None → IsFreeRow t kind slot → ⊥
+  unused slot none free = no_some (handles_of kind) (sym free.1 ∙ none)
+
+  pub free_skip : (b next n : ℕ) → IsNextGiven t.uses b next → Counts (IsFreeBelow b) n
+      → Counts (IsFreeBelow next) n
+  free_skip b next n given = counts_like (IsFreeBelow b) (IsFreeBelow next) n
+      (λ slot h. (h.0, omega (arith, h.1, given.low)))
+      (λ slot h. elim (cases_lt (block_of slot) b) [
+        | inl low ↦ (h.0, low)
+        | inr high ↦ absurd (unused slot (given.least (block_of slot) high h.1) h.0)
+      ])
+
+  pub free_ends : (b n : ℕ) → HasNoneGiven t.uses b → Counts (IsFreeBelow b) n → Counts (IsFreeRow t kind) n
+  free_ends b n none = counts_like (IsFreeBelow b) (IsFreeRow t kind) n (λ slot h. h.0)
+      (λ slot h. elim (cases_lt (block_of slot) b) [
+        | inl low ↦ (h, low)
+        | inr high ↦ absurd (unused slot (none (block_of slot) high) h)
+      ])
 
 -- ---- in the state
 

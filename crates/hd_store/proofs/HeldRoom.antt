@@ -113,7 +113,7 @@ module _ (f : Parts) (stored : IsStored f) (table : IsTable f.table) where
       let one : len more ≡ len f.weak.held + 1 =
       len-insert nat_cmp_total f.weak.held slot None
       ∙ ap (λ o. cond (is_some o) (len f.weak.held) (len f.weak.held + 1)) free in
-      omega (arith, all, one, stored.same_blocks)
+      omega (arith, all, one, stored.weak_blocks)
 
   -- an idle slot is in a block of the table
   pub idle-within : (m : Machine) → machine_of f ≡ m → (o : Option Slot) → o ≡ idle_slot m.state

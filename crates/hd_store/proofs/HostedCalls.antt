@@ -148,10 +148,6 @@ module _ (m k : Machine) (caller : ℕ) (fin : Bool) (at : Addr) (n : ℕ)
       ∙ ap (λ (o : Object Id). length o.fields) (sym added-object)
       ∙ ap (λ x. length (object_by_id k.state x).fields) (sym added-name)
 
-  pub added-young : (object_named k at).generation ≡ 0
-  added-young = ap (λ x. (object_by_id k.state x).generation) added-name
-      ∙ ap (λ (o : Object Id). o.generation) added-object
-
   pub added-with : {u : Machine} {value : ℕ} {src : List ℕ} → n ≡ length src → IsOverHeap k
       → KeepsNames m.names k.names → total_size m.state + (n + 3) ≤ m.numbers.heap
       → u ≡ record k {

@@ -42,6 +42,8 @@ pub mod FilledObjects
 pub mod ClearedRegisters
 mod ClearedRoots
 mod HostedCalls
+mod NewFilled
 mod StateSizes
 mod FreeSlots
 pub mod SpareBlocks
+mod LargerTable

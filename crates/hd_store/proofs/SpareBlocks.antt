@@ -10,7 +10,8 @@ use Rattle.hd_store.proofs.EntryReadings.{unheld-get, weak-get, tied-agrees}
 use Rattle.hd_store.proofs.{EntrySearch.held-some, EntrySearch.weak-read, EntrySweep.row-known}
 use Rattle.hd_store.proofs.StoreRows.{AreTied, IsStorable, held-live, held-read, row-read, storable, stored-entries}
 use Rattle.hd_store.specs.Calls.{IsSound}
-use Rattle.hd_store.specs.Spare.{GivesBackPair, HasNothing, IsSpare, IsVacant, without_pair, without_slots}
+use Rattle.hd_seg.specs.Given.{HasNoneGiven, IsNextGiven}
+use Rattle.hd_store.specs.Spare.{GivesBackPair, HasNoSpare, HasNothing, IsLeastSpare, IsSpare, IsVacant, without_pair, without_slots}
 
 -- ---- a slot that the weak table holds no more
 
@@ -419,3 +420,41 @@ sound_pair m k kind block extra sound spare gives =
             };
           }) gives.extra_is;
     })
+
+-- ---- a spare block has a use, so none is below the next one with a use, where none was so far
+
+module _ {s : State} {kind : Kind} (before : ℕ)
+    (none : (block : ℕ) → block ≤ before → IsSpare s kind block → ⊥) where
+  pub none_below : {next : ℕ} → IsNextGiven s.blocks (before + 1) next
+      → (block : ℕ) → block < next → IsSpare s kind block → ⊥
+  none_below given block low spare =
+      elim (cases_lt before block) [
+        | inl above ↦ no_some (handles_of kind)
+            (sym spare.of_kind ∙ given.least block (omega arith) low)
+        | inr below ↦ none block below spare
+      ]
+
+  pub none_to : {next : ℕ} → IsNextGiven s.blocks (before + 1) next → (IsSpare s kind next → ⊥)
+      → (block : ℕ) → block ≤ next → IsSpare s kind block → ⊥
+  none_to {next} given other block low spare =
+      elim (cases_eq block next) [
+        | inl same ↦ other (subst (IsSpare s kind) same spare)
+        | inr apart ↦ none_below given block (omega arith) spare
+      ]
+
+  pub least_of : {next : ℕ} → IsNextGiven s.blocks (before + 1) next → IsSpare s kind next
+      → IsLeastSpare s kind next
+  least_of {next} given spare = record {
+    spare = spare;
+    least = λ other is. elim (cases_lt other next) [
+      | inl low ↦ absurd (none_below given other low is)
+      | inr high ↦ high
+    ];
+  }
+
+  pub none_at_all : HasNoneGiven s.blocks (before + 1) → HasNoSpare s kind
+  none_at_all given block spare =
+      elim (cases_lt before block) [
+        | inl above ↦ no_some (handles_of kind) (sym spare.of_kind ∙ given block (omega arith))
+        | inr below ↦ none block below spare
+      ]

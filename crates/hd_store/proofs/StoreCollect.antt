@@ -274,7 +274,7 @@ module _ {f : Parts} {l : Lent} {w : WeakTable} {n : ℕ} {report : Report} {bef
           (sym s.done.table.uses) s.stored.uses.extras;
     };
     tied = left_tied;
-    same_blocks = s.blocks ∙ s.stored.same_blocks ∙ sym s.done.table.blocks;
+    weak_blocks = omega (arith, s.blocks, s.stored.weak_blocks, s.done.table.blocks);
   }
 
   handles_left : (slot : ℕ) → get (state_of (left_parts f l w)).handles slot
@@ -410,7 +410,7 @@ module _ (f : Parts) (free : List ℕ) where
     uses = stored.uses;
     tied = λ slot key is. tied-agrees f (record f { heap = record f.heap { free = free } }) slot key
         (stored.tied slot key is) refl (λ x e. refl);
-    same_blocks = stored.same_blocks;
+    weak_blocks = stored.weak_blocks;
   }
 
   machine-free : machine_of (record f { heap = record f.heap { free = free } }) ≡ machine_of f

@@ -1,5 +1,6 @@
 -- A new object of a store: what the machine sees, and that the store keeps what it keeps.
 use Rattle.hd_store.proofs.StoreWords.{Addr, Bool, Contains, HasNoEmptyRegion, Heap, Id, IsField, IsMade, IsObjectRefused, IsRoomier, IsStored, KeepsNames, List, Machine, None, not_there, Object, Option, Parts, Placed, Queue, Region, Some, T, age_of, ap, arith, callers_of, cases_eq, cells_of, cond, fields_in, fresh_object, generation_at, generation_in, get, get_beside, get_inserted, get_or, id_at, identity_of, inl, inr, insert, insert_cases, is_carded, is_in_use, is_object, is_some, last_serial, len, len-insert, length, length-replicate, length-set, machine_of, map, names_of, nat_cmp_total, new_object, object_at, object_in, objects_by_id, option_map, read_object, refl, region_at, region_generation, region_of, replicate, rest_of, rows_of, same_address, set, share, state_of, subst, suc, sum-insert, sum_by, sym, total_size, true, unheld, unwrap_or, used_of, values, with_object, with_serial, without_free, zero, ℕ, ◌+◌, ◌<◌, ◌∙◌, ◌∷◌, ◌≡◌, ◌≤◌, write_cases}
+use Rattle.std.proofs.lemmas.Grind.{get_or_default_zero}
 use Rattle.hd_heap.specs.{Calls.IsRefused as IsRefusedBy, declared.fault.NewFault.NewFault, declared.fault.NewFault.TheVariants.Full, declared.fault.NewFault.TheVariants.Memory}
 use Rattle.hd_store.proofs.{StateCounts.used-is, HeapCallReadings.has-placed, QueueTake.stored-queued, EntryReadings.unheld-some, EntryReadings.tied-agrees}
 use Rattle.hd_store.proofs.IdentityReadings.{no_some, names-get, objects-get}
@@ -191,7 +192,7 @@ module _ (f : Parts) (k : Heap) (at : Addr) (id : Id) (count : ℕ) (fin : Bool)
         tied-agrees f (made_parts serials q) slot key t refl (λ x e.
         id-add f.heap k at.0 (new_object id count fin) adds x
         (placed f.heap x (stored.whole.targets slot _ x t.row e)));
-    same_blocks = stored.same_blocks;
+    weak_blocks = stored.weak_blocks;
   }
 
   read_new : read_object k at.0 (new_object id count fin) ≡ fresh_object count fin
@@ -239,6 +240,17 @@ module _ (f : Parts) (k : Heap) (at : Addr) (id : Id) (count : ℕ) (fin : Bool)
     heap = without_free k;
     table = f.table;
   }
+
+-- the serial of a caller's next object
+pub serial-next : (f : Parts) (m : Machine) → machine_of f ≡ m → IsStored f → (caller last : ℕ)
+    → caller < m.numbers.callers → last ≡ get_or f.serials caller last
+    → last + 1 ≡ last_serial m.state caller + 1
+serial-next f m view stored caller last known is =
+    let callers : callers_of f ≡ m.numbers.callers = ap (λ (n : Machine). n.numbers.callers) view in
+    let within : caller < length f.serials = omega (arith, known, callers, stored.serials) in
+    ap (λ n. n + 1)
+    (is ∙ get_or_default_zero f.serials caller last within
+    ∙ ap (λ (n : Machine). last_serial n.state caller) view)
 
 -- an object with a caller's next serial
 module _ (f : Parts) (m : Machine) (view : machine_of f ≡ m) (stored : IsStored f) (k : Heap) (at : Addr)

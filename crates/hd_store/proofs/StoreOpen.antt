@@ -92,7 +92,7 @@ module _ (limit blocks callers : ℕ) where
       extras = omega (arith, no_sum one_paired, no_sum one_extra);
     };
     tied = λ slot key is. absurd (nothing_at slot key is);
-    same_blocks = refl;
+    weak_blocks = omega arith;
   }
 
   names-opened : names_of (empty_heap limit) ≡ empty

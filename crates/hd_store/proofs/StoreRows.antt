@@ -84,7 +84,7 @@ stored-entries f t ages w stored blocks uses long each same tied = record {
   blocks = omega (arith, blocks, stored.blocks);
   uses = uses;
   tied = tied;
-  same_blocks = same ∙ stored.same_blocks ∙ sym blocks;
+  weak_blocks = omega (arith, same, stored.weak_blocks, blocks);
 }
 
 -- the rows in the slots that the weak table holds are as they were

@@ -89,8 +89,8 @@ pub record HasUses (uses : FinMap nat_cmp BlockUse) (blocks : ℕ) : Type 0 wher
 
 -- what a store keeps, which is also what a collection asks for: every reference is to an object, no two
 -- objects have one identity, ages and cards are sound, each region in use has an object, the queue has room
--- for all objects, the objects take no more cells than the limit, the blocks have their uses, and each slot
--- of the weak table has the row of its entry
+-- for all objects, the objects take no more cells than the limit, the blocks have their uses, each slot of the
+-- weak table has the row of its entry, and that table has the blocks of the table at least
 pub record IsStored (f : Parts) : Type 0 where
   pub whole : IsWhole (scene_of_parts f)
   pub identities : HasIdentities f.heap
@@ -107,7 +107,7 @@ pub record IsStored (f : Parts) : Type 0 where
   pub uses : HasUses f.table.uses f.table.blocks
   pub tied : (slot : ℕ) (key : Option Id) → get f.weak.held slot ≡ Some key
       → IsTied f.heap f.table.rows slot key
-  pub same_blocks : f.weak.blocks ≡ f.table.blocks
+  pub weak_blocks : f.table.blocks ≤ f.weak.blocks
 
 -- a machine with these numbers in which nothing is made yet
 pub record IsFirst (n : Numbers) (m : Machine) : Type 0 where

@@ -1,4 +1,4 @@
-ghost use Rattle.std.specs.Prelude.{◌≡◌, ◌+◌, ◌*◌, ◌<◌, ◌≤◌, [], length, replicate, true, None, IfOk};
+ghost use Rattle.std.specs.Prelude.{◌≡◌, ◌+◌, ◌*◌, ◌<◌, ◌≤◌, [], length, replicate, true, None, IfOk, IfSome, MatchOption};
 ghost use Rattle.std.specs.FinMap.{len, empty};
 ghost use Rattle.hd_model.specs.State.{Numbers, given_of, last_serial, total_size};
 ghost use Rattle.hd_model.specs.Heap.{has_object, object_at};
@@ -6,6 +6,7 @@ ghost use Rattle.hd_model.specs.Table.{empty_table};
 ghost use Rattle.hd_heap.specs.Calls.{empty_heap};
 ghost use Rattle.hd_model.specs.{Scene.IsField, declared.data.Addr.Addr};
 ghost use Rattle.hd_plan.specs.Plan.{HasNoEmptyRegion};
+ghost use Rattle.hd_seg.specs.Given.{HasNoneGiven, IsNextGiven};
 ghost use Rattle.hd_store.specs.{Inside.IsFirst, Store.IsOverHeap, Store.without_free};
 
 use hd_ages::AgeMap;
@@ -192,6 +193,19 @@ impl Contents {
         ensures { result ≡ given_of self.now.state }
     {
         self.table.given()
+    }
+
+    /// The least block from one on that has a use, if there is one. It passes over blocks without
+    /// a use 64 at once.
+    #[inline(always)]
+    pub fn next_given(&self, from: u32) -> Option<u32>
+        requires { 1 ≤ from }
+        ensures next { let uses = self.now.state.blocks in
+            MatchOption result (HasNoneGiven uses from) (IsNextGiven uses from) }
+        ensures within { IfSome result (λ block. block ≤ self.now.numbers.blocks) }
+        ensures table { IfSome result (λ block. block ≤ self.now.table.blocks) }
+    {
+        self.table.next_given(from)
     }
 
     /// The number of blocks that the table has at most.

@@ -10,6 +10,7 @@ mod contents;
 mod entries;
 mod entry_calls;
 mod filling;
+mod growing;
 mod handle_calls;
 mod handles;
 mod hosted;

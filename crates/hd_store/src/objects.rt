@@ -16,8 +16,8 @@ use hd_model::{Addr, Id, Memory};
 // The objects for which room is taken in the queue at once: as many as a region may have.
 const AHEAD: u32 = REGION / HEADER;
 
-// The identity of a caller's object with a serial.
-fn identity(caller: u32, serial: u32) -> Id
+/// The identity of a caller's object with a serial.
+pub(crate) fn identity(caller: u32, serial: u32) -> Id
     requires { 1 ≤ serial }
     ensures value { result ≡ identity_of caller serial }
     ensures not_zero { result.0 ≢ 0 }

@@ -23,12 +23,12 @@ impl Contents {
         self.heap.sizes()
     }
 
-    /// The number of free slots of a kind. It looks at each block, and reads the masks of those of
-    /// the kind.
+    /// The number of free slots of a kind. It looks at each block with a use, and reads the masks of
+    /// those of the kind.
     pub fn free_slots(&self, kind: Kind) -> u32
         ensures { Counts (IsFree self.now.state kind) result }
     {
-        free_slots(&self.table, self.blocks(), kind)
+        free_slots(&self.table, kind)
     }
 
     /// The number of slots that the weak table holds without an entry.
@@ -39,17 +39,18 @@ impl Contents {
     }
 }
 
-// The number of free slots of a kind in a table of so many blocks.
-fn free_slots(table: &Seg, blocks: u32, kind: Kind) -> u32
-    requires blocks { blocks ≡ table.now.blocks }
-    requires few { ROWS * (blocks + 1) < 2 ^ 32 }
+// The number of free slots of a kind in a table.
+fn free_slots(table: &Seg, kind: Kind) -> u32
+    requires few { ROWS * (table.now.blocks + 1) < 2 ^ 32 }
     requires within { (block : ℕ) → IsSome (get table.now.uses block) →
         (1 ≤ block) × (block ≤ table.now.blocks) }
     ensures { Counts (IsFreeRow table.now kind) result }
 {
     let mut free = 0;
-    for block in 1..blocks + 1 {
+    let mut before = 0;
+    while let Some(block) = table.next_given(before + 1) {
         free += free_in(table, block, kind);
+        before = block;
     }
     free
 }

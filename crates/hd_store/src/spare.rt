@@ -1,5 +1,5 @@
 // Blocks of kinds with extra data that a host has given back: no command does it.
-ghost use Rattle.std.specs.Prelude.{◌≡◌, ◌≢◌, ◌≤◌, true, false, Some, IfSome, IfNone};
+ghost use Rattle.std.specs.Prelude.{◌≡◌, ◌≢◌, ◌≤◌, true, false, None, Some, IfSome, IfNone, IsSome};
 ghost use Rattle.std.specs.FinMap.{get, remove};
 ghost use Rattle.hd_model.specs.{declared.data.Id.Id, Kinds.is_paired, WellFormed.HasHandles};
 ghost use Rattle.hd_model.specs.State.{WeakEntry, extra_data, handles_of, use_of, without_use, IsAllFree};
@@ -21,7 +21,7 @@ impl Store {
         self.contents.is_spare(kind, block)
     }
 
-    /// The least spare block of a kind. It looks at the blocks up to it.
+    /// The least spare block of a kind. It looks at the blocks with a use up to it.
     pub fn spare_block(&self, kind: Kind) -> Option<u32>
         ensures least { IfSome result (IsLeastSpare self.now.state kind) }
         ensures none { IfNone result (HasNoSpare self.now.state kind) }
@@ -42,6 +42,15 @@ impl Store {
 }
 
 impl Contents {
+    /// Whether the weak table holds a slot, which may be any number.
+    #[inline(always)]
+    pub fn is_held(&self, slot: Slot) -> bool
+        ensures held { result ≡ true → IsSome (get self.now.state.weak slot.0) }
+        ensures other { result ≡ false → get self.now.state.weak slot.0 ≡ None }
+    {
+        self.weak.held(slot)
+    }
+
     // Whether a slot, which may be any number, has a handle or an entry of the weak table. An idle
     // one has a row without a target.
     fn is_taken(&self, slot: Slot) -> bool
@@ -97,10 +106,12 @@ impl Contents {
         ensures least { IfSome result (IsLeastSpare self.now.state kind) }
         ensures none { IfNone result (HasNoSpare self.now.state kind) }
     {
-        for before in 0..self.blocks() {
-            if self.is_spare(kind, before + 1) {
-                return Some(before + 1);
+        let mut before = 0;
+        while let Some(block) = self.next_given(before + 1) {
+            if self.is_spare(kind, block) {
+                return Some(block);
             }
+            before = block;
         }
         None
     }

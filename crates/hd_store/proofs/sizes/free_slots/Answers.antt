@@ -1,17 +1,28 @@
-use Rattle.hd_store.proofs.StoreWords.{arith}
-use Rattle.hd_store.proofs.FreeSlots.{free_begins, free_ends, free_more}
+use Rattle.hd_store.proofs.StoreWords.{arith, ◌+◌}
+use Rattle.hd_store.proofs.FreeSlots.{free_begins, free_ends, free_more, free_skip}
 use Rattle.hd_store.proofs.sizes.free_slots.Goals as goal
 
 pub loop-block-init : goal.loop-block-init
-loop-block-init c = (free_begins c.args.table.now c.args.kind c.requires.within, omega arith)
+loop-block-init c = record {
+  counted = free_begins c.args.table.now c.args.kind c.requires.within;
+  few = omega arith;
+  within = omega arith;
+}
 
 pub loop-block-preserved : goal.loop-block-preserved
-loop-block-preserved c = (
-  free_more c.args.table.now c.args.kind c.loop-block.block c.loop-block.free c.free_in-free.result
-      c.loop-block.invariant.0 c.free_in-free.ensures.free,
-  omega (arith, c.loop-block.invariant.1, c.free_in-free.ensures.few),
-)
+loop-block-preserved c =
+    let low = c.in-Some.ensures.next.low in
+    record {
+      counted = free_more c.args.table.now c.args.kind c.in-Some.block c.loop-block.free c.free_in-free.result
+          (free_skip c.args.table.now c.args.kind (c.loop-block.before + 1) c.in-Some.block c.loop-block.free
+          c.in-Some.ensures.next c.loop-block.invariant.counted) c.free_in-free.ensures.free;
+      few = omega (arith, low, c.loop-block.invariant.few, c.free_in-free.ensures.few);
+      within = c.in-Some.ensures.within;
+    }
+
+pub loop-block-smaller : goal.loop-block-smaller
+loop-block-smaller c = omega (arith, c.in-Some.ensures.next.low, c.in-Some.ensures.within)
 
 pub returns : goal.returns
-returns c = free_ends c.args.table.now c.args.kind c.requires.within c.loop-block.block c.loop-block.free
-    (omega (arith, c.loop-block-test.false, c.requires.blocks)) c.loop-block.invariant.0
+returns c = free_ends c.args.table.now c.args.kind (c.loop-block.before + 1) c.loop-block.free
+    c.in_default.ensures.next c.loop-block.invariant.counted

@@ -1,5 +1,5 @@
 use Rattle.hd_store.proofs.StoreWords.{IsObjectRefused, Machine, arith, subst, sym, ◌+◌, ◌<◌}
-use Rattle.hd_store.proofs.HostedCalls.{added-fields, added-with, added-young}
+use Rattle.hd_store.proofs.HostedCalls.{added-fields, added-with}
 use Rattle.hd_store.proofs.contents.Contents.add_filled.Goals as goal
 
 pub add_object-requires-clause-fields : goal.add_object-requires-clause-fields
@@ -19,11 +19,6 @@ pub fill_object-requires-clause-fields : goal.fill_object-requires-clause-fields
 fill_object-requires-clause-fields c =
     added-fields c.args.self.now c.add_object.new.self c.args.caller c.args.fin c.in-Ok.at
     c.count_of-fields.result c.in-Ok.ensures.made c.args.src.now c.count_of-fields.ensures
-
-pub fill_object-requires-clause-young : goal.fill_object-requires-clause-young
-fill_object-requires-clause-young c =
-    added-young c.args.self.now c.add_object.new.self c.args.caller c.args.fin c.in-Ok.at
-    c.count_of-fields.result c.in-Ok.ensures.made
 
 pub returns-in-Ok-clause-made : goal.returns-in-Ok-clause-made
 returns-in-Ok-clause-made c =

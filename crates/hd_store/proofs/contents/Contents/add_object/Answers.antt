@@ -1,21 +1,14 @@
-use Rattle.hd_store.proofs.StoreWords.{Addr, IsMade, KeepsNames, Machine, None, Option, ap, arith, get, get_inserted, identity_of, is_some, last_serial, length, length-replicate, new_object, parts, subst, sym, total_size, used_of, ◌+◌, ◌<◌, ◌∙◌, ◌≡◌}
-use Rattle.std.proofs.lemmas.Grind.{get_or_default_zero}
+use Rattle.hd_store.proofs.StoreWords.{Addr, IsMade, KeepsNames, Machine, None, Option, ap, arith, get, get_inserted, identity_of, is_some, last_serial, length-replicate, new_object, parts, subst, sym, total_size, used_of, ◌+◌, ◌∙◌, ◌≡◌}
 use Rattle.hd_heap.specs.Calls.{IsRefused as IsRefusedBy}
 use Rattle.hd_store.proofs.StateCounts.{used-is, few_objects}
-use Rattle.hd_store.proofs.StoreNew.{stored-next, machine-next, names-next, refused-next, stored-refused}
+use Rattle.hd_store.proofs.StoreNew.{serial-next, stored-next, machine-next, names-next, refused-next, stored-refused}
 use Rattle.hd_store.proofs.contents.Contents.add_object.Goals.{After-from}
 use Rattle.hd_store.proofs.contents.Contents.add_object.Goals as goal
 
 -- the serial of the new object
 last : (c : After-from) → c.index.result.now + 1 ≡ last_serial c.args.self.now.state c.args.caller + 1
-last c =
-    let callers : length c.self.inside.handle_registers.items ≡ c.args.self.now.numbers.callers =
-    ap (λ (m : Machine). m.numbers.callers) c.self.view_is in
-    let within : c.args.caller < length c.self.inside.serials.items = omega
-    (arith, c.requires.caller, callers, c.self.invariant.serials) in
-    ap (λ n. n + 1)
-    (c.index.ensures ∙ get_or_default_zero c.self.inside.serials.items c.args.caller c.index.result.now within
-    ∙ ap (λ (m : Machine). last_serial m.state c.args.caller) c.self.view_is)
+last c = serial-next (parts c.self.inside) c.args.self.now c.self.view_is c.self.invariant c.args.caller
+    c.index.result.now c.requires.caller c.index.ensures
 
 pub make-requires-clause-few : goal.make-requires-clause-few
 make-requires-clause-few c =

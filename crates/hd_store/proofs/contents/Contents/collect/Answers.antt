@@ -28,7 +28,7 @@ out : (g : Over) (c : goal.After-from_residual g)
 out g c =
     subst (λ roots. IsUncollected (record (parts c.self.inside) { roots = roots }) (lent_parts
     c.collect.new.heap c.collect.new.seg c.collect.new.ages c.collect.new.fin c.collect.new.roots)
-    c.args.steps.now c.collect.new.steps) c.deref_mut.ensures.value c.in_err-report.ensures
+    c.args.steps.now c.collect.new.steps) c.deref_mut.ensures.value c.in_err-report.ensures.collected
 
 pub invariant_of-self : goal.invariant_of-self
 invariant_of-self g c =
@@ -57,7 +57,7 @@ sweep_lost-requires g c =
     unswept c.self.inside.weak c.self.invariant
     (subst
     (λ roots. Collected (lent_of (record f { roots = roots })) l c.args.n c.in_ok-report.report
-    c.args.steps.now c.collect.new.steps) c.deref_mut.ensures.value c.in_ok-report.ensures)
+    c.args.steps.now c.collect.new.steps) c.deref_mut.ensures.value c.in_ok-report.ensures.collected)
 
 swept : (g : Over) (c : goal.After-sweep_lost g)
     → IsSwept (parts c.self.inside) (lent_parts c.collect.new.heap c.collect.new.seg c.collect.new.ages
@@ -69,7 +69,7 @@ swept g c = record {
       (λ roots. Collected (lent_of (record (parts c.self.inside) { roots = roots })) (lent_parts
       c.collect.new.heap c.collect.new.seg c.collect.new.ages c.collect.new.fin c.collect.new.roots) c.args.n
       c.in_ok-report.report c.args.steps.now c.collect.new.steps) c.deref_mut.ensures.value
-      c.in_ok-report.ensures;
+      c.in_ok-report.ensures.collected;
   blocks = c.sweep_lost.ensures.blocks;
   each = c.sweep_lost.ensures.each;
 }

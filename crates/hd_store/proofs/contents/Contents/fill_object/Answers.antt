@@ -1,5 +1,5 @@
 use Rattle.hd_store.proofs.StoreWords.{IsSome, Machine, arith, get, length, subst, sym, ◌<◌, ◌≡◌}
-use Rattle.hd_store.proofs.FilledObjects.{fills-all, fills-first, fills-next, fills-within, fills-young}
+use Rattle.hd_store.proofs.FilledObjects.{fills-all, fills-first, fills-next, fills-within}
 use Rattle.hd_store.proofs.contents.Contents.fill_object.Goals as goal
 
 pub loop-i-init : goal.loop-i-init
@@ -20,28 +20,23 @@ register-target-requires c = (
   c.requires.sources c.loop-i.i (omega (arith, c.loop-i-test.true)),
 )
 
-pub fill_field-requires-clause-known : goal.fill_field-requires-clause-known
-fill_field-requires-clause-known c =
+pub set_field-requires-clause-known : goal.set_field-requires-clause-known
+set_field-requires-clause-known c =
     subst (λ (m : Machine). IsSome (get m.names c.args.at.0)) (sym c.loop-i.invariant) c.requires.known
 
-pub fill_field-requires-clause-field : goal.fill_field-requires-clause-field
-fill_field-requires-clause-field c =
+pub set_field-requires-clause-field : goal.set_field-requires-clause-field
+set_field-requires-clause-field c =
     fills-within c.args.self.now c.args.at c.args.value c.args.caller c.args.src.now c.loop-i.i c.loop-i.self
     (omega (arith, c.loop-i-test.true)) c.requires.fields c.loop-i.invariant
 
-pub fill_field-requires-clause-young : goal.fill_field-requires-clause-young
-fill_field-requires-clause-young c =
-    fills-young c.args.self.now c.args.at c.args.value c.args.caller c.args.src.now c.loop-i.i c.loop-i.self
-    c.requires.young c.loop-i.invariant
-
-pub fill_field-requires-clause-named : goal.fill_field-requires-clause-named
-fill_field-requires-clause-named c = c.register-target.ensures.named
+pub set_field-requires-clause-named : goal.set_field-requires-clause-named
+set_field-requires-clause-named c = c.register-target.ensures.named
 
 pub loop-i-preserved : goal.loop-i-preserved
 loop-i-preserved c =
     fills-next c.args.self.now c.args.at c.args.value c.args.caller c.args.src.now c.loop-i.i c.loop-i.self
-    c.fill_field.new.self c.register-target.result (omega (arith, c.loop-i-test.true)) c.loop-i.invariant
-    c.register-target.ensures.value c.fill_field.ensures
+    c.set_field.new.self c.register-target.result (omega (arith, c.loop-i-test.true)) c.loop-i.invariant
+    c.register-target.ensures.value c.set_field.ensures
 
 pub returns : goal.returns
 returns c =

@@ -1,17 +1,14 @@
-use Rattle.hd_store.proofs.StoreWords.{IsFree, Machine, ap, arith, machine_of, parts, refl, subst, sym, ◌∙◌}
+use Rattle.hd_store.proofs.StoreWords.{IsFree, Machine, arith, machine_of, parts, refl, subst}
 use Rattle.hd_store.proofs.FreeSlots.{free_in_state}
 use Rattle.hd_store.proofs.StateHeap.{over-heap}
 use Rattle.hd_store.proofs.contents.Contents.free_slots.Goals as goal
 use Rattle.hd_model.specs.Counting.{Counts}
 
 pub free_slots-requires : goal.free_slots-requires
-free_slots-requires c =
-    let blocks = ap (λ (m : Machine). m.table.blocks) c.self.view_is in
-    record {
-      blocks = c.blocks-2.ensures.table ∙ sym blocks;
-      few = omega (arith, c.blocks-2.ensures.table, blocks, c.self.invariant.blocks);
-      within = c.self.invariant.uses.within;
-    }
+free_slots-requires c = record {
+  few = omega (arith, c.self.invariant.blocks);
+  within = c.self.invariant.uses.within;
+}
 
 pub returns : goal.returns
 returns c =

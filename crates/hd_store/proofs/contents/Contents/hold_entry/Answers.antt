@@ -27,7 +27,7 @@ pub add-requires-clause-within : goal.add-requires-clause-within
 add-requires-clause-within c =
     let here = block (goal.at.add-requires-clause-within c).After-given-given in
     let inside = c.self.invariant.uses.within (c.args.slot.0 / ROWS) (ap is_some here) in
-    omega (arith, inside.1, c.self.invariant.same_blocks)
+    omega (arith, inside.1, c.self.invariant.weak_blocks)
 
 pub add-requires-clause-slot : goal.add-requires-clause-slot
 add-requires-clause-slot c =
