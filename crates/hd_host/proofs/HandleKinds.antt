@@ -1,5 +1,5 @@
 -- Live handles of some kinds, by the masks of their blocks.
-use Rattle.std.proofs.Common.{Bool, None, Option, Some, ap, arith, bit_and, cond, false, is_some, refl, subst, sym, true, ℕ, ⊎_elim, ◌%◌, ◌*◌, ◌+◌, ◌-◌, ◌/◌, ◌<◌, ◌^◌, ◌∙◌, ◌≡◌, ◌≤◌}
+use Rattle.std.proofs.Common.{Bool, None, Option, Some, ap, arith, bit_and, cond, false, is_some, refl, subst, sym, true, ℕ, ⊎_elim, ◌*◌, ◌+◌, ◌-◌, ◌/◌, ◌<◌, ◌^◌, ◌∙◌, ◌≡◌, ◌≤◌}
 use Rattle.std.proofs.lemmas.Bool.{cases_eq, cases_lt, true≢false}
 use Rattle.std.proofs.lemmas.Nat.{and_le_r}
 use Rattle.std.proofs.lemmas.Nat.Bits.{bit_at-lt, bit_at-pow_other, bit_at-zero, bit_at_above}
@@ -7,7 +7,7 @@ use Rattle.std.proofs.lemmas.Option.{none-some, same_Some}
 use Rattle.std.specs.FinMap.{contains_key, get}
 use Rattle.std.specs.Int.{bit_at}
 use Rattle.std.specs.Option.{option_or}
-use Rattle.std.specs.Prelude.{IsSome, option_and_then, option_map, unwrap_or}
+use Rattle.std.specs.Prelude.{IsSome, MatchOption, option_and_then, option_map, unwrap_or}
 use Rattle.hd_mask.proofs.Bits.{bit_at-shr, lowest_parts}
 use Rattle.hd_model.specs.Heap.{id_at}
 use Rattle.hd_model.specs.{declared.data.Id.Id, declared.data.Kind.Kind, declared.data.Slot.Slot, declared.limits.TheConstants.HOST_BLOCKS, declared.limits.TheConstants.ROWS, Kinds.kind_number}
@@ -18,7 +18,8 @@ use Rattle.hd_seg.specs.declared.row.BlockKind.{BlockKind}
 use Rattle.hd_seg.specs.declared.row.BlockKind.TheVariants as block_kind
 use Rattle.hd_model.specs.declared.data.Kind.TheVariants.{Short}
 use Rattle.hd_store.specs.{Calls.IsSound, Growth.kind_in_use, Store.IsOverHeap, Store.Machine}
-use Rattle.hd_host.specs.Kinds.{HasAt, HasHandle, HasNoneBefore, HasNoneOf, IsFirstIn, IsNextOf}
+use Rattle.hd_seg.specs.Given.{HasNoneGiven, IsNextGiven}
+use Rattle.hd_host.specs.Kinds.{HasAt, HasHandle, HasNoneBefore, HasNoneOf, IsFirstIn, IsHandleOf, IsNextOf}
 
 some_back : {A B : Type 0} (f : A → B) (o : Option A) (y : B) → option_map f o ≡ Some y → is_some o ≡ true
 some_back f None y is = absurd (none-some y is)
@@ -162,118 +163,124 @@ pub kind-use : {m : Machine} (sound : IsSound m) (slot : Slot) (h : Handle Id) �
     → use_of m.state (slot.0 / ROWS) ≡ Some (handles_of h.kind)
 kind-use sound slot h live = sound.well_formed.handles.kinds slot.0 h live
 
-module _ {m : Machine} (sound : IsSound m) (kinds : ℕ) (cleared : Bool) (from : ℕ) where
-  -- a slot from the number on in its block
-  in-block : (slot : Slot) → from ≤ slot.0 → slot.0 < ROWS * (from / ROWS + 1) → slot.0 / ROWS ≡ from / ROWS
-  in-block slot low high = omega (arith, low, high)
+module _ {m : Machine} (sound : IsSound m) (kinds : ℕ) (cleared : Bool) (block row : ℕ) (inside : row < ROWS) where
+  abbrev start : ℕ
+  start = ROWS * block + row
 
-  kind-of : (slot : Slot) → from ≤ slot.0 → slot.0 < ROWS * (from / ROWS + 1) → (h : Handle Id)
-      → handle_at m.state slot ≡ Some h → kind_in_use (use_of m.state (from / ROWS)) ≡ Some h.kind
+  -- a slot from the row on in the block
+  in-block : (slot : Slot) → start ≤ slot.0 → slot.0 < ROWS * (block + 1) → slot.0 / ROWS ≡ block
+  in-block slot low high = omega (arith, low, high, inside)
+
+  kind-of : (slot : Slot) → start ≤ slot.0 → slot.0 < ROWS * (block + 1) → (h : Handle Id)
+      → handle_at m.state slot ≡ Some h → kind_in_use (use_of m.state block) ≡ Some h.kind
   kind-of slot low high h live =
-      ap (λ block. kind_in_use (use_of m.state block)) (sym (in-block slot low high))
+      ap (λ b. kind_in_use (use_of m.state b)) (sym (in-block slot low high))
       ∙ ap kind_in_use (kind-use sound slot h live)
 
-  pub none-outside : ((1 ≤ from / ROWS) × (from / ROWS ≤ m.numbers.blocks) → ⊥)
-      → HasNoneBefore m.state kinds cleared from (ROWS * (from / ROWS + 1))
+  pub none-outside : ((1 ≤ block) × (block ≤ m.numbers.blocks) → ⊥)
+      → HasNoneBefore m.state kinds cleared start (ROWS * (block + 1))
   none-outside outside slot low high is =
-      outside (sound.well_formed.handles.blocks (from / ROWS)
+      outside (sound.well_formed.handles.blocks block
       (ap is_some (ap (use_of m.state) (sym (in-block slot low high))
       ∙ kind-use sound slot is.has.handle is.has.live)))
 
-  pub none-unused : None ≡ kind_in_use (use_of m.state (from / ROWS))
-      → HasNoneBefore m.state kinds cleared from (ROWS * (from / ROWS + 1))
+  pub none-unused : None ≡ kind_in_use (use_of m.state block)
+      → HasNoneBefore m.state kinds cleared start (ROWS * (block + 1))
   none-unused none slot low high is =
       none-some is.has.handle.kind (none ∙ kind-of slot low high is.has.handle is.has.live)
 
-  module _ (kind : Kind) (kind-is : Some kind ≡ kind_in_use (use_of m.state (from / ROWS))) where
-    pub same-kind : (slot : Slot) → from ≤ slot.0 → slot.0 < ROWS * (from / ROWS + 1) → (h : Handle Id)
+  module _ (kind : Kind) (kind-is : Some kind ≡ kind_in_use (use_of m.state block)) where
+    same-kind : (slot : Slot) → start ≤ slot.0 → slot.0 < ROWS * (block + 1) → (h : Handle Id)
         → handle_at m.state slot ≡ Some h → kind ≡ h.kind
     same-kind slot low high h live = same_Some kind h.kind (kind-is ∙ kind-of slot low high h live)
 
     pub none-of-kind : (bit_at kinds (kind_number kind) ≡ 1 → ⊥)
-        → HasNoneBefore m.state kinds cleared from (ROWS * (from / ROWS + 1))
+        → HasNoneBefore m.state kinds cleared start (ROWS * (block + 1))
     none-of-kind not slot low high is =
         not (subst (λ k. bit_at kinds (kind_number k) ≡ 1)
         (sym (same-kind slot low high is.has.handle is.has.live)) is.of_kinds)
 
     -- a slot by its row
-    by-row : (slot : Slot) → from ≤ slot.0 → HasHandle m.state cleared slot
-        → HasAt m.state cleared (from / ROWS) (slot.0 - ROWS * (from / ROWS))
+    by-row : (slot : Slot) → start ≤ slot.0 → HasHandle m.state cleared slot
+        → HasAt m.state cleared block (slot.0 - ROWS * block)
     by-row slot low has = subst (λ (x : Slot). HasHandle m.state cleared x)
         (λ i. record { 0 = at i }) has
       where
-        at : slot.0 ≡ ROWS * (from / ROWS) + (slot.0 - ROWS * (from / ROWS))
+        at : slot.0 ≡ ROWS * block + (slot.0 - ROWS * block)
         at = omega (arith, low)
 
-    pub none-in-rows : ((k : ℕ) → from % ROWS ≤ k → k < ROWS → HasAt m.state cleared (from / ROWS) k → ⊥)
-        → HasNoneBefore m.state kinds cleared from (ROWS * (from / ROWS + 1))
+    pub none-in-rows : ((k : ℕ) → row ≤ k → k < ROWS → HasAt m.state cleared block k → ⊥)
+        → HasNoneBefore m.state kinds cleared start (ROWS * (block + 1))
     none-in-rows none slot low high is =
-        none (slot.0 - ROWS * (from / ROWS)) (omega (arith, low)) (omega (arith, low, high)) (by-row slot low is.has)
+        none (slot.0 - ROWS * block) (omega (arith, low)) (omega (arith, low, high)) (by-row slot low is.has)
 
-    pub next-in-rows : (row : ℕ) → IsFirstIn m.state cleared (from / ROWS) (from % ROWS) row
-        → bit_at kinds (kind_number kind) ≡ 1
-        → IsNextOf m.state kinds cleared from (record { 0 = ROWS * (from / ROWS) + row })
-    next-in-rows row first one = record {
+    pub next-in-rows : (at : ℕ) → IsFirstIn m.state cleared block row at → bit_at kinds (kind_number kind) ≡ 1
+        → IsNextOf m.state kinds cleared start (record { 0 = ROWS * block + at })
+    next-in-rows at found one = record {
       is = record {
-        has = first.has;
+        has = found.has;
         of_kinds = subst (λ k. bit_at kinds (kind_number k) ≡ 1)
-            (same-kind (record { 0 = ROWS * (from / ROWS) + row }) on
-            (omega (arith, first.within)) first.has.handle first.has.live) one;
+            (same-kind (record { 0 = ROWS * block + at }) (omega (arith, found.from_on))
+            (omega (arith, found.within)) found.has.handle found.has.live) one;
       };
-      from_on = on;
+      from_on = omega (arith, found.from_on);
       least = λ other low is.
-          ⊎_elim (λ before. absurd (first.least (other.0 - ROWS * (from / ROWS)) (omega (arith, low))
+          ⊎_elim (λ before. absurd (found.least (other.0 - ROWS * block) (omega (arith, low))
           (omega (arith, low, before)) (by-row other low is.has))) (λ high. high)
-          (cases_lt other.0 (ROWS * (from / ROWS) + row));
+          (cases_lt other.0 (ROWS * block + at));
     }
-      where
-        on : from ≤ ROWS * (from / ROWS) + row
-        on = omega (arith, first.from_on)
 
 -- ---- all slots
 
 module _ {m : Machine} (sound : IsSound m) (kinds : ℕ) (cleared : Bool) (from : ℕ) where
-  -- none in a block, and none before it
-  pub none-more : (block : ℕ) → from < ROWS * block → HasNoneBefore m.state kinds cleared from (ROWS * block)
-      → HasNoneBefore m.state kinds cleared (block * ROWS) (ROWS * (block * ROWS / ROWS + 1))
-      → HasNoneBefore m.state kinds cleared from (ROWS * (block + 1))
-  none-more block low before here slot on high is =
+  -- what is from a number on, where none is before it
+  module _ (to start : ℕ) (same : start ≡ to) (before : HasNoneBefore m.state kinds cleared from to) where
+    pub none-joined : (end : ℕ) → HasNoneBefore m.state kinds cleared start end
+        → HasNoneBefore m.state kinds cleared from end
+    none-joined end here slot on high is =
+        ⊎_elim (λ first. before slot on first is) (λ later. here slot (omega (arith, same, later)) high is)
+        (cases_lt slot.0 to)
+
+    none-after : HasNoneOf m.state kinds cleared start → HasNoneOf m.state kinds cleared from
+    none-after here slot on is =
+        ⊎_elim (λ first. before slot on first is) (λ later. here slot (omega (arith, same, later)) is)
+        (cases_lt slot.0 to)
+
+    pub next-after : from ≤ to → (slot : Slot) → IsNextOf m.state kinds cleared start slot
+        → IsNextOf m.state kinds cleared from slot
+    next-after low slot next = record {
+      is = next.is;
+      from_on = omega (arith, low, same, next.from_on);
+      least = λ other on is.
+          ⊎_elim (λ first. absurd (before other on first is))
+          (λ later. next.least other (omega (arith, same, later)) is) (cases_lt other.0 to);
+    }
+
+    pub after : from ≤ to → (o : Option Slot)
+        → MatchOption o (HasNoneOf m.state kinds cleared start) (IsNextOf m.state kinds cleared start)
+        → MatchOption o (HasNoneOf m.state kinds cleared from) (IsNextOf m.state kinds cleared from)
+    after low None none = none-after none
+    after low (Some slot) next = next-after low slot next
+
+  -- no slot of a block without a use has a handle
+  without-use : (slot : Slot) → use_of m.state (slot.0 / ROWS) ≡ None → IsHandleOf m.state kinds cleared slot → ⊥
+  without-use slot none is =
+      none-some (handles_of is.has.handle.kind) (sym none ∙ kind-use sound slot is.has.handle is.has.live)
+
+  pub none-between : (block next : ℕ) → IsNextGiven m.state.blocks block next
+      → HasNoneBefore m.state kinds cleared from (ROWS * block) → HasNoneBefore m.state kinds cleared from (ROWS * next)
+  none-between block next given before slot on high is =
       ⊎_elim (λ first. before slot on first is)
-      (λ later. here slot (omega (arith, later)) (omega (arith, high)) is) (cases_lt slot.0 (ROWS * block))
+      (λ later. without-use slot (given.least (slot.0 / ROWS) (omega (arith, later)) (omega (arith, high))) is)
+      (cases_lt slot.0 (ROWS * block))
 
-  pub next-later : (block : ℕ) (slot : Slot) → from < ROWS * block
-      → HasNoneBefore m.state kinds cleared from (ROWS * block)
-      → IsNextOf m.state kinds cleared (block * ROWS) slot → IsNextOf m.state kinds cleared from slot
-  next-later block slot low before next = record {
-    is = next.is;
-    from_on = omega (arith, low, next.from_on);
-    least = λ other on is.
-        ⊎_elim (λ first. absurd (before other on first is))
-        (λ later. next.least other (omega (arith, later)) is) (cases_lt other.0 (ROWS * block));
-  }
-
-  -- no block is beyond the last
-  pub none-beyond : (block : ℕ) → m.numbers.blocks < block
+  pub none-beyond : (block : ℕ) → HasNoneGiven m.state.blocks block
       → HasNoneBefore m.state kinds cleared from (ROWS * block) → HasNoneOf m.state kinds cleared from
-  none-beyond block beyond before slot on is =
+  none-beyond block none before slot on is =
       ⊎_elim (λ first. before slot on first is)
-      (λ later.
-      let within = sound.well_formed.handles.blocks (slot.0 / ROWS)
-      (ap is_some (kind-use sound slot is.has.handle is.has.live)) in
-      let low = within.1 in absurd (omega (arith, low, later, beyond))) (cases_lt slot.0 (ROWS * block))
+      (λ later. without-use slot (none (slot.0 / ROWS) (omega (arith, later))) is) (cases_lt slot.0 (ROWS * block))
 
 -- ---- what a store says of a slot and of a block
-
--- whether the weak table has a slot, by what is read of it
-pub entry-none : {A B : Type 0} (f : A → B) (o : Option A) {w : Option B} → w ≡ option_map f o → is_some o ≡ false
-    → w ≡ None
-entry-none f None is none = is
-entry-none f (Some x) is none = absurd (true≢false none)
-
-pub entry-some : {A B : Type 0} (f : A → B) (o : Option A) {w : Option B} → w ≡ option_map f o → is_some o ≡ true
-    → IsSome w
-entry-some f None is some = absurd (true≢false (sym some))
-entry-some f (Some x) is some = ap is_some is
 
 -- the kind of a block, as the table says it
 abbrev pub kind_in_block : BlockKind → Option Kind
@@ -297,10 +304,8 @@ used-of : (o : Option BlockUse) (kind : Kind) → Some kind ≡ kind_in_use o �
 used-of None kind is = absurd (none-some kind (sym is))
 used-of (Some given) kind is = refl
 
-pub within-blocks : {m : Machine} → IsOverHeap m → (sound : IsSound m) → m.table.blocks ≡ m.numbers.blocks
-    → (from : ℕ) (kind : Kind) → Some kind ≡ kind_in_use (use_of m.state (from / ROWS))
-    → (1 ≤ from / ROWS) × (from / ROWS ≤ m.table.blocks) × (from / ROWS ≤ HOST_BLOCKS)
-within-blocks {m = m} over sound same from kind is =
-    let within = sound.well_formed.handles.blocks (from / ROWS) (used-of (use_of m.state (from / ROWS)) kind is) in
-    let high = within.1 in
-    (within.0, omega (arith, high, same), omega (arith, high, sound.limits.blocks.1))
+pub few-block : {m : Machine} → (sound : IsSound m) → (block : ℕ) (kind : Kind)
+    → Some kind ≡ kind_in_use (use_of m.state block) → block ≤ HOST_BLOCKS
+few-block {m = m} sound block kind is =
+    let within = sound.well_formed.handles.blocks block (used-of (use_of m.state block) kind is) in
+    let high = within.1 in omega (arith, high, sound.limits.blocks.1)

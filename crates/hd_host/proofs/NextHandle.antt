@@ -1,20 +1,43 @@
--- The live handle with the least slot from a number on.
-use Rattle.std.proofs.Common.{Some, ap, is_some, ◌<◌, ◌≡◌, ◌≤◌, ℕ, ⊎_elim}
-use Rattle.std.proofs.lemmas.Bool.{cases_lt}
-use Rattle.std.specs.Prelude.{IsSome}
-use Rattle.hd_model.specs.{declared.data.Slot.Slot, State.handle_at}
-use Rattle.hd_model.specs.Handles.{handle_of as handle_seen}
+-- The live handle with the least slot from a number on is the next one of all kinds.
+use Rattle.std.proofs.Common.{None, Option, Some, false, refl, ◌-◌, ◌^◌, ◌≡◌, ℕ}
+use Rattle.std.proofs.lemmas.Bool.{false≢true}
+use Rattle.std.specs.Int.{bit_at}
+use Rattle.std.specs.Prelude.{IsSome, MatchOption}
+use Rattle.hd_model.proofs.MapEntries.{some_value}
+use Rattle.hd_model.specs.{declared.data.Kind.Kind, declared.data.Slot.Slot, Kinds.kind_number, State.State, State.handle_at}
+use Rattle.hd_model.specs.declared.data.Kind.TheVariants as kind
 use Rattle.hd_host.specs.declared.observing.Listed.{Listed}
-use Rattle.hd_host.specs.{Handles.IsNextFrom, Handles.handle_of, View.HostView}
+use Rattle.hd_host.specs.Handles.{HasNoneFrom, IsNextFrom}
+use Rattle.hd_host.specs.Kinds.{HasNoneOf, IsHandleOf, IsListedOf}
+use Rattle.hd_host.specs.View.{HostView}
 
-pub is_next : {v : HostView} {from : ℕ} (listed : Listed) → from ≤ listed.slot.0
-    → ((slot : Slot) → from ≤ slot.0 → slot.0 < listed.slot.0 → IsSome (handle_at v.machine.state slot) → ⊥)
-    → handle_at v.machine.state listed.slot ≡ Some (handle_seen listed.info)
-    → listed.handle ≡ handle_of v listed.slot → IsNextFrom v from listed
-is_next {v = v} {from = from} listed low none live is = record {
-  from_on = low;
-  handle = record { live = ap is_some live; is = is };
-  info = live;
-  least = λ other from_on there.
-      ⊎_elim (λ before. absurd (none other from_on before there)) (λ past. past) (cases_lt other.0 listed.slot.0);
+abbrev all : ℕ
+all = 2 ^ 32 - 1
+
+in-all : (k : Kind) → bit_at all (kind_number k) ≡ 1
+in-all kind.Short = refl
+in-all kind.Long = refl
+in-all kind.Strong = refl
+in-all kind.Pinned = refl
+in-all kind.Variable = refl
+in-all kind.Counted = refl
+in-all kind.Dependent = refl
+
+of-all : {s : State} (slot : Slot) → IsSome (handle_at s slot) → IsHandleOf s all false slot
+of-all {s} slot there =
+    let held = some_value (handle_at s slot) there in
+    record {
+      has = record { handle = held.0; live = held.1; is_cleared = λ e. absurd (false≢true e) };
+      of_kinds = in-all held.0.kind;
+    }
+
+pub next_from : (v : HostView) (from : ℕ) (o : Option Listed)
+    → MatchOption o (HasNoneOf v.machine.state all false from) (IsListedOf v all false from)
+    → MatchOption o (HasNoneFrom v from) (IsNextFrom v from)
+next_from v from None none = λ slot low there. none slot low (of-all slot there)
+next_from v from (Some listed) next = record {
+  from_on = next.next.from_on;
+  handle = next.handle;
+  info = next.info;
+  least = λ other low there. next.next.least other low (of-all other there);
 }

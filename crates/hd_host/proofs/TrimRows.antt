@@ -1,19 +1,19 @@
 -- How many blocks a host gives back.
-use Rattle.std.proofs.Common.{Bool, List, None, Some, [], ◌∷◌, is_some, ◌<◌, ap, arith, drop, false, get_or, inl, inr, length, refl, subst, sym, true, ℕ, ⊎_elim, ◌+◌, ◌∙◌, ◌≡◌, ◌≤◌}
-use Rattle.std.proofs.lemmas.Bool.{cases_lt, true≢false}
+use Rattle.std.proofs.Common.{Bool, List, None, Some, [], ◌∷◌, is_some, ◌<◌, ap, arith, drop, false, get_or, inl, inr, length, refl, subst, sym, true, ℕ, ◌+◌, ◌∙◌, ◌≡◌, ◌≤◌}
 use Rattle.std.proofs.lemmas.List.{drop_all, drop_more}
-use Rattle.std.specs.FinMap.{get, remove}
 use Rattle.std.specs.Prelude.{IsSome}
-use Rattle.hd_model.proofs.ReadAfterWrite.{len_less, remove_cases}
+use Rattle.hd_model.proofs.ReadAfterWrite.{len_less}
 use Rattle.hd_model.specs.{declared.command.Cmd.Cmd, declared.data.Entry.Entry, declared.data.Kind.Kind, declared.data.Kind.TheVariants.Short, Kinds.all_kinds, Kinds.is_paired, PinnedAddresses.with_pinned, Step.StepOf}
 use Rattle.hd_model.specs.State.{Numbers, State, block_of, first_slot, given_of, handles_of, use_of}
 use Rattle.hd_model.specs.declared.command.Cmd.TheVariants as cmd
 use Rattle.hd_model.specs.declared.data.Reply.TheVariants as reply
-use Rattle.hd_store.specs.{Spare.GivesBackPair, Spare.HasNoSpare, Spare.IsLeastSpare, Spare.IsSpare, Spare.without_pair, Store.Machine}
+use Rattle.hd_seg.specs.Given.{HasNoneGiven, IsNextGiven}
+use Rattle.hd_store.proofs.SpareBlocks.{least_of, none_at_all, none_below, none_to}
+use Rattle.hd_store.specs.{Spare.GivesBackPair, Spare.HasNoSpare, Spare.IsSpare, Store.Machine}
 use Rattle.hd_host.specs.Changes.{change_back}
 use Rattle.hd_host.specs.Calls.{Trims}
-use Rattle.hd_host.specs.Steps.{HasStepped, pointed}
-use Rattle.hd_host.specs.Turns.{TrimsBlock, TrimsBy, TrimsPair, TrimsRow, next_kind, no_kinds, one_more}
+use Rattle.hd_host.specs.Steps.{pointed}
+use Rattle.hd_host.specs.Turns.{TrimsBlock, TrimsBy, TrimsRow, next_kind, no_kinds, one_more}
 use Rattle.hd_host.specs.View.{HostView, state_in}
 use Rattle.hd_host.proofs.PairTrimmed.{none_lower, pair_fewer, trims_pair}
 use Rattle.hd_host.proofs.{SoundTurns.stepped_goes, TrimTurns.row_on}
@@ -78,77 +78,53 @@ row_fewer {u} {w} (next_kind {v = v} {kind = kind} did rest) =
 
 -- ---- the blocks of a kind, one after another
 
--- what has a use had one
-used_before : (s : State) (block extra other : ℕ) → IsSome (use_of (without_pair s block extra) other)
-    → IsSome (use_of s other)
-used_before s block extra other there =
-    remove_cases s.blocks extra (λ j o. IsSome o → IsSome (use_of s j)) other
-    (λ none. absurd (true≢false (sym none))) (λ _ is. is)
-    (remove_cases (remove s.blocks extra) block (λ j o. IsSome o → IsSome (get (remove s.blocks extra) j)) other
-    (λ none. absurd (true≢false (sym none))) (λ _ is. is) there)
-
 -- what is given back from here on goes on what was, and no block so far is spare
 pub record IsTrimming (kind : Kind) (old now : HostView) (so_far : ℕ) : Type 0 where
   pub row : (w : HostView) → TrimsRow (kind ∷ []) now w → TrimsRow (kind ∷ []) old w
-  pub lower : (block : ℕ) → block ≤ so_far → IsSpare now.machine.state kind block → ⊥
+  pub lower : (block : ℕ) → 1 ≤ block → block ≤ so_far → IsSpare now.machine.state kind block → ⊥
   pub numbers : now.machine.numbers ≡ old.machine.numbers
-  pub inside : (block : ℕ) → IsSome (use_of now.machine.state block)
-      → (1 ≤ block) × (block ≤ old.machine.numbers.blocks)
 
-abbrev pub BlocksInside : HostView → Type 0
-BlocksInside v =
-    (block : ℕ) → IsSome (use_of v.machine.state block) → (1 ≤ block) × (block ≤ v.machine.numbers.blocks)
-
-pub trimming_first : (kind : Kind) (v : HostView) → BlocksInside v → IsTrimming kind v v 0
-trimming_first kind v inside = record {
+pub trimming_first : (kind : Kind) (v : HostView) → IsTrimming kind v v 0
+trimming_first kind v = record {
   row = λ w rest. rest;
-  lower = λ block low spare. let within = inside block (ap is_some spare.of_kind) in absurd (omega arith);
+  lower = λ block one none spare. absurd (omega arith);
   numbers = refl;
-  inside = inside;
 }
 
--- the next one is not
-pub trimming_past : {kind : Kind} {old now : HostView} {so_far : ℕ} → IsTrimming kind old now so_far
-    → (IsSpare now.machine.state kind (so_far + 1) → ⊥) → IsTrimming kind old now (so_far + 1)
-trimming_past {kind} {old} {now} {so_far} was other = record {
-  row = was.row;
-  lower = λ block low spare. elim (cases_lt so_far block) [
-    | inl above ↦ other (subst (IsSpare now.machine.state kind)
-        (let at : block ≡ so_far + 1 = omega (arith, above, low) in at) spare)
-    | inr below ↦ was.lower block below spare
-  ];
-  numbers = was.numbers;
-  inside = was.inside;
-}
+-- block 0 has no use
+abbrev pub HasNoFirst : HostView → Type 0
+HasNoFirst v = (block : ℕ) → IsSome (use_of v.machine.state block) → 1 ≤ block
 
--- no block is
-pub trimming_end : {kind : Kind} {old now : HostView} {so_far : ℕ} → IsTrimming kind old now so_far
-    → old.machine.numbers.blocks ≤ so_far → HasNoSpare now.machine.state kind
-trimming_end was all block spare =
-    let within = was.inside block (ap is_some spare.of_kind) in was.lower block (omega (arith, within.1, all)) spare
+module _ {kind : Kind} {old now : HostView} {so_far : ℕ} (was : IsTrimming kind old now so_far)
+    (first : HasNoFirst now) where
+  lower : (block : ℕ) → block ≤ so_far → IsSpare now.machine.state kind block → ⊥
+  lower block low spare = was.lower block (first block (ap is_some spare.of_kind)) low spare
 
--- the next one is spare, and is given back
-pub trimming_on : {kind : Kind} {old now : HostView} {so_far : ℕ} → IsTrimming kind old now so_far
-    → is_paired kind ≡ true → IsSpare now.machine.state kind (so_far + 1) → (extra : ℕ) (w : HostView)
-    → GivesBackPair now.machine (so_far + 1) extra w.machine
-    → w ≡ record now { machine = w.machine; last = change_back (so_far + 1) extra }
-    → IsTrimming kind old w (so_far + 1)
-trimming_on {kind} {old} {now} {so_far} was paired spare extra w gives after =
-    let least : IsLeastSpare now.machine.state kind (so_far + 1) = record {
-      spare = spare;
-      least = λ other is. elim (cases_lt so_far other) [
-        | inl above ↦ omega (arith, above)
-        | inr low ↦ absurd (was.lower other low is)
-      ];
-    } in
-    record {
-      row = λ x rest. was.row x (one_more 2 (omega arith)
-          (paired_block paired (inl (refl, trims_pair now w least gives after))) rest);
-      lower = none_lower now w least gives after (λ other low. was.lower other (omega arith));
-      numbers = ap (λ (m : Machine). m.numbers) gives.after ∙ was.numbers;
-      inside = λ block there. was.inside block (used_before now.machine.state (so_far + 1) extra block
-          (subst (λ (m : Machine). IsSome (use_of m.state block)) gives.after there));
+  -- no block with a use is left
+  pub trimming_end : HasNoneGiven now.machine.state.blocks (so_far + 1) → HasNoSpare now.machine.state kind
+  trimming_end = none_at_all so_far lower
+
+  module _ {next : ℕ} (given : IsNextGiven now.machine.state.blocks (so_far + 1) next) where
+    -- the next one is not spare
+    pub trimming_past : (IsSpare now.machine.state kind next → ⊥) → IsTrimming kind old now next
+    trimming_past other = record {
+      row = was.row;
+      lower = λ block one. none_to so_far lower given other block;
+      numbers = was.numbers;
     }
+
+    -- the next one is spare, and is given back
+    pub trimming_on : is_paired kind ≡ true → IsSpare now.machine.state kind next → (extra : ℕ) (w : HostView)
+        → GivesBackPair now.machine next extra w.machine
+        → w ≡ record now { machine = w.machine; last = change_back next extra } → IsTrimming kind old w next
+    trimming_on paired spare extra w gives after =
+        let least = least_of so_far lower given spare in
+        record {
+          row = λ x rest. was.row x (one_more 2 (omega arith)
+              (paired_block paired (inl (refl, trims_pair now w least gives after))) rest);
+          lower = λ block one. none_lower now w least gives after (none_below so_far lower given) block;
+          numbers = ap (λ (m : Machine). m.numbers) gives.after ∙ was.numbers;
+        }
 
 -- ---- the kinds, one after another
 

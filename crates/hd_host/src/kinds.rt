@@ -1,5 +1,5 @@
 // The live handles of some kinds, by the masks of their blocks.
-ghost use Rattle.std.specs.Prelude.{◌≡◌, ◌+◌, ◌*◌, ◌/◌, ◌<◌, ◌≤◌, ◌^◌, ◌↔◌, true, false, None, IsSome, IfSome, MatchOption};
+ghost use Rattle.std.specs.Prelude.{◌≡◌, ◌+◌, ◌*◌, ◌/◌, ◌<◌, ◌≤◌, ◌^◌, ◌↔◌, true, false, None, IsSome, IfErr, IfSome, MatchOption, MatchResult};
 ghost use Rattle.hd_model.specs.Table.{live_at};
 ghost use Rattle.std.specs.{FinMap.get, Int.bit_at};
 ghost use Rattle.hd_model.specs.Kinds.{kind_number};
@@ -46,10 +46,11 @@ fn is_wanted(store: &Contents, slot: Slot, cleared: bool) -> bool
     if !may_be_wanted(store, slot, cleared) {
         return false;
     }
-    store.entry(slot).is_none()
+    !store.is_held(slot)
 }
 
 // The first row of a block from one on that is wanted.
+#[inline(always)]
 fn first_row(store: &Contents, block: u32, first: u32, cleared: bool) -> Option<u32>
     requires over { IsOverHeap store.now }
     requires sound { IsSound store.now }
@@ -85,32 +86,31 @@ fn kind_in(store: &Contents, block: u32) -> Option<Kind>
     }
 }
 
-// The least slot from a number on, in the block of that number, with a handle of one of some kinds.
-fn first_in(store: &Contents, kinds: u32, cleared: bool, from: u32) -> Option<Slot>
+// The least slot of a block from a row on with a handle of one of some kinds.
+#[inline(always)]
+fn first_in(store: &Contents, kinds: u32, cleared: bool, block: u32, first: u32) -> Option<Slot>
     requires over { IsOverHeap store.now }
     requires sound { IsSound store.now }
-    requires low { 1 ≤ from / ROWS }
-    requires high { from / ROWS ≤ store.now.table.blocks }
-    ensures { let s = store.now.state in
-        MatchOption result (HasNoneBefore s kinds cleared from (ROWS * (from / ROWS + 1)))
+    requires low { 1 ≤ block }
+    requires high { block ≤ store.now.table.blocks }
+    requires first { first < ROWS }
+    ensures { let s = store.now.state in let from = ROWS * block + first in
+        MatchOption result (HasNoneBefore s kinds cleared from (ROWS * (block + 1)))
         (IsNextOf s kinds cleared from) }
 {
-    // Read for the proof alone: the table has as many blocks as the numbers say.
-    let _blocks = store.blocks();
-    let block = from / ROWS;
     let Some(kind) = kind_in(store, block) else {
         return None;
     };
     if !is_one_of(kinds, kind) {
         return None;
     }
-    match first_row(store, block, from % ROWS, cleared) {
+    match first_row(store, block, first, cleared) {
         Some(row) => Some(Slot(ROWS * block + row)),
         None => None,
     }
 }
 
-// The same, where the number may be that of a slot in no block of the table.
+// The least slot from a number on, in the block of that number, which may be none of the table's.
 fn first_beside(store: &Contents, kinds: u32, cleared: bool, from: u32) -> Option<Slot>
     requires over { IsOverHeap store.now }
     requires sound { IsSound store.now }
@@ -125,7 +125,63 @@ fn first_beside(store: &Contents, kinds: u32, cleared: bool, from: u32) -> Optio
     if block > store.blocks() {
         return None;
     }
-    first_in(store, kinds, cleared, from)
+    first_in(store, kinds, cleared, block, from % ROWS)
+}
+
+// Whether a block has no use.
+fn is_unused(store: &Contents, block: u32) -> bool
+    requires over { IsOverHeap store.now }
+    requires low { 1 ≤ block }
+    requires high { block ≤ store.now.table.blocks }
+    ensures { result ≡ true → None ≡ kind_in_use (use_of store.now.state block) }
+{
+    match store.table().block_kind(block) {
+        BlockKind::Unused => true,
+        BlockKind::Rows(_kind) => false,
+        BlockKind::Extras => false,
+    }
+}
+
+// The least slot of the blocks from one on up to the next without a use, or the last of these.
+fn first_in_run(store: &Contents, kinds: u32, cleared: bool, first: u32) -> Result<Slot, u32>
+    requires over { IsOverHeap store.now }
+    requires sound { IsSound store.now }
+    requires low { 1 ≤ first }
+    requires high { first ≤ store.now.numbers.blocks }
+    ensures next { let s = store.now.state in
+        MatchResult result (IsNextOf s kinds cleared (ROWS * first))
+        (λ last. HasNoneBefore s kinds cleared (ROWS * first) (ROWS * (last + 1))) }
+    ensures on { IfErr result (λ last. (first ≤ last) × (last ≤ store.now.numbers.blocks)) }
+{
+    let last = store.blocks();
+    for block in first..last + 1 {
+        if is_unused(store, block) {
+            return Err(block);
+        }
+        if let Some(slot) = first_in(store, kinds, cleared, block, 0) {
+            return Ok(slot);
+        }
+    }
+    Err(last)
+}
+
+// The least slot of the blocks after one. It is out of line: a list mostly goes on in a block.
+#[inline(never)]
+fn first_beyond(store: &Contents, kinds: u32, cleared: bool, before: u32) -> Option<Slot>
+    requires over { IsOverHeap store.now }
+    requires sound { IsSound store.now }
+    requires few { before < 2 ^ 26 }
+    ensures { let s = store.now.state in let from = ROWS * (before + 1) in
+        MatchOption result (HasNoneOf s kinds cleared from) (IsNextOf s kinds cleared from) }
+{
+    let mut last = before;
+    while let Some(first) = store.next_given(last + 1) {
+        match first_in_run(store, kinds, cleared, first) {
+            Ok(slot) => return Some(slot),
+            Err(seen) => last = seen,
+        }
+    }
+    None
 }
 
 // The least slot from a number on with a handle of one of some kinds.
@@ -135,15 +191,10 @@ fn first_of(store: &Contents, kinds: u32, cleared: bool, from: u32) -> Option<Sl
     ensures { let s = store.now.state in
         MatchOption result (HasNoneOf s kinds cleared from) (IsNextOf s kinds cleared from) }
 {
-    if let Some(slot) = first_beside(store, kinds, cleared, from) {
-        return Some(slot);
+    match first_beside(store, kinds, cleared, from) {
+        Some(slot) => Some(slot),
+        None => first_beyond(store, kinds, cleared, from / ROWS),
     }
-    for block in from / ROWS + 1..store.blocks() + 1 {
-        if let Some(slot) = first_in(store, kinds, cleared, block * ROWS) {
-            return Some(slot);
-        }
-    }
-    None
 }
 
 impl Host {

@@ -10,7 +10,7 @@ ghost use Rattle.hd_host.specs.Handles.{IsOf, IsStale, IsNextFrom, HasNoneFrom};
 use crate::fault::Fault;
 use crate::handle::Handle;
 use crate::host::Host;
-use hd_model::limits::{REGISTERS, ROWS};
+use hd_model::limits::REGISTERS;
 use hd_model::{Id, Kind, Slot};
 use hd_store::HandleInfo;
 
@@ -100,14 +100,6 @@ impl Host {
         ensures next { MatchOption result (HasNoneFrom self.now from) (IsNextFrom self.now from) }
         ensures few { IfSome result (λ l. l.slot.0 < 2 ^ 24) }
     {
-        let end = (self.store.contents().blocks() + 1) * ROWS;
-        for number in from..end {
-            let slot = Slot(number);
-            if let Some(info) = self.store.handle(slot) {
-                let handle = self.handle_in(slot);
-                return Some(Listed { slot, handle, info });
-            }
-        }
-        None
+        self.next_of(u32::MAX, false, from)
     }
 }

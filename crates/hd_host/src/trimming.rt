@@ -1,6 +1,7 @@
 // Blocks that are given back, of every kind.
-ghost use Rattle.std.specs.Prelude.{◌≡◌, ◌≤◌, ◌∷◌, [], true, false, ℕ, IsSome};
+ghost use Rattle.std.specs.Prelude.{◌≡◌, ◌≤◌, ◌∷◌, [], true, false, ℕ, IsSome, IfSome, MatchOption};
 ghost use Rattle.hd_model.specs.{Kinds.is_paired, State.given_of, State.use_of};
+ghost use Rattle.hd_seg.specs.Given.{HasNoneGiven, IsNextGiven};
 ghost use Rattle.hd_store.specs.Spare.{GivesBackPair, IsSpare};
 ghost use Rattle.hd_host.specs.Changes.{change_back, no_change};
 ghost use Rattle.hd_host.specs.Turns.{IsAsItWasButLast, TrimsAll, TrimsBlock, TrimsBy, TrimsRow};
@@ -26,7 +27,7 @@ impl Host {
     }
 
     /// Gives back all spare blocks, kind by kind, and returns how many there were with their data
-    /// blocks. It goes over the blocks of the table once for each kind with extra data.
+    /// blocks. It goes over the blocks with a use once for each kind with extra data.
     pub fn trim_all(&mut self) -> u32
         ensures does { TrimsAll self.old result self.new }
         ensures contexts { self.new.machine.numbers.callers ≡ self.old.machine.numbers.callers }
@@ -62,15 +63,17 @@ impl Host {
         }
     }
 
-    // The same, of a kind with extra data, in one pass over the blocks.
+    // The same, of a kind with extra data, in one pass over the blocks with a use.
     fn trim_pairs(&mut self, kind: Kind)
         requires { is_paired kind ≡ true }
         ensures { TrimsRow (kind ∷ []) self.old self.new }
     {
-        for before in 0..self.most_blocks() {
-            if self.is_spare(kind, before + 1) {
-                self.give_back(kind, before + 1);
+        let mut before = 0;
+        while let Some(block) = self.next_given(before + 1) {
+            if self.is_spare(kind, block) {
+                self.give_back(kind, block);
             }
+            before = block;
         }
         self.keep_blocks();
     }
@@ -128,14 +131,16 @@ impl Host {
         self.store.contents().given()
     }
 
-    // How many blocks the table has at most, and that each in use is one of these.
-    fn most_blocks(&self) -> u32
-        ensures value { result ≡ self.now.machine.numbers.blocks }
-        ensures few { result ≤ HOST_BLOCKS }
-        ensures inside { (block : ℕ) → IsSome (use_of self.now.machine.state block) →
-            (1 ≤ block) × (block ≤ self.now.machine.numbers.blocks) }
+    // The least block from one on that has a use. Block 0 has none.
+    fn next_given(&self, from: u32) -> Option<u32>
+        requires { 1 ≤ from }
+        ensures next { let uses = self.now.machine.state.blocks in
+            MatchOption result (HasNoneGiven uses from) (IsNextGiven uses from) }
+        ensures within { IfSome result (λ block. block ≤ self.now.machine.numbers.blocks) }
+        ensures few { self.now.machine.numbers.blocks ≤ HOST_BLOCKS }
+        ensures first { (block : ℕ) → IsSome (use_of self.now.machine.state block) → 1 ≤ block }
     {
-        self.store.contents().blocks()
+        self.store.contents().next_given(from)
     }
 
     fn is_spare(&self, kind: Kind, block: u32) -> bool
