@@ -1,5 +1,5 @@
 -- The ends of a gate when it is opened, as ends of the host behind it.
-use Rattle.std.proofs.Common.{◌≡◌, ℕ, zero, suc, List, [], ◌∷◌, ◌++◌, ◌+◌, ◌*◌, ◌<◌, ◌≤◌, ◌^◌, ◌∙◌, ap, arith, false, map, refl, subst, sym}
+use Rattle.std.proofs.Common.{◌≡◌, ℕ, zero, suc, List, [], ◌∷◌, ◌++◌, ◌+◌, ◌*◌, ◌<◌, ◌≤◌, ◌^◌, ◌∙◌, ap, arith, false, map, refl, subst, sym, None}
 use Rattle.std.proofs.lemmas.List.{map-append}
 use Rattle.std.proofs.lemmas.List.Elements.{All-push}
 use Rattle.std.specs.List.{All}
@@ -36,15 +36,14 @@ module _ (table : TableId) (each : ℕ) (v : HostView) where
   as_ends zero = refl
   as_ends (suc count) =
       map-append (λ (k : Known SharedView). Shared (end_of k each v.last)) (ends_of table behind count)
-      (record { table = table; view = starting behind count false } ∷ [])
+      (record { table = table; view = starting behind count false; value = None } ∷ [])
       ∙ ap (λ (es : List End). es ++ Shared (new_end table each v count) ∷ []) (as_ends count)
       ∙ sym (map-append Shared (ends_up table each v count) (new_end table each v count ∷ []))
 
--- so of the host that was put into a box
-module _ (table : TableId) (each count : ℕ) {u v : HostView} (boxed : u ≡ v) (ks : List (Known SharedView))
-    (opened : ks ≡ ends_of table (record { each = each; host = u }) count) where
+module _ (table : TableId) (each count : ℕ) {v : HostView} {s : SharedView} (behind_is : s ≡ record { each = each; host = v })
+    (ks : List (Known SharedView)) (opened : ks ≡ ends_of table s count) where
   opened_of : ks ≡ ends_of table (behind table each v) count
-  opened_of = opened ∙ ap (λ (x : HostView). ends_of table (record { each = each; host = x }) count) boxed
+  opened_of = opened ∙ ap (λ (x : SharedView). ends_of table x count) behind_is
 
   pub opened_new : count * each ≡ v.machine.numbers.callers → v.machine.numbers.callers < 2 ^ 32
       → All (λ (k : Known SharedView). IsNewEnd k each) ks

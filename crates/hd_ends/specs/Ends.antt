@@ -1,6 +1,6 @@
 -- What contracts see of an end of a host: of a host of its own, or of one that ends share.
-use Rattle.std.specs.Prelude.{◌≡◌, ℕ, zero, suc, ◌+◌, ◌*◌, ◌<◌, ◌≤◌, Bool, true, false, List, [], ◌∷◌, ◌++◌, length, refl}
-use Rattle.std.specs.Coded.{Coded, code_by, coded×, coded_bool, coded_list, coded_ℕ}
+use Rattle.std.specs.Prelude.{◌≡◌, ℕ, zero, suc, ◌+◌, ◌*◌, ◌<◌, ◌≤◌, Bool, true, false, List, [], ◌∷◌, ◌++◌, length, refl, Option, Some, None}
+use Rattle.std.specs.Coded.{Coded, code_by, coded×, coded_bool, coded_list, coded_option, coded_ℕ}
 use Rattle.atomic_table.specs.Seated.{TableId, table_id_coded}
 use Rattle.hd_turns.specs.Views.{AreTurns, GoesOn}
 use Rattle.hd_turns.specs.declared.gate.TheConstants.{LOOKS}
@@ -96,31 +96,39 @@ EndsKeepLocals =
 
 -- ---- an end while it has its turn
 
--- an end, and whether it has the gate. Where it has, the first of its history is the host that it took.
+-- an end, whether it has the gate, and the host while it has. Then the first of its history is the host that it took.
 pub record SharerView : Type 0 where
   pub end : EndView
   pub has_gate : Bool
+  pub host : Option HostView
 
 abbrev pub sharer_view_code : Coded SharerView
 sharer_view_code =
-    code_by (EndView × Bool) (coded× end_view_code coded_bool)
-    (λ s. (s.end, s.has_gate))
-    (λ p. record { end = p.0; has_gate = p.1 })
+    code_by (EndView × (Bool × Option HostView))
+    (coded× end_view_code (coded× coded_bool (coded_option host_view_code)))
+    (λ s. (s.end, (s.has_gate, s.host)))
+    (λ p. record { end = p.0; has_gate = p.1.0; host = p.1.1 })
     (λ _. refl)
 
--- an end took its turn, after some misses: the host is `taken`, which is what it found but for `last`
-pub record Takes (old new : SharerView) (taken : HostView) : Type 0 where
+-- an end took its turn, after some misses: the host is what it found but for `last`
+pub record Takes (old new : SharerView) : Type 0 where
   pub by : ℕ
   pub found : HostView
   pub past : List (ℕ × HostView)
   pub goes_on : GoesOn old.end.number ((by, found) ∷ past) old.end.seen
   pub turns : AreTurns (EndTurn old.end.each) by found past
-  pub taken_is : taken ≡ with_last found old.end.last
   pub contexts : first_of old.end + old.end.each ≤ found.machine.numbers.callers
   pub times : ℕ
   pub few : times < LOOKS
-  pub new_is :
-      new ≡ record { end = record (missed times old.end) { seen = (by, found) ∷ past }; has_gate = true }
+  pub new_is : new ≡ record {
+    end = record (missed times old.end) { seen = (by, found) ∷ past };
+    has_gate = true;
+    host = Some (with_last found old.end.last);
+  }
+
+-- the host is another
+abbrev pub with_host : SharerView → HostView → SharerView
+with_host s host = record s { host = Some host }
 
 -- a host is left by a turn of an end from what it took
 pub record MayLeave (e : EndView) (leaves : HostView) : Type 0 where
@@ -131,14 +139,15 @@ pub record MayLeave (e : EndView) (leaves : HostView) : Type 0 where
   pub turn : HostTurn e.each e.number (with_last found e.last) leaves
 
 -- it gave the gate back with a host
-abbrev pub gave_back : HostView → SharerView → SharerView
-gave_back v s = record {
-  end = record s.end { seen = (s.end.number, v) ∷ s.end.seen; last = v.last };
-  has_gate = false;
-}
+abbrev pub gave_end : HostView → EndView → EndView
+gave_end v e = record e { seen = (e.number, v) ∷ e.seen; last = v.last }
 
--- an end left its turn
+abbrev pub gave_back : HostView → SharerView → SharerView
+gave_back v s = record { end = gave_end v s.end; has_gate = false; host = None }
+
+-- an end left its turn with a host
 pub record Leaves (old new : SharerView) (leaves : HostView) : Type 0 where
+  pub had : old.host ≡ Some leaves
   pub may : MayLeave old.end leaves
   pub new_is : new ≡ gave_back leaves old
 

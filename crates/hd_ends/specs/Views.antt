@@ -1,5 +1,5 @@
 -- What is behind the gate of a shared host, and what is always so of an end.
-use Rattle.std.specs.Prelude.{◌≡◌, ℕ, ◌+◌, ◌*◌, ◌<◌, ◌≤◌, ◌^◌, false, List, [], ◌∷◌, refl}
+use Rattle.std.specs.Prelude.{◌≡◌, ℕ, ◌+◌, ◌*◌, ◌<◌, ◌≤◌, ◌^◌, false, List, [], ◌∷◌, refl, Option, Some, None, IfSome}
 use Rattle.std.specs.Coded.{Coded, code_by, coded×, coded_ℕ}
 use Rattle.atomic_table.specs.Seated.{TableId}
 use Rattle.hd_turns.specs.Views.{Known, starting}
@@ -18,6 +18,10 @@ shared_view_code =
     (λ s. (s.each, s.host))
     (λ p. record { each = p.0; host = p.1 })
     (λ _. refl)
+
+-- the host is another
+abbrev pub with_shared : SharedView → HostView → SharedView
+with_shared s host = record s { host = host }
 
 -- a turn leaves the number of contexts, and is a turn of the host
 abbrev pub SharedTurn : ℕ → SharedView → SharedView → Type 0
@@ -39,8 +43,13 @@ end_of k each last = record {
   misses = k.view.misses;
 }
 
+abbrev pub host_of : Option SharedView → Option HostView
+host_of None = None
+host_of (Some s) = Some s.host
+
 abbrev pub sharer_of : Known SharedView → ℕ → Change → SharerView
-sharer_of k each last = record { end = end_of k each last; has_gate = k.view.has_gate }
+sharer_of k each last =
+    record { end = end_of k each last; has_gate = k.view.has_gate; host = host_of k.value }
 
 -- what is always so of an end: it has seen the opening at least, and its contexts are some of the host's
 pub record IsSharer (k : Known SharedView) (first each : ℕ) : Type 0 where
@@ -52,12 +61,13 @@ pub record IsSharer (k : Known SharedView) (first each : ℕ) : Type 0 where
   pub seen : k.view.seen ≡ (by, left) ∷ past
   pub each_is : left.each ≡ each
   pub contexts : first + each ≤ left.host.machine.numbers.callers
+  pub same_each : IfSome k.value (λ s. s.each ≡ each)
 
 -- an end of a gate to which nothing was done
 pub record IsNewEnd (k : Known SharedView) (each : ℕ) : Type 0 where
   pub table : TableId
   pub host : HostView
   pub number : ℕ
-  pub is : k ≡ record { table = table; view = starting (record { each = each; host = host }) number false }
+  pub is : k ≡ record { table = table; view = starting (record { each = each; host = host }) number false; value = None }
   pub contexts : number * each + each ≤ host.machine.numbers.callers
   pub few : host.machine.numbers.callers < 2 ^ 32

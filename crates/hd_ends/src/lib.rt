@@ -3,16 +3,16 @@
 //!
 //! ```text
 //! End::Own       the host itself, with all its contexts
-//! End::Shared    a share of a gate, behind which the host is in a box; `each` contexts from
+//! End::Shared    a share of a gate, behind which the host is; `each` contexts from
 //!                number * each on; and what the end's own last call did
 //!
 //! a call         enter: the gate's turn, and the host gets the end's own `last`
 //!                the call, in a context of the end
-//!                leave: the end keeps `last`, and the host goes back behind the gate
+//!                leave: the end keeps `last`, and the gate is free
 //! ```
 #![tactic(auto)]
 
-mod boxed;
+mod behind;
 mod end;
 mod laws;
 mod opening;

@@ -5,7 +5,7 @@ ghost use Rattle.atomic_table.specs.Seated.{TableId};
 ghost use Rattle.hd_ends.specs.declared.end.End.TheVariants.{Shared as shared};
 ghost use Rattle.hd_ends.specs.{Ends.ends_up, Views.IsNewEnd, Views.end_of};
 
-use crate::boxed::Boxed;
+use crate::behind::Behind;
 use crate::end::{End, Shared};
 use crate::sharer::Sharer;
 use hd_host::{Change, Host};
@@ -22,10 +22,7 @@ pub fn share(alloc: Global, host: Host, count: u32, each: u32) -> Result<Vec<Box
         × (map (λ end. end.value) ends.items ≡ map shared (ends_up table each host count))) }
 {
     let last = host.last();
-    let Ok(host) = Box::new(alloc, host) else {
-        return Err(Memory);
-    };
-    let Ok(ends) = hd_turns::End::open(alloc, Boxed { each, host }, count) else {
+    let Ok(ends) = hd_turns::End::open(alloc, Behind::of(each, host), count) else {
         return Err(Memory);
     };
     in_boxes(alloc, ends, each, last)
@@ -34,7 +31,7 @@ pub fn share(alloc: Global, host: Host, count: u32, each: u32) -> Result<Vec<Box
 // Ends of a gate as ends of the host behind it, in boxes.
 fn in_boxes(
     alloc: Global,
-    ends: Vec<hd_turns::End<Boxed>>,
+    ends: Vec<hd_turns::End<Behind>>,
     each: u32,
     last: Change,
 ) -> Result<Vec<Box<End>>, Memory>
@@ -57,7 +54,7 @@ fn in_boxes(
 // An end of a gate as an end of the host behind it, in a box.
 fn in_box(
     alloc: Global,
-    end: hd_turns::End<Boxed>,
+    end: hd_turns::End<Behind>,
     each: u32,
     last: Change,
 ) -> Result<Box<End>, Memory>

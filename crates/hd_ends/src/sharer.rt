@@ -1,17 +1,21 @@
-ghost use Rattle.std.specs.Prelude.{◌≡◌, ◌+◌, ◌<◌, ◌^◌, true, false, IfNone, IfSome};
-ghost use Rattle.hd_ends.specs.Ends.{Leaves, MayLeave, Takes, busied, first_of, turn_of};
+ghost use Rattle.std.specs.Prelude.{◌≡◌, ◌+◌, ◌<◌, ◌^◌, true, false, Some};
+ghost use Rattle.std.specs.Bool.{OnTrue, OnFalse};
+ghost use Rattle.std.specs.Borrow.{Lends, sem};
+ghost use Rattle.hd_host.specs.View.{HostView};
+ghost use Rattle.hd_host.specs.contracts.host.Host as host_contract;
+ghost use Rattle.hd_ends.specs.contracts.sharer.Sharer.{the_row};
+ghost use Rattle.hd_ends.specs.Ends.{Leaves, MayLeave, Takes, busied, first_of, turn_of, with_host};
 ghost use Rattle.hd_ends.specs.Views.{IsNewEnd, sharer_of};
 
-use crate::boxed::Boxed;
+use crate::behind::Behind;
 use hd_host::{Change, Host, Last};
-use std::boxed::Box;
 use std::marker::Model;
 
 /// An end of a shared host, which has its turn or has not. Contracts see what it knows, and whether
 /// it has the gate. An end that is dropped while it has its turn leaves the gate taken for ever.
 #[derive(Drop)]
 pub struct Sharer {
-    end: hd_turns::End<Boxed>,
+    end: hd_turns::End<Behind>,
     // The first of the host's contexts that is its own, and how many are.
     first: u32,
     each: u32,
@@ -33,7 +37,7 @@ impl Model for Sharer {
 
 impl Sharer {
     // The end of a gate to which nothing was done.
-    pub(crate) fn of(end: hd_turns::End<Boxed>, each: u32, last: Change) -> Sharer
+    pub(crate) fn of(end: hd_turns::End<Behind>, each: u32, last: Change) -> Sharer
         requires { IsNewEnd end each }
         ensures { result ≡ sharer_of end each last }
     {
@@ -78,32 +82,46 @@ impl Sharer {
         self.end.turn()
     }
 
-    /// Takes the host as the last turn of all left it, but with the end's own `last`; or none, where
-    /// another end had its turn or came first at each of `LOOKS` looks (hd_turns), and after
-    /// 2^64 - 2 turns. It makes no call of the system. No end is promised a turn.
-    pub fn enter(&mut self) -> Option<Box<Host>>
+    /// Takes the gate, and has the host as the last turn of all left it, but with the end's own
+    /// `last`; or it does not, where another end had its turn or came first at each of `LOOKS` looks
+    /// (hd_turns), and after 2^64 - 2 turns. It makes no call of the system. No end is promised a
+    /// turn.
+    #[inline(always)]
+    pub fn enter(&mut self) -> bool
         requires { self.old.has_gate ≡ false }
-        ensures busy { IfNone result (self.new ≡ record self.old { end = busied self.old.end }) }
-        ensures taken { IfSome result (λ host. Takes self.old self.new host.value) }
+        ensures busy { OnFalse result (self.new ≡ record self.old { end = busied self.old.end }) }
+        ensures taken { OnTrue result (Takes self.old self.new) }
     {
-        let Some(boxed) = self.end.try_enter() else {
-            return None;
-        };
-        let mut host = boxed.into_host();
-        host.recall(&self.last);
-        Some(host)
+        if !self.end.try_enter() {
+            return false;
+        }
+        let behind = self.end.value();
+        behind.host_mut().recall(&self.last);
+        true
     }
 
-    /// Gives the gate back with the host that its turn leaves.
-    pub fn leave(&mut self, host: Box<Host>)
-        requires gate { self.old.has_gate ≡ true }
-        requires turn { MayLeave self.old.end host.value }
-        ensures { Leaves self.old self.new host.value }
+    /// The host, while it has its turn.
+    #[inline(always)]
+    pub fn host(&mut self) -> &mut Host
+        requires { self.old.has_gate ≡ true }
+        ensures* lends { sem 𝓛 (Lends the_row host_contract.the_row self.entry result
+            (with_host self.old)) }
+        ensures value { self.old.host ≡ Some result.now }
     {
-        host.note(&mut self.last);
-        self.end.leave(Boxed {
-            each: self.each,
-            host,
-        });
+        let behind = self.end.value();
+        behind.host_mut()
+    }
+
+    /// Gives the gate back with the host as its turn leaves it.
+    #[inline(always)]
+    pub fn leave(&mut self)
+        requires gate { self.old.has_gate ≡ true }
+        requires turn { (leaves : HostView) × (self.old.host ≡ Some leaves)
+            × MayLeave self.old.end leaves }
+        ensures { (leaves : HostView) × Leaves self.old self.new leaves }
+    {
+        let behind = self.end.value();
+        behind.host_mut().note(&mut self.last);
+        self.end.leave();
     }
 }

@@ -29,14 +29,14 @@ in_length (x ∷ vs) zero v e = omega arith
 in_length (x ∷ vs) (suc i) v e = let less = in_length vs i v e in omega arith
 
 abbrev pub Mine : Type 0 → Type 0
-Mine W = Me (Option W) (View W)
+Mine W = Me W (View W)
 
 abbrev Homes : Type 0 → Type 0
-Homes W = List (maybe.Option (Option W))
+Homes W = List (maybe.Option W)
 
 module _ {W : Type 0} where
-  abbrev value_or : W → List (ℕ × Option W) → W
-  value_or x ((k, Some y) ∷ l) = y
+  abbrev value_or : W → List (ℕ × W) → W
+  value_or x ((k, y) ∷ l) = y
   value_or x _ = x
 
   abbrev value_of : W → List (ℕ × W) → W
@@ -47,10 +47,10 @@ module _ {W : Type 0} where
   no_gate v a b = cc
 
 module _ {W : Type 0} (turn : ℕ → W → W → Type 0) where
-  pub opens : (words : List ℕ) (slots : List (Option W)) (a w : W) → words ≡ 1 ∷ [] → slots ≡ Some w ∷ [] → a ≡ w
+  pub opens : (words : List ℕ) (slots : List W) (a w : W) → words ≡ 1 ∷ [] → slots ≡ w ∷ [] → a ≡ w
       → Kept turn (opening words slots (starting a 0 true))
   opens words slots a w one two three =
-      subst (λ (z : List ℕ × (List (Option W) × W)). Kept turn (opening z.0 z.1.0 (starting z.1.1 0 true)))
+      subst (λ (z : List ℕ × (List W × W)). Kept turn (opening z.0 z.1.0 (starting z.1.1 0 true)))
       (λ i. (sym one i, (sym two i, sym three i)))
       (record {
         by = 0;
@@ -77,7 +77,7 @@ module _ {W : Type 0} (turn : ℕ → W → W → Type 0) where
       first (suc i) v e = absurd (some-ne-none v (sym e))
 
   -- a miss, which lets the gate be
-  misses : (id : ℕ) (v : View W) (s : State (Option W) (View W)) → Kept turn s → get_elem? s.views id ≡ some v
+  misses : (id : ℕ) (v : View W) (s : State W (View W)) → Kept turn s → get_elem? s.views id ≡ some v
       → Kept turn (record {
         words = set s.words 0 (get_or s.words 0 0);
         homes = s.homes;
@@ -132,16 +132,16 @@ module _ {W : Type 0} (turn : ℕ → W → W → Type 0) where
       let log : List (ℕ × W) = (r.by, r.value) ∷ r.past in
       let n : ℕ = get_or s.words 0 0 in
       let is = r.each id v at in
-      exchanged n old 0 (λ (x : ℕ). (w : View W) × (a : Act (Option W))
+      exchanged n old 0 (λ (x : ℕ). (w : View W) × (a : Act W)
       × Valid s.homes me.1 a
       × Kept turn (stepped s 0 x id me.1 w a)
       × entered turn (step slots 0 old 0 none) me n (w, carried_after me.1 a))
       (λ hit. ⊎_elim
-      (λ (t : (n ≡ length r.past + 1) × (s.homes ≡ some (Some r.value) ∷ [])).
+      (λ (t : (n ≡ length r.past + 1) × (s.homes ≡ some r.value ∷ [])).
       let w : View W = took log v in
       let now : get_or (set s.words 0 0) 0 0 ≡ 0 = get_or-set_same s.words 0 0 0 (omega (arith, r.one_word)) in (
         w,
-        takes 0 (Some r.value),
+        takes 0 r.value,
         ap (λ (h : Homes W). get_elem? h 0) t.1,
         record {
           by = r.by;
@@ -192,8 +192,8 @@ module _ {W : Type 0} (turn : ℕ → W → W → Type 0) where
   -- the gate is given back with a value, and is the history's length again
   pub leaves : (slots id number : ℕ) (v : View W) (w : W) → v.has_gate ≡ true → length v.seen ≡ number
       → MayLeave turn w v
-      → Allows (Kept turn) slots id (v, (0, Some w) ∷ []) 0 (λ _. number + 1)
-      (λ _. left (step slots 0 (number + 1) 0 none) (v, (0, Some w) ∷ []) (number + 1))
+      → Allows (Kept turn) slots id (v, (0, w) ∷ []) 0 (λ _. number + 1)
+      (λ _. left (step slots 0 (number + 1) 0 none) (v, (0, w) ∷ []) (number + 1))
   leaves slots id number v w gate number_is may s r deep at bound =
       let is = r.each id v at in
       let has = is.holding gate in
@@ -202,7 +202,7 @@ module _ {W : Type 0} (turn : ℕ → W → W → Type 0) where
       let same : log ≡ (may.by, may.was) ∷ may.past = sym has.2 ∙ may.seen in
       let next : List (ℕ × W) = (v.number, w) ∷ log in
       let long : number ≡ length log = sym number_is ∙ ap length has.2 in ⊎_elim
-      (λ (t : (get_or s.words 0 0 ≡ length r.past + 1) × (s.homes ≡ some (Some r.value) ∷ [])).
+      (λ (t : (get_or s.words 0 0 ≡ length r.past + 1) × (s.homes ≡ some r.value ∷ [])).
       absurd (let a = t.0 in let b = has.0 in omega arith))
       (λ (t : (get_or s.words 0 0 ≡ 0) × (s.homes ≡ none ∷ [])).
       let now : get_or (set s.words 0 (number + 1)) 0 0 ≡ number + 1 =
@@ -218,7 +218,7 @@ module _ {W : Type 0} (turn : ℕ → W → W → Type 0) where
           ends = r.ends;
           one_word = length-set s.words 0 (number + 1) ∙ r.one_word;
           all_ends = length-set s.views id w' ∙ r.all_ends;
-          gate = inl (now ∙ ap (λ (k : ℕ). k + 1) long, ap (λ (h : Homes W). set h 0 (some (Some w))) t.1);
+          gate = inl (now ∙ ap (λ (k : ℕ). k + 1) long, ap (λ (h : Homes W). set h 0 (some w)) t.1);
           turns = (subst (λ (u : W). turn v.number u w) (sym (ap (value_of w) same)) may.turns, r.turns);
           below = (
             (let less = in_length s.views id v at in let all = r.all_ends in let name = is.number_is in omega arith),

@@ -12,13 +12,17 @@ abbrev pub IsFree : ℕ → Type 0
 IsFree gate = (0 < gate) × (gate < FULL)
 
 module _ {W : Type 0} where
-  -- the slots that an end has taken, between two calls
-  abbrev pub carried_by : Bool → List (ℕ × Option W)
-  carried_by true = (0, None) ∷ []
-  carried_by false = []
+  -- the slot that an end has taken while it has its turn, with the value, and no other
+  abbrev pub IsCarried : Bool → List (ℕ × W) → Type 0
+  IsCarried true carried = (value : W) × (carried ≡ (0, value) ∷ [])
+  IsCarried false carried = carried ≡ []
 
-  abbrev pub IsSeated : Me (Option W) (View W) → Type 0
-  IsSeated m = m.1 ≡ carried_by m.0.has_gate
+  abbrev pub IsSeated : Me W (View W) → Type 0
+  IsSeated m = IsCarried m.0.has_gate m.1
+
+  abbrev pub carried_value : List (ℕ × W) → Option W
+  carried_value [] = None
+  carried_value (slot ∷ slots) = Some slot.1
 
   -- each turn is that of an end which there is
   abbrev pub AreBelow : ℕ → List (ℕ × W) → Type 0
@@ -37,7 +41,7 @@ module _ {W : Type 0} where
   -- last turn left is stored under it; else it is 0, and the value is out with the one end that has it and has
   -- seen all. The ends are numbered, each has seen a part of the history from its beginning, and what it has
   -- not seen are turns of others.
-  pub record Kept (turn : ℕ → W → W → Type 0) (s : State (Option W) (View W)) : Type 0 where
+  pub record Kept (turn : ℕ → W → W → Type 0) (s : State W (View W)) : Type 0 where
     pub by : ℕ
     pub value : W
     pub past : List (ℕ × W)
@@ -45,7 +49,7 @@ module _ {W : Type 0} where
     pub ends : ℕ
     pub one_word : length s.words ≡ 1
     pub all_ends : length s.views ≡ ends
-    pub gate : ((slice_index s.words 0 ≡ length past + 1) × (s.homes ≡ some (Some value) ∷ []))
+    pub gate : ((slice_index s.words 0 ≡ length past + 1) × (s.homes ≡ some value ∷ []))
         ⊎ ((slice_index s.words 0 ≡ 0) × (s.homes ≡ none ∷ []))
     pub turns : AreTurns turn by value past
     pub below : AreBelow ends ((by, value) ∷ past)
@@ -53,31 +57,31 @@ module _ {W : Type 0} where
         → IsView (slice_index s.words 0) holder ((by, value) ∷ past) ends i v
 
   -- a look at the gate is a miss where it is not free, and changes nothing else
-  abbrev pub looked_at : Step (Option W) → Me (Option W) (View W) → ℕ → Me (Option W) (View W) → Type 0
+  abbrev pub looked_at : Step W → Me W (View W) → ℕ → Me W (View W) → Type 0
   looked_at step m n m' = (IsFree n → m' ≡ m) × ((IsFree n → ⊥) → m' ≡ (missed 1 m.0, m.1))
 
   -- The gate was what the end had found at its look, and the end has the value; or another end took it since,
   -- and the look was a miss.
-  pub record Entered (turn : ℕ → W → W → Type 0) (number : ℕ) (m m' : Me (Option W) (View W)) : Type 0 where
+  pub record Entered (turn : ℕ → W → W → Type 0) (number : ℕ) (m m' : Me W (View W)) : Type 0 where
     pub value : W
     pub enters : Enters turn 1 number value m.0 m'.0
-    pub taken : m'.1 ≡ (0, Some value) ∷ m.1
+    pub taken : m'.1 ≡ (0, value) ∷ m.1
 
-  abbrev pub entered : (ℕ → W → W → Type 0) → Step (Option W) → Me (Option W) (View W) → ℕ
-      → Me (Option W) (View W) → Type 0
+  abbrev pub entered : (ℕ → W → W → Type 0) → Step W → Me W (View W) → ℕ
+      → Me W (View W) → Type 0
   entered turn step m n m' =
       (n ≡ step.first → Entered turn n m m') × (n ≢ step.first → m' ≡ (missed 1 m.0, m.1))
 
   -- an end that has the gate may give it back with the value that it carries
-  pub record MayFree (turn : ℕ → W → W → Type 0) (m : Me (Option W) (View W)) : Type 0 where
+  pub record MayFree (turn : ℕ → W → W → Type 0) (m : Me W (View W)) : Type 0 where
     pub gate : m.0.has_gate ≡ true
     pub value : W
-    pub carried : m.1 ≡ (0, Some value) ∷ []
+    pub carried : m.1 ≡ (0, value) ∷ []
     pub may : MayLeave turn value m.0
 
   -- the gate was given back with the value that was carried
-  abbrev pub HasFreed : Me (Option W) (View W) → Me (Option W) (View W) → Type 0
-  HasFreed m m' = (value : W) → m.1 ≡ (0, Some value) ∷ [] → m' ≡ (gave_back value m.0, [])
+  abbrev pub HasFreed : Me W (View W) → Me W (View W) → Type 0
+  HasFreed m m' = (value : W) → m.1 ≡ (0, value) ∷ [] → m' ≡ (gave_back value m.0, [])
 
-  abbrev pub left : Step (Option W) → Me (Option W) (View W) → ℕ → Me (Option W) (View W) → Type 0
+  abbrev pub left : Step W → Me W (View W) → ℕ → Me W (View W) → Type 0
   left step m n m' = HasFreed m m'

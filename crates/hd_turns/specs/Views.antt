@@ -1,13 +1,14 @@
 -- What an end knows, and how each step that it makes changes that.
-use Rattle.std.specs.Prelude.{◌≡◌, ◌≢◌, ℕ, zero, suc, ◌+◌, ◌<◌, Bool, true, false, List, [], ◌∷◌, ◌++◌, length}
+use Rattle.std.specs.Prelude.{◌≡◌, ◌≢◌, ℕ, zero, suc, ◌+◌, ◌<◌, Bool, true, false, List, [], ◌∷◌, ◌++◌, length, Option, Some, None}
 use Rattle.atomic_table.specs.Seated.{TableId}
 use Rattle.hd_turns.specs.declared.rule.View.{View}
 use Rattle.hd_turns.specs.declared.gate.TheConstants.{FULL}
 
--- what a clause sees of an end: of which table it is, and what it knows
+-- what a clause sees of an end: of which table it is, what it knows, and the value while it has its turn
 pub record Known (W : Type 0) : Type 0 where
   pub table : TableId
   pub view : View W
+  pub value : Option W
 
 -- how many turns an end has seen with the opening, by the number of the turn that it has, or had last
 abbrev pub entries : Bool → ℕ → ℕ
@@ -59,6 +60,10 @@ module _ {W : Type 0} where
   abbrev pub gave_back : W → View W → View W
   gave_back value v = record v { seen = (v.number, value) ∷ v.seen; has_gate = false }
 
+  abbrev pub back_by : Option W → View W → View W
+  back_by None v = v
+  back_by (Some value) v = gave_back value v
+
   -- An end took the gate after less than so many misses, with the value that the last turn of all left.
   -- The history goes on from what the end had seen by turns of other ends, each from what the one before left,
   -- and its length is the number of the turn that the end has now.
@@ -71,6 +76,21 @@ module _ {W : Type 0} where
     pub times : ℕ
     pub few : times < most
     pub new_is : new ≡ took ((by, value) ∷ past) (missed times old)
+
+  -- it took the gate and has the value, after less than so many misses
+  pub record TakesTurn (turn : ℕ → W → W → Type 0) (most number : ℕ) (old new : Known W) : Type 0 where
+    pub found : W
+    pub table_is : new.table ≡ old.table
+    pub value_is : new.value ≡ Some found
+    pub enters : Enters turn most number found old.view new.view
+
+  -- the value is another
+  abbrev pub with_value : Known W → W → Known W
+  with_value k value = record k { value = Some value }
+
+  -- it gave the gate back with the value that it has
+  abbrev pub gave_all_back : Known W → Known W
+  gave_all_back k = record { table = k.table; view = back_by k.value k.view; value = None }
 
   -- a value is left by a turn of the end from what it took
   pub record MayLeave (turn : ℕ → W → W → Type 0) (value : W) (v : View W) : Type 0 where
@@ -91,4 +111,5 @@ module _ {W : Type 0} where
   abbrev pub ends_of : TableId → W → ℕ → List (Known W)
   ends_of table value zero = []
   ends_of table value (suc number) =
-      ends_of table value number ++ record { table = table; view = starting value number false } ∷ []
+      ends_of table value number
+      ++ record { table = table; view = starting value number false; value = None } ∷ []

@@ -1,7 +1,10 @@
-ghost use Rattle.std.specs.Prelude.{◌≡◌, ℕ, false, true, length, IfOk, IfSome, IfNone};
+ghost use Rattle.std.specs.Prelude.{◌≡◌, ℕ, false, true, length, IfOk, IfSome, Some};
+ghost use Rattle.std.specs.Bool.{OnTrue, OnFalse};
+ghost use Rattle.std.specs.Borrow.{Lends, sem};
 ghost use Rattle.std.specs.Arc.{arc_value};
 ghost use Rattle.atomic_table.specs.Seated.{TableId};
-ghost use Rattle.hd_turns.specs.Views.{Enters, MayLeave, ends_of, entries, gave_back, handed_out, missed};
+ghost use Rattle.hd_turns.specs.Views.{MayLeave, TakesTurn, ends_of, entries, gave_all_back, handed_out, missed, with_value};
+ghost use Rattle.hd_turns.specs.contracts.end.End.{the_row};
 
 use crate::gate::{Gate, LOOKS, Seat};
 use crate::rule::Turn;
@@ -28,7 +31,11 @@ impl<W: Turn> Model for End<W> {
 
     ghost Value = { Known W };
 
-    ghost view = { λ e. record { table = e.seat.table; view = handed_out e.seat.view } };
+    ghost view = { λ e. record {
+      table = e.seat.table;
+      view = handed_out e.seat.view;
+      value = e.seat.value;
+    } };
 
     ghost invariant = { λ e. IsEnd (arc_value e.gate) e.seat e.number e.turn };
 }
@@ -88,36 +95,46 @@ impl<W: Turn> End<W> {
         self.turn
     }
 
-    /// Takes the gate, and with it the value as the last turn of all left it; or none, where at
-    /// each of `LOOKS` looks another end had its turn or came first, and after 2^64 - 2 turns. It
+    /// Takes the gate, and with it the value as the last turn of all left it; or it does not, where
+    /// at each of `LOOKS` looks another end had its turn or came first, and after 2^64 - 2 turns. It
     /// makes no call of the system. No end is promised a turn.
     #[inline(always)]
-    pub fn try_enter(&mut self) -> Option<W>
+    pub fn try_enter(&mut self) -> bool
         requires gate { self.old.view.has_gate ≡ false }
-        ensures busy { IfNone result
+        ensures busy { OnFalse result
             (self.new ≡ record self.old { view = missed LOOKS self.old.view }) }
-        ensures table { self.new.table ≡ self.old.table }
-        ensures turned { IfSome result (λ value. (number : ℕ)
-            × Enters W.turn LOOKS number value self.old.view self.new.view) }
+        ensures turned { OnTrue result ((number : ℕ)
+            × TakesTurn W.turn LOOKS number self.old self.new) }
     {
         let gate: &Gate<W> = &self.gate;
         match gate.try_enter(&mut self.seat) {
-            Some((turn, value)) => {
+            Some(turn) => {
                 self.turn = turn;
-                Some(value)
+                true
             }
-            None => None,
+            None => false,
         }
     }
 
-    /// Gives the gate back with the value that its turn leaves.
+    /// The value, while it has its turn.
     #[inline(always)]
-    pub fn leave(&mut self, value: W)
+    pub fn value(&mut self) -> &mut W
         requires gate { self.old.view.has_gate ≡ true }
-        requires turn { MayLeave W.turn value self.old.view }
-        ensures { self.new ≡ record self.old { view = gave_back value self.old.view } }
+        ensures* lends { sem 𝓛 (Lends (the_row W.row W.Turn) W.row self.entry result (with_value self.old)) }
+        ensures value { self.old.value ≡ Some result.now }
     {
         let gate: &Gate<W> = &self.gate;
-        gate.leave(&mut self.seat, self.turn, value);
+        self.seat.value(gate)
+    }
+
+    /// Gives the gate back with the value as it is.
+    #[inline(always)]
+    pub fn leave(&mut self)
+        requires gate { self.old.view.has_gate ≡ true }
+        requires turn { IfSome self.old.value (λ value. MayLeave W.turn value self.old.view) }
+        ensures { self.new ≡ gave_all_back self.old }
+    {
+        let gate: &Gate<W> = &self.gate;
+        gate.leave(&mut self.seat, self.turn);
     }
 }

@@ -3,7 +3,9 @@ ghost use Rattle.std.specs.Prelude.{◌≡◌, ◌<◌, ◌+◌, true, false, []
 ghost use Rattle.std.specs.Bool.{OnTrue, OnFalse};
 ghost use Rattle.hd_turns.specs.Rule.{Entered, HasFreed, IsFree, MayFree};
 ghost use Rattle.hd_turns.specs.declared.gate.TheConstants.{FULL, LOOKS};
-ghost use Rattle.hd_turns.specs.Views.{Enters, MayLeave, gave_back, missed, next_of, passed_on, starting};
+ghost use Rattle.hd_turns.specs.Views.{MayLeave, TakesTurn, gave_all_back, missed, next_of, passed_on, starting, with_value};
+ghost use Rattle.std.specs.Borrow.{Lends, sem};
+ghost use Rattle.hd_turns.specs.contracts.gate.Seat.{the_row};
 
 use crate::pauses::pause_after;
 use crate::rule::{Cut, Enter, Law, Leave, Look, Turn, View};
@@ -29,7 +31,7 @@ pub(crate) const FULL: u64 = u64::MAX;
 /// The gate, and the value under it. Seen as the table.
 #[derive(Drop)]
 pub(crate) struct Gate<W: Turn> {
-    table: Table<Option<W>, View<W>, Snapshot<W>, Law, Global>,
+    table: Table<W, View<W>, Snapshot<W>, Law, Global>,
 }
 
 impl<W: Turn> Model for Gate<W> {
@@ -49,24 +51,42 @@ impl<W: Turn> Model for Gate<W> {
 /// An end's token. It has no bytes. Seen as its table and what the end knows.
 #[derive(Drop)]
 pub(crate) struct Seat<W: Turn> {
-    place: Place<Option<W>, View<W>>,
+    place: Place<W, View<W>>,
 }
 
 impl<W: Turn> Model for Seat<W> {
-    ghost use Rattle.hd_turns.specs.{Views.Known, Rule.IsSeated};
+    ghost use Rattle.hd_turns.specs.{Views.Known, Rule.IsSeated, Rule.carried_value};
 
     ghost Value = { Known W };
 
-    ghost view = { λ s. record { table = s.place.table_id; view = s.place.me.0 } };
+    ghost view = { λ s. record {
+      table = s.place.table_id;
+      view = s.place.me.0;
+      value = carried_value s.place.me.1;
+    } };
 
     ghost invariant = { λ s. IsSeated s.place.me };
 }
 
-fn single<W: Turn>(alloc: Global, value: W) -> Result<Vec<Option<W>>, AllocError>
-    ensures { IfOk result (λ v. v.items ≡ Some value ∷ []) }
+impl<W: Turn> Seat<W> {
+    /// The value, while an end has its turn.
+    #[inline(always)]
+    pub(crate) fn value<'a>(&'a mut self, gate: &'a Gate<W>) -> &'a mut W
+        requires table { self.old.table ≡ gate.now }
+        requires gate { self.old.view.has_gate ≡ true }
+        ensures* lends { sem 𝓛
+            (Lends (the_row W.row W.Turn) W.row self.entry result (with_value self.old)) }
+        ensures value { self.old.value ≡ Some result.now }
+    {
+        self.place.slot_mut(&gate.table.shared, VALUE)
+    }
+}
+
+fn single<W: Turn>(alloc: Global, value: W) -> Result<Vec<W>, AllocError>
+    ensures { IfOk result (λ v. v.items ≡ value ∷ []) }
 {
     let mut slots = Vec::with_capacity(alloc, 1)?;
-    slots.push_reserved(Some(value));
+    slots.push_reserved(value);
     Ok(slots)
 }
 
@@ -81,7 +101,7 @@ fn is_free(gate: u64) -> bool
 impl<W: Turn> Gate<W> {
     /// A free gate over a value, and the first seat, from which the next is made.
     pub(crate) fn open(alloc: Global, value: W) -> Result<(Gate<W>, Seat<W>), AllocError>
-        ensures { IfOk result (λ r. r.1 ≡ record { table = r.0; view = starting value 0 true }) }
+        ensures { IfOk result (λ r. r.1 ≡ record { table = r.0; view = starting value 0 true; value = None }) }
     {
         let about = Snapshot::of(&value);
         let slots = single(alloc, value)?;
@@ -96,7 +116,11 @@ impl<W: Turn> Gate<W> {
         requires seat { last.old.table ≡ self.now }
         requires last { last.old.view.is_last ≡ true }
         ensures last { last.new ≡ record last.old { view = passed_on last.old.view } }
-        ensures new { result ≡ record { table = last.old.table; view = next_of last.old.view } }
+        ensures new { result ≡ record {
+          table = last.old.table;
+          view = next_of last.old.view;
+          value = None;
+        } }
     {
         Seat {
             place: self.table.shared.split_seat::<Cut>(&mut last.place),
@@ -105,7 +129,7 @@ impl<W: Turn> Gate<W> {
 
     // The gate at a look, where it is free.
     #[inline(always)]
-    fn look_at(&self, place: &mut Place<Option<W>, View<W>>) -> Option<u64>
+    fn look_at(&self, place: &mut Place<W, View<W>>) -> Option<u64>
         requires { place.old.table_id ≡ self.now }
         ensures table { place.new.table_id ≡ place.old.table_id }
         ensures looked { MatchOption result
@@ -118,7 +142,7 @@ impl<W: Turn> Gate<W> {
 
     // Whether the gate was what was found, and is taken by this end now.
     #[inline(always)]
-    fn win(&self, place: &mut Place<Option<W>, View<W>>, found: u64) -> bool
+    fn win(&self, place: &mut Place<W, View<W>>, found: u64) -> bool
         requires table { place.old.table_id ≡ self.now }
         requires free { 0 < found }
         ensures table { place.new.table_id ≡ place.old.table_id }
@@ -135,62 +159,44 @@ impl<W: Turn> Gate<W> {
 
     // One look, and a try where the gate is free. The number is that of the turn.
     #[inline(always)]
-    fn look(&self, seat: &mut Seat<W>) -> Option<(u64, W)>
+    fn look(&self, seat: &mut Seat<W>) -> Option<u64>
         requires seat { seat.old.table ≡ self.now }
         requires gate { seat.old.view.has_gate ≡ false }
         ensures lost { IfNone result
             (seat.new ≡ record seat.old { view = missed 1 seat.old.view }) }
-        ensures won { IfSome result (λ r. (seat.new.table ≡ seat.old.table) × (r.0 < FULL)
-            × Enters W.turn 1 r.0 r.1 seat.old.view seat.new.view) }
+        ensures won { IfSome result (λ number. (number < FULL)
+            × TakesTurn W.turn 1 number seat.old seat.new) }
     {
         let found = self.look_at(&mut seat.place)?;
-        if !self.win(&mut seat.place, found) {
-            return None;
+        if self.win(&mut seat.place, found) {
+            Some(found)
+        } else {
+            None
         }
-        let Some(value) = self.table.shared.exchange(&mut seat.place, VALUE, None) else {
-            unreachable!()
-        };
-        Some((found, value))
     }
 
-    /// The value, with the number of the turn, where the gate was free at one of the looks.
+    /// The number of the turn, where the gate was free at one of the looks.
     #[inline(always)]
-    pub(crate) fn try_enter(&self, seat: &mut Seat<W>) -> Option<(u64, W)>
+    pub(crate) fn try_enter(&self, seat: &mut Seat<W>) -> Option<u64>
         requires seat { seat.old.table ≡ self.now }
         requires gate { seat.old.view.has_gate ≡ false }
         ensures lost { IfNone result
             (seat.new ≡ record seat.old { view = missed LOOKS seat.old.view }) }
-        ensures won { IfSome result (λ r. (seat.new.table ≡ seat.old.table) × (r.0 < FULL)
-            × Enters W.turn LOOKS r.0 r.1 seat.old.view seat.new.view) }
+        ensures won { IfSome result (λ number. (number < FULL)
+            × TakesTurn W.turn LOOKS number seat.old seat.new) }
     {
         for look in 0..LOOKS {
-            if let Some(taken) = self.look(seat) {
-                return Some(taken);
+            if let Some(number) = self.look(seat) {
+                return Some(number);
             }
             pause_after(look);
         }
         None
     }
 
-    // The value that a turn leaves goes into its slot.
-    #[inline(always)]
-    fn put_value(&self, place: &mut Place<Option<W>, View<W>>, value: W)
-        requires table { place.old.table_id ≡ self.now }
-        requires gate { place.old.me.0.has_gate ≡ true }
-        requires carried { place.old.me.1 ≡ (0, None) ∷ [] }
-        requires turn { MayLeave W.turn value place.old.me.0 }
-        ensures table { place.new.table_id ≡ place.old.table_id }
-        ensures value { place.new.me ≡ (place.old.me.0, (0, Some value) ∷ []) }
-        ensures may { MayFree W.turn place.new.me }
-    {
-        let None = self.table.shared.exchange(place, VALUE, Some(value)) else {
-            unreachable!()
-        };
-    }
-
     // The gate is free, and the turn with this number is the newest of the history.
     #[inline(always)]
-    fn set_free(&self, place: &mut Place<Option<W>, View<W>>, turn: u64)
+    fn set_free(&self, place: &mut Place<W, View<W>>, turn: u64)
         requires table { place.old.table_id ≡ self.now }
         requires number { (length place.old.me.0.seen ≡ turn) × (turn < FULL) }
         requires may { MayFree W.turn place.old.me }
@@ -200,30 +206,15 @@ impl<W: Turn> Gate<W> {
         self.table.shared.store::<Leave>(place, GATE, turn + 1);
     }
 
-    // What `leave` does, of the token.
+    /// Gives the gate back with the value, as the turn with this number leaves it.
     #[inline(always)]
-    fn leave_at(&self, place: &mut Place<Option<W>, View<W>>, turn: u64, value: W)
-        requires table { place.old.table_id ≡ self.now }
-        requires gate { place.old.me.0.has_gate ≡ true }
-        requires carried { place.old.me.1 ≡ (0, None) ∷ [] }
-        requires number { (length place.old.me.0.seen ≡ turn) × (turn < FULL) }
-        requires turn { MayLeave W.turn value place.old.me.0 }
-        ensures table { place.new.table_id ≡ place.old.table_id }
-        ensures left { place.new.me ≡ (gave_back value place.old.me.0, []) }
-    {
-        self.put_value(place, value);
-        self.set_free(place, turn);
-    }
-
-    /// Gives the gate back with what a turn left, whose number this is.
-    #[inline(always)]
-    pub(crate) fn leave(&self, seat: &mut Seat<W>, turn: u64, value: W)
+    pub(crate) fn leave(&self, seat: &mut Seat<W>, turn: u64)
         requires seat { seat.old.table ≡ self.now }
         requires gate { seat.old.view.has_gate ≡ true }
         requires number { (length seat.old.view.seen ≡ turn) × (turn < FULL) }
-        requires turn { MayLeave W.turn value seat.old.view }
-        ensures { seat.new ≡ record seat.old { view = gave_back value seat.old.view } }
+        requires turn { IfSome seat.old.value (λ value. MayLeave W.turn value seat.old.view) }
+        ensures { seat.new ≡ gave_all_back seat.old }
     {
-        self.leave_at(&mut seat.place, turn, value);
+        self.set_free(&mut seat.place, turn);
     }
 }

@@ -29,7 +29,7 @@ pub struct View<W> {
 // What holds between any two steps. No value of it is made.
 pub(crate) struct Law;
 
-impl<W: Turn> TableRule<Option<W>, View<W>, Snapshot<W>> for Law {
+impl<W: Turn> TableRule<W, View<W>, Snapshot<W>> for Law {
     ghost holds = { λ about s. Kept W.turn s };
 
     ghost first = { λ about. starting about.value 0 true };
@@ -37,19 +37,19 @@ impl<W: Turn> TableRule<Option<W>, View<W>, Snapshot<W>> for Law {
 
 pub(crate) struct Look;
 
-impl<W> Play<Option<W>, View<W>> for Look {
+impl<W> Play<W, View<W>> for Look {
     ghost then = { looked_at };
 }
 
 pub(crate) struct Enter;
 
-impl<W: Turn> Play<Option<W>, View<W>> for Enter {
+impl<W: Turn> Play<W, View<W>> for Enter {
     ghost then = { entered W.turn };
 }
 
 pub(crate) struct Leave;
 
-impl<W: Turn> Play<Option<W>, View<W>> for Leave {
+impl<W: Turn> Play<W, View<W>> for Leave {
     ghost then = { left };
 }
 

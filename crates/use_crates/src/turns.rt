@@ -24,11 +24,13 @@ fn add(end: &mut End<Counter>) -> Option<u64>
     requires { end.old.view.has_gate ≡ false }
     ensures { end.new.view.has_gate ≡ false }
 {
-    let Some(counter) = end.try_enter() else {
+    if !end.try_enter() {
         return None;
-    };
-    let value = counter.value.wrapping_add(1);
-    end.leave(Counter { value });
+    }
+    let counter = end.value();
+    counter.value = counter.value.wrapping_add(1);
+    let value = counter.value;
+    end.leave();
     Some(value)
 }
 
