@@ -1,15 +1,15 @@
 -- The ways in which an export comes to its status.
-use Rattle.std.proofs.Common.{None, Option, Some, ap, arith, subst, sym, ℕ, ◌*◌, ◌+◌, ◌<◌, ◌∙◌, ◌≡◌}
+use Rattle.std.proofs.Common.{None, Option, Some, ap, arith, refl, subst, sym, ℕ, ◌*◌, ◌+◌, ◌<◌, ◌∙◌, ◌≡◌}
 use Rattle.std.specs.Prelude.{Err, MatchResult, Ok, Result}
 use Rattle.hd_host.specs.declared.fault.Fault.{Fault}
 use Rattle.hd_host.specs.Turns.{HostTurn, IsContextOf, IsOwnContext}
 use Rattle.hd_host.specs.View.{HostView, IsAsItWas}
 use Rattle.hd_host.proofs.CallTurns.{turn_as_it_was}
-use Rattle.hd_ends.specs.Ends.{EndView, Leaves, MayLeave, SharerView, Takes, busied, first_of}
+use Rattle.hd_ends.specs.Ends.{EndView, Leaves, MayLeave, SharerView, Takes, busied, first_of, with_host}
 use Rattle.hd_ends.specs.Opened.{contexts_of}
 use Rattle.hd_ends.specs.declared.end.End.{End}
 use Rattle.hd_ends.specs.declared.end.End.TheVariants.{Own, Shared}
-use Rattle.hd_ends.proofs.SharerTurns.{may_leave, took_turn}
+use Rattle.hd_ends.proofs.SharerTurns.{has_found, may_leave, took_turn}
 use Rattle.hdt_c.specs.Exports.{Comes, busy, closed, is_wrong, runs, turned, Runs, fails, does}
 use Rattle.hdt_c.specs.Outs.{IsOpened, Opens, Refuses, TellsLast, is_open, last_out, opens, refuses, shut_last, tells}
 use Rattle.hdt_c.specs.Status.{status_of}
@@ -51,6 +51,16 @@ module _ {Fails : HostView → Fault → Type 0} {Does : HostView → HostView �
 was_shared : {o : Option End} {e x : End} {u d : EndView} → Some e ≡ o → x ≡ e → x ≡ Shared d → u ≡ d
     → o ≡ Some (Shared u)
 was_shared some at is view = sym some ∙ ap Some (sym at ∙ is) ∙ ap (λ (x : EndView). Some (Shared x)) (sym view)
+
+-- what an end left is the host that it had
+abbrev host_or : HostView → Option HostView → HostView
+host_or v None = v
+host_or v (Some u) = u
+
+left_by : (t : SharerView) {r : SharerView} {leaves : HostView}
+    → (left : HostView) × Leaves (with_host t leaves) r left → Leaves (with_host t leaves) r leaves
+left_by t {r} {leaves} left =
+    subst (λ h. Leaves (with_host t leaves) r h) (sym (ap (host_or leaves) left.1.had)) left.1
 
 module _ {Right : ℕ → Type 0} {Fails : (ℕ → ℕ) → HostView → Fault → Type 0}
     {Does : (ℕ → ℕ) → HostView → HostView → ℕ → Type 0} {Kept : Type 0} where
@@ -97,44 +107,50 @@ module _ {Right : ℕ → Type 0} {Fails : (ℕ → ℕ) → HostView → Fault 
       (sym (now ∙ ap (λ (x : SharerView). Some (Shared x.end)) looked))
       (busy u.end (subst Right count right) kept))
 
-  -- it ran at the end's turn, in the host that it took
-  pub ran_shared : {o n : Option End} {e x : End} {u t r : SharerView} {d : EndView} {taken v leaves : HostView}
+  -- it ran at the end's turn, in the host that it has
+  pub ran_shared : {o n : Option End} {e x : End} {u t r : SharerView} {d : EndView} {v leaves : HostView}
       {count first s : ℕ} → Some e ≡ o → x ≡ e → x ≡ Shared d → u.end ≡ d → n ≡ Some (Shared r.end)
-      → count ≡ u.end.each → Right count → first ≡ first_of u.end → Takes u t taken → Leaves t r leaves
-      → v ≡ taken → Runs (Fails (λ c. first + c)) (Does (λ c. first + c)) Kept v leaves s
+      → count ≡ u.end.each → Right count → first ≡ first_of u.end → Takes u t
+      → ((left : HostView) × Leaves (with_host t leaves) r left) → t.host ≡ Some v
+      → Runs (Fails (λ c. first + c)) (Does (λ c. first + c)) Kept v leaves s
       → Comes Right Fails Does Kept o n s
-  ran_shared {o} {n} {u = u} {r = r} {v = v} {leaves = leaves} {s = s} some at is view now count right first takes
-      left same did =
+  ran_shared {o} {n} {u = u} {t = t} {r = r} {v = v} {leaves = leaves} {s = s} some at is view now count right first
+      takes left has did =
+      let gone : Leaves (with_host t leaves) r leaves = left_by t left in
       subst (λ x. Comes Right Fails Does Kept x n s) (sym (was_shared some at is view))
       (subst (λ x. Comes Right Fails Does Kept (Some (Shared u.end)) x s) (sym now)
-      (turned u.end r.end takes.found leaves s (subst Right count right) (took_turn takes left)
+      (turned u.end r.end takes.found leaves s (subst Right count right) (took_turn takes refl gone)
       (subst (λ h. Runs (Fails (λ c. first_of u.end + c)) (Does (λ c. first_of u.end + c)) Kept h leaves s)
-      (same ∙ takes.taken_is)
+      (has_found takes has)
       (subst (λ f. Runs (Fails (λ c. f + c)) (Does (λ c. f + c)) Kept v leaves s) first did))))
 
-  -- an end that was put back went to another function
-  pub went_on : {m o n : Option End} {e : End} {s : ℕ} → m ≡ Some e → Some e ≡ o → Comes Right Fails Does Kept m n s
+  -- an end that was taken out went to another function
+  pub went_on : {o n : Option End} {e : End} {s : ℕ} → Some e ≡ o → Comes Right Fails Does Kept (Some e) n s
       → Comes Right Fails Does Kept o n s
-  went_on {n = n} {s = s} put some did = subst (λ x. Comes Right Fails Does Kept x n s) (put ∙ some) did
+  went_on {n = n} {s = s} some did = subst (λ x. Comes Right Fails Does Kept x n s) some did
 
 -- a turn of an end may be left
-pub leaves_by : {u t : SharerView} {taken v leaves : HostView} → Takes u t taken → v ≡ taken
-    → HostTurn u.end.each u.end.number v leaves → MayLeave t.end leaves
-leaves_by {u} {leaves = leaves} takes same turn =
-    may_leave takes (subst (λ h. HostTurn u.end.each u.end.number h leaves) same turn)
+pub leaves_by : {u t : SharerView} {v leaves : HostView} → Takes u t → t.host ≡ Some v
+    → HostTurn u.end.each u.end.number v leaves
+    → (left : HostView) × (Some leaves ≡ Some left) × MayLeave t.end left
+leaves_by {u} {leaves = leaves} takes has turn = (
+  leaves,
+  refl,
+  may_leave takes (subst (λ h. HostTurn u.end.each u.end.number h leaves) (has_found takes has) turn),
+)
 
 -- a context of an end, in the host
 pub own_context : (each number : ℕ) {first c count : ℕ} → first ≡ number * each → count ≡ each → c < count
     → IsContextOf each number (first + c)
 own_context each number is count low = (omega (arith, is), omega (arith, is, count, low))
 
--- which the host that it took has
-pub own_context_in : {u t : SharerView} {taken v : HostView} {first c count : ℕ} → Takes u t taken → v ≡ taken
+-- which the host that it has has
+pub own_context_in : {u t : SharerView} {v : HostView} {first c count : ℕ} → Takes u t → t.host ≡ Some v
     → first ≡ first_of u.end → count ≡ u.end.each → c < count
     → IsOwnContext u.end.each u.end.number v (first + c)
-own_context_in {v = v} takes same is count low =
+own_context_in {v = v} takes has is count low =
     let known : v.machine.numbers.callers ≡ takes.found.machine.numbers.callers =
-    ap (λ (h : HostView). h.machine.numbers.callers) (same ∙ takes.taken_is) in
+    ap (λ (h : HostView). h.machine.numbers.callers) (has_found takes has) in
     (own_context _ _ is count low, omega (arith, is, count, low, takes.contexts, known))
 
 module _ {limits : Limits} {o n : Option End} where

@@ -75,7 +75,7 @@ abbrev pub last_out : End → Change
 last_out (Own v) = change_out 0 v.last
 last_out (Shared e) = change_out (turn_of e) e.last
 
--- it is told, or the end is closed. No turn is taken.
+-- it is written, or the end is closed. No turn is taken.
 pub data TellsLast (old new : Change) : Option End → Option End → ℕ → Type 0 where
   shut_last : new ≡ old → TellsLast old new None None CLOSED
   tells : (e : End) → new ≡ last_out e → TellsLast old new (Some e) (Some e) OK

@@ -1,4 +1,4 @@
--- What `hdt_sizes` tells of a host.
+-- What `hdt_sizes` writes of a host.
 use Rattle.std.specs.Prelude.{◌≡◌, ℕ, None, Some, slice_index}
 use Rattle.std.specs.FinMap.{get}
 use Rattle.hd_model.specs.{Counting.Counts, Kinds.kind_number, State.IsFree, declared.data.Kind.Kind}

@@ -74,7 +74,7 @@ object_out o = record {
   finalizable = if o.registered then 1 else 0;
 }
 
--- it is told, or a local is null and nothing is written
+-- what an object has is written, or a local is null and nothing is
 abbrev pub IsTold : Option ObjectInfo → (old new : Object) → ℕ → Type 0
 IsTold None old new status = (new ≡ old) × (status ≡ NULL)
 IsTold (Some o) old new status = (new ≡ object_out o) × (status ≡ OK)
@@ -95,7 +95,7 @@ abbrev pub ClearsLocals : (c first n : ℕ) → HostView → HostView → ℕ �
 ClearsLocals c first n v w status =
     (w ≡ with_state v (with_cleared v.machine.state c first n)) × (status ≡ OK)
 
--- all locals are told
+-- what all locals reference is written
 abbrev pub TellsLocals : (c : ℕ) (out : List ℕ) → HostView → HostView → ℕ → Type 0
 TellsLocals c out v w status =
     (w ≡ v) × (out ≡ map id_number (slice_index_or v.machine.state.registers c [])) × (status ≡ OK)
@@ -115,7 +115,7 @@ TellsTarget handle id v w status = (w ≡ v) × (status ≡ OK)
 abbrev pub FailsStale : ℕ → HostView → Fault → Type 0
 FailsStale handle v f = (f ≡ Stale) × IsStale v (record { 0 = handle })
 
--- what a local references is told
+-- what a local references is written
 abbrev pub TellsObject : (c local : ℕ) → (old new : Object) → HostView → HostView → ℕ → Type 0
 TellsObject c local old new v w status = (w ≡ v)
     × IsTold (option_map (object_report v.machine.state) (register_of v.machine.state c local)) old new status

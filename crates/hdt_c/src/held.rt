@@ -28,12 +28,12 @@ macro_rules! on_open {
                 }
                 let at = shared.sharer.first() + $c;
                 $(let $d = shared.sharer.first() + $d;)?
-                let Some(mut taken) = shared.sharer.enter() else {
+                if !shared.sharer.enter() {
                     $crate::held::put($held, end);
                     return $crate::status::BUSY;
-                };
-                let status = $call(&mut taken, at, $($d,)? $($argument),+);
-                shared.sharer.leave(taken);
+                }
+                let status = $call(shared.sharer.host(), at, $($d,)? $($argument),+);
+                shared.sharer.leave();
                 $crate::held::put($held, end);
                 status
             }
@@ -55,12 +55,12 @@ macro_rules! on_open {
                 status
             }
             hd_ends::End::Shared(shared) => {
-                let Some(mut taken) = shared.sharer.enter() else {
+                if !shared.sharer.enter() {
                     $crate::held::put($held, end);
                     return $crate::status::BUSY;
-                };
-                let status = $call(&mut taken, $($argument),+);
-                shared.sharer.leave(taken);
+                }
+                let status = $call(shared.sharer.host(), $($argument),+);
+                shared.sharer.leave();
                 $crate::held::put($held, end);
                 status
             }

@@ -1,5 +1,5 @@
 // The exports on handles.
-ghost use Rattle.std.specs.Prelude.{◌≡◌, Some, option_map};
+ghost use Rattle.std.specs.Prelude.{◌≡◌, None, Some, option_map};
 ghost use Rattle.hd_model.specs.{declared.data.Make.Make, declared.data.Slot.Slot, declared.data.Strength.Strength, Kinds.kind_number, State.handle_at};
 ghost use Rattle.hd_model.specs.declared.command.Cmd.TheVariants as cmd;
 ghost use Rattle.hd_model.specs.declared.data.Reply.TheVariants as reply;
@@ -7,14 +7,17 @@ ghost use Rattle.hd_host.specs.declared.fault.Fault.TheVariants.{Stale};
 ghost use Rattle.hd_host.specs.Handles.{IsOf, IsStale};
 ghost use Rattle.hd_host.specs.Calls.{FreesHandle, MakesHandle};
 ghost use Rattle.hdt_c.specs.Arguments.{IsMake, number_of, strength_number};
+ghost use Rattle.hd_ends.specs.Ends.{EndView};
+ghost use Rattle.hd_ends.specs.declared.end.End.TheVariants.{Shared};
 ghost use Rattle.hdt_c.specs.Exports.{Comes, Runs, KeepsNothing, AlwaysRight, IsNewHandle, IsStrength, HasLocal, FailsIn, FailsAt, RepliesAt, LoadsAt};
 
 use crate::arguments::{
     has_local, is_new_handle, is_strength, make, number_of, number_of_kind, strength_of,
 };
 use crate::held::{Held, on_open};
-use crate::own::on_own;
+use crate::own::{on_own, on_shared};
 use crate::status::{OK, status, status_of};
+use hd_ends::End;
 use hd_host::{Handle, Host};
 use std::alloc::Global;
 
@@ -62,21 +65,23 @@ pub extern "C" fn hdt_handle_new(
 // The same, at an end of a shared host.
 #[inline(never)]
 fn handle_new_shared(
-    alloc: Global,
     host: &mut Held,
     c: u32,
     kind: u32,
     target: u32,
     extra: u32,
     out: &mut u64,
+    mut end: Box<End>,
 ) -> u32
+    requires closed { host.old.value ≡ None }
+    requires shared { (e : EndView) × (end.value ≡ Shared e) }
     ensures { Comes (IsNewHandle c kind target extra) (λ at v f. (made : Make) ×
         IsMake made kind extra × FailsIn (at c) (cmd.HNew 0 made target) v f)
         (λ at v w s. (made : Make) × IsMake made kind extra ×
         MakesHandle v (at c) made target w (record { 0 = out.new }) × (s ≡ OK)) (out.new ≡ out.old)
-        host.old.value host.new.value result }
+        (Some end.value) host.new.value result }
 {
-    on_open!(alloc, host, in c, handle_new(kind, target, extra, out)
+    on_shared!(host, end, in c, handle_new(kind, target, extra, out)
         if is_new_handle(kind, target, extra))
 }
 
@@ -103,13 +108,15 @@ pub extern "C" fn hdt_handle_free(alloc: Global, host: &mut Held, handle: u64) -
 
 // The same, at an end of a shared host.
 #[inline(never)]
-fn handle_free_shared(alloc: Global, host: &mut Held, handle: u64) -> u32
+fn handle_free_shared(host: &mut Held, handle: u64, mut end: Box<End>) -> u32
+    requires closed { host.old.value ≡ None }
+    requires shared { (e : EndView) × (end.value ≡ Shared e) }
     ensures { let command = cmd.HFree 0 in
         Comes AlwaysRight (λ at. FailsAt 0 handle command)
-        (λ at v w s. FreesHandle v (record { 0 = handle }) w × (s ≡ OK)) KeepsNothing host.old.value
+        (λ at v w s. FreesHandle v (record { 0 = handle }) w × (s ≡ OK)) KeepsNothing (Some end.value)
         host.new.value result }
 {
-    on_open!(alloc, host, handle_free(handle))
+    on_shared!(host, end, handle_free(handle))
 }
 
 #[inline(always)]
@@ -148,13 +155,22 @@ pub extern "C" fn hdt_handle_get(
 
 // The same, at an end of a shared host.
 #[inline(never)]
-fn get_shared(alloc: Global, host: &mut Held, c: u32, handle: u64, dst: u32, id: &mut u64) -> u32
+fn get_shared(
+    host: &mut Held,
+    c: u32,
+    handle: u64,
+    dst: u32,
+    id: &mut u64,
+    mut end: Box<End>,
+) -> u32
+    requires closed { host.old.value ≡ None }
+    requires shared { (e : EndView) × (end.value ≡ Shared e) }
     ensures { let command = cmd.HGet dst 0 in
         Comes (HasLocal c dst) (λ at. FailsAt (at c) handle command)
-        (λ at. LoadsAt (at c) handle command id.new) (id.new ≡ id.old) host.old.value host.new.value
+        (λ at. LoadsAt (at c) handle command id.new) (id.new ≡ id.old) (Some end.value) host.new.value
         result }
 {
-    on_open!(alloc, host, in c, handle_get(handle, dst, id) if has_local(dst))
+    on_shared!(host, end, in c, handle_get(handle, dst, id) if has_local(dst))
 }
 
 #[inline(always)]
@@ -186,13 +202,15 @@ pub extern "C" fn hdt_handle_set(
 
 // The same, at an end of a shared host.
 #[inline(never)]
-fn handle_set_shared(alloc: Global, host: &mut Held, c: u32, handle: u64, src: u32) -> u32
+fn handle_set_shared(host: &mut Held, c: u32, handle: u64, src: u32, mut end: Box<End>) -> u32
+    requires closed { host.old.value ≡ None }
+    requires shared { (e : EndView) × (end.value ≡ Shared e) }
     ensures { let command = cmd.HSet 0 src in
         Comes (HasLocal c src) (λ at. FailsAt (at c) handle command)
-        (λ at. RepliesAt (at c) handle command reply.Done) KeepsNothing host.old.value
+        (λ at. RepliesAt (at c) handle command reply.Done) KeepsNothing (Some end.value)
         host.new.value result }
 {
-    on_open!(alloc, host, in c, handle_set(handle, src) if has_local(src))
+    on_shared!(host, end, in c, handle_set(handle, src) if has_local(src))
 }
 
 // What kind a handle is of.

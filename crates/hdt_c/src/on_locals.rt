@@ -1,15 +1,18 @@
 // The exports on locals and statics.
-ghost use Rattle.std.specs.Prelude.{◌≡◌};
+ghost use Rattle.std.specs.Prelude.{◌≡◌, None, Some};
 ghost use Rattle.hd_model.specs.{State.register_of};
 ghost use Rattle.hd_model.specs.declared.command.Cmd.TheVariants as cmd;
 ghost use Rattle.hd_model.specs.declared.data.Reply.TheVariants as reply;
 ghost use Rattle.hdt_c.specs.Arguments.{number_of};
+ghost use Rattle.hd_ends.specs.Ends.{EndView};
+ghost use Rattle.hd_ends.specs.declared.end.End.TheVariants.{Shared};
 ghost use Rattle.hdt_c.specs.Exports.{Comes, Runs, KeepsNothing, NeverFails, HasLocal, HasLocals, Replies, Loads};
 
 use crate::arguments::{has_local, has_locals, number_of};
 use crate::held::{Held, on_open};
-use crate::own::on_own;
+use crate::own::{on_own, on_shared};
 use crate::status::OK;
+use hd_ends::End;
 use hd_host::Host;
 use std::alloc::Global;
 
@@ -61,12 +64,14 @@ pub extern "C" fn hdt_local_copy(alloc: Global, host: &mut Held, c: u32, dst: u3
 
 // The same, at an end of a shared host.
 #[inline(never)]
-fn local_copy_shared(alloc: Global, host: &mut Held, c: u32, dst: u32, src: u32) -> u32
+fn local_copy_shared(host: &mut Held, c: u32, dst: u32, src: u32, mut end: Box<End>) -> u32
+    requires closed { host.old.value ≡ None }
+    requires shared { (e : EndView) × (end.value ≡ Shared e) }
     ensures { let command = cmd.Copy dst src in
         Comes (HasLocals c dst src) (λ at. NeverFails) (λ at. Replies (at c) command reply.Done)
-        KeepsNothing host.old.value host.new.value result }
+        KeepsNothing (Some end.value) host.new.value result }
 {
-    on_open!(alloc, host, in c, local_copy(dst, src) if has_locals(dst, src))
+    on_shared!(host, end, in c, local_copy(dst, src) if has_locals(dst, src))
 }
 
 fn local_clear(host: &mut Host, c: u32, dst: u32) -> u32
@@ -90,12 +95,14 @@ pub extern "C" fn hdt_local_clear(alloc: Global, host: &mut Held, c: u32, dst: u
 
 // The same, at an end of a shared host.
 #[inline(never)]
-fn local_clear_shared(alloc: Global, host: &mut Held, c: u32, dst: u32) -> u32
+fn local_clear_shared(host: &mut Held, c: u32, dst: u32, mut end: Box<End>) -> u32
+    requires closed { host.old.value ≡ None }
+    requires shared { (e : EndView) × (end.value ≡ Shared e) }
     ensures { let command = cmd.Clear dst in
         Comes (HasLocal c dst) (λ at. NeverFails) (λ at. Replies (at c) command reply.Done)
-        KeepsNothing host.old.value host.new.value result }
+        KeepsNothing (Some end.value) host.new.value result }
 {
-    on_open!(alloc, host, in c, local_clear(dst) if has_local(dst))
+    on_shared!(host, end, in c, local_clear(dst) if has_local(dst))
 }
 
 fn static_get(host: &mut Host, c: u32, dst: u32, k: u32, id: &mut u64) -> u32
@@ -126,12 +133,21 @@ pub extern "C" fn hdt_static_get(
 
 // The same, at an end of a shared host.
 #[inline(never)]
-fn static_get_shared(alloc: Global, host: &mut Held, c: u32, dst: u32, k: u32, id: &mut u64) -> u32
+fn static_get_shared(
+    host: &mut Held,
+    c: u32,
+    dst: u32,
+    k: u32,
+    id: &mut u64,
+    mut end: Box<End>,
+) -> u32
+    requires closed { host.old.value ≡ None }
+    requires shared { (e : EndView) × (end.value ≡ Shared e) }
     ensures { let command = cmd.SGet dst k in
         Comes (HasLocals c dst k) (λ at. NeverFails) (λ at. Loads (at c) command id.new)
-        (id.new ≡ id.old) host.old.value host.new.value result }
+        (id.new ≡ id.old) (Some end.value) host.new.value result }
 {
-    on_open!(alloc, host, in c, static_get(dst, k, id) if has_locals(dst, k))
+    on_shared!(host, end, in c, static_get(dst, k, id) if has_locals(dst, k))
 }
 
 fn static_set(host: &mut Host, c: u32, k: u32, src: u32) -> u32
@@ -155,10 +171,12 @@ pub extern "C" fn hdt_static_set(alloc: Global, host: &mut Held, c: u32, k: u32,
 
 // The same, at an end of a shared host.
 #[inline(never)]
-fn static_set_shared(alloc: Global, host: &mut Held, c: u32, k: u32, src: u32) -> u32
+fn static_set_shared(host: &mut Held, c: u32, k: u32, src: u32, mut end: Box<End>) -> u32
+    requires closed { host.old.value ≡ None }
+    requires shared { (e : EndView) × (end.value ≡ Shared e) }
     ensures { let command = cmd.SPut k src in
         Comes (HasLocals c k src) (λ at. NeverFails) (λ at. Replies (at c) command reply.Done)
-        KeepsNothing host.old.value host.new.value result }
+        KeepsNothing (Some end.value) host.new.value result }
 {
-    on_open!(alloc, host, in c, static_set(k, src) if has_locals(k, src))
+    on_shared!(host, end, in c, static_set(k, src) if has_locals(k, src))
 }

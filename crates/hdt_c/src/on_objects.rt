@@ -1,17 +1,20 @@
 // The exports on objects.
-ghost use Rattle.std.specs.Prelude.{◌≡◌, ◌==◌, ◌<◌, None, Option};
+ghost use Rattle.std.specs.Prelude.{◌≡◌, ◌==◌, ◌<◌, None, Option, Some};
 ghost use Rattle.hd_model.specs.declared.command.Cmd.TheVariants as cmd;
 ghost use Rattle.hd_model.specs.declared.data.Reply.TheVariants as reply;
 ghost use Rattle.hd_store.specs.Replies.{root_reply};
 ghost use Rattle.hdt_c.specs.Arguments.{field_number, number_of};
+ghost use Rattle.hd_ends.specs.Ends.{EndView};
+ghost use Rattle.hd_ends.specs.declared.end.End.TheVariants.{Shared};
 ghost use Rattle.hdt_c.specs.Exports.{Comes, Runs, KeepsNothing, IsObject, HasLocal, HasLocals, FailsIn, Replies, Returns, Loads};
 ghost use Rattle.hdt_c.specs.Outs.{IsRoot};
 
 use crate::arguments::{FINALIZABLE, field, has_local, has_locals, is_object, number_of};
 use crate::held::{Held, on_open};
-use crate::own::on_own;
+use crate::own::{on_own, on_shared};
 use crate::parts::Root;
 use crate::status::{NONE, OK, status, status_of};
+use hd_ends::End;
 use hd_host::Host;
 use std::alloc::Global;
 
@@ -54,20 +57,22 @@ pub extern "C" fn hdt_object_new(
 // The same, at an end of a shared host.
 #[inline(never)]
 fn object_new_shared(
-    alloc: Global,
     host: &mut Held,
     c: u32,
     dst: u32,
     fields: u32,
     flags: u32,
     id: &mut u64,
+    mut end: Box<End>,
 ) -> u32
+    requires closed { host.old.value ≡ None }
+    requires shared { (e : EndView) × (end.value ≡ Shared e) }
     ensures { let command = cmd.New dst fields (flags == 1) in
         Comes (IsObject c dst fields flags) (λ at. FailsIn (at c) command)
         (λ at. Returns (at c) command reply.Object (λ made s. (id.new ≡ made.0) × (s ≡ OK)))
-        (id.new ≡ id.old) host.old.value host.new.value result }
+        (id.new ≡ id.old) (Some end.value) host.new.value result }
 {
-    on_open!(alloc, host, in c, object_new(dst, fields, flags, id) if is_object(dst, fields, flags))
+    on_shared!(host, end, in c, object_new(dst, fields, flags, id) if is_object(dst, fields, flags))
 }
 
 fn field_get(host: &mut Host, c: u32, dst: u32, object: u32, i: u32, id: &mut u64) -> u32
@@ -106,19 +111,21 @@ pub extern "C" fn hdt_field_get(
 // The same, at an end of a shared host.
 #[inline(never)]
 fn field_get_shared(
-    alloc: Global,
     host: &mut Held,
     c: u32,
     dst: u32,
     object: u32,
     i: u32,
     id: &mut u64,
+    mut end: Box<End>,
 ) -> u32
+    requires closed { host.old.value ≡ None }
+    requires shared { (e : EndView) × (end.value ≡ Shared e) }
     ensures { let command = cmd.Get dst object (field_number i) in
         Comes (HasLocals c dst object) (λ at. FailsIn (at c) command)
-        (λ at. Loads (at c) command id.new) (id.new ≡ id.old) host.old.value host.new.value result }
+        (λ at. Loads (at c) command id.new) (id.new ≡ id.old) (Some end.value) host.new.value result }
 {
-    on_open!(alloc, host, in c, field_get(dst, object, i, id) if has_locals(dst, object))
+    on_shared!(host, end, in c, field_get(dst, object, i, id) if has_locals(dst, object))
 }
 
 fn field_set(host: &mut Host, c: u32, object: u32, i: u32, src: u32) -> u32
@@ -150,13 +157,22 @@ pub extern "C" fn hdt_field_set(
 
 // The same, at an end of a shared host.
 #[inline(never)]
-fn field_set_shared(alloc: Global, host: &mut Held, c: u32, object: u32, i: u32, src: u32) -> u32
+fn field_set_shared(
+    host: &mut Held,
+    c: u32,
+    object: u32,
+    i: u32,
+    src: u32,
+    mut end: Box<End>,
+) -> u32
+    requires closed { host.old.value ≡ None }
+    requires shared { (e : EndView) × (end.value ≡ Shared e) }
     ensures { let command = cmd.Set object (field_number i) src in
         Comes (HasLocals c object src) (λ at. FailsIn (at c) command)
-        (λ at. Replies (at c) command reply.Done) KeepsNothing host.old.value host.new.value
+        (λ at. Replies (at c) command reply.Done) KeepsNothing (Some end.value) host.new.value
         result }
 {
-    on_open!(alloc, host, in c, field_set(object, i, src) if has_locals(object, src))
+    on_shared!(host, end, in c, field_set(object, i, src) if has_locals(object, src))
 }
 
 fn value_get(host: &mut Host, c: u32, object: u32, value: &mut u64) -> u32
@@ -193,13 +209,15 @@ pub extern "C" fn hdt_value_get(
 
 // The same, at an end of a shared host.
 #[inline(never)]
-fn value_get_shared(alloc: Global, host: &mut Held, c: u32, object: u32, value: &mut u64) -> u32
+fn value_get_shared(host: &mut Held, c: u32, object: u32, value: &mut u64, mut end: Box<End>) -> u32
+    requires closed { host.old.value ≡ None }
+    requires shared { (e : EndView) × (end.value ≡ Shared e) }
     ensures { let command = cmd.Read object in
         Comes (HasLocal c object) (λ at. FailsIn (at c) command)
         (λ at. Replies (at c) command (reply.Value value.new)) (value.new ≡ value.old)
-        host.old.value host.new.value result }
+        (Some end.value) host.new.value result }
 {
-    on_open!(alloc, host, in c, value_get(object, value) if has_local(object))
+    on_shared!(host, end, in c, value_get(object, value) if has_local(object))
 }
 
 fn value_set(host: &mut Host, c: u32, object: u32, value: u64) -> u32
@@ -230,13 +248,15 @@ pub extern "C" fn hdt_value_set(
 
 // The same, at an end of a shared host.
 #[inline(never)]
-fn value_set_shared(alloc: Global, host: &mut Held, c: u32, object: u32, value: u64) -> u32
+fn value_set_shared(host: &mut Held, c: u32, object: u32, value: u64, mut end: Box<End>) -> u32
+    requires closed { host.old.value ≡ None }
+    requires shared { (e : EndView) × (end.value ≡ Shared e) }
     ensures { let command = cmd.Val object value in
         Comes (HasLocal c object) (λ at. FailsIn (at c) command)
-        (λ at. Replies (at c) command reply.Done) KeepsNothing host.old.value host.new.value
+        (λ at. Replies (at c) command reply.Done) KeepsNothing (Some end.value) host.new.value
         result }
 {
-    on_open!(alloc, host, in c, value_set(object, value) if has_local(object))
+    on_shared!(host, end, in c, value_set(object, value) if has_local(object))
 }
 
 fn read_generation(host: &mut Host, c: u32, object: u32, generation: &mut u32) -> u32

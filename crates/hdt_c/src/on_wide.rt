@@ -1,7 +1,9 @@
 // The exports of calls that are more than one command, or none, and of what an object is.
-ghost use Rattle.std.specs.Prelude.{◌≡◌, ◌==◌, length};
+ghost use Rattle.std.specs.Prelude.{◌≡◌, ◌==◌, None, Some, length};
 ghost use Rattle.hd_model.specs.declared.command.Cmd.TheVariants as cmd;
 ghost use Rattle.hdt_c.specs.Arguments.{field_number};
+ghost use Rattle.hd_ends.specs.Ends.{EndView};
+ghost use Rattle.hd_ends.specs.declared.end.End.TheVariants.{Shared};
 ghost use Rattle.hdt_c.specs.Exports.{Comes, Runs, KeepsNothing, NeverFails, AlwaysRight, HasLocal, HasLocals, FailsIn, FailsAt};
 ghost use Rattle.hdt_c.specs.Wide.{object_out, ClearsLocals, FailsStale, FailsToSet, HasBoth, HasContext, HasLeft, HasRange, IsFilled, LoadsValue, LoadsValueAt, Makes, Passes, Sets, TellsObject, TellsTarget};
 
@@ -10,9 +12,10 @@ use crate::arguments::{
     number_of,
 };
 use crate::held::{Held, on_open};
-use crate::own::on_own;
+use crate::own::{on_own, on_shared};
 use crate::parts::Object;
 use crate::status::{NULL, OK, status_of};
+use hd_ends::End;
 use hd_host::{Handle, Host, ObjectInfo};
 use std::alloc::Global;
 
@@ -64,7 +67,6 @@ pub extern "C" fn hdt_field_load(
 // The same, at an end of a shared host.
 #[inline(never)]
 fn field_load_shared(
-    alloc: Global,
     host: &mut Held,
     c: u32,
     dst: u32,
@@ -72,13 +74,16 @@ fn field_load_shared(
     i: u32,
     id: &mut u64,
     value: &mut u64,
+    mut end: Box<End>,
 ) -> u32
+    requires closed { host.old.value ≡ None }
+    requires shared { (e : EndView) × (end.value ≡ Shared e) }
     ensures { let command = cmd.Get dst object (field_number i) in
         Comes (HasLocals c dst object) (λ at. FailsIn (at c) command)
         (λ at. LoadsValue (at c) command dst id.new value.new)
-        ((id.new ≡ id.old) × (value.new ≡ value.old)) host.old.value host.new.value result }
+        ((id.new ≡ id.old) × (value.new ≡ value.old)) (Some end.value) host.new.value result }
 {
-    on_open!(alloc, host, in c, field_load(dst, object, i, id, value) if has_locals(dst, object))
+    on_shared!(host, end, in c, field_load(dst, object, i, id, value) if has_locals(dst, object))
 }
 
 // Loads the target of a handle, with its value.
@@ -120,20 +125,22 @@ pub extern "C" fn hdt_handle_load(
 // The same, at an end of a shared host.
 #[inline(never)]
 fn handle_load_shared(
-    alloc: Global,
     host: &mut Held,
     c: u32,
     handle: u64,
     dst: u32,
     id: &mut u64,
     value: &mut u64,
+    mut end: Box<End>,
 ) -> u32
+    requires closed { host.old.value ≡ None }
+    requires shared { (e : EndView) × (end.value ≡ Shared e) }
     ensures { let command = cmd.HGet dst 0 in
         Comes (HasLocal c dst) (λ at. FailsAt (at c) handle command)
         (λ at. LoadsValueAt (at c) handle command dst id.new value.new)
-        ((id.new ≡ id.old) × (value.new ≡ value.old)) host.old.value host.new.value result }
+        ((id.new ≡ id.old) × (value.new ≡ value.old)) (Some end.value) host.new.value result }
 {
-    on_open!(alloc, host, in c, handle_load(handle, dst, id, value) if has_local(dst))
+    on_shared!(host, end, in c, handle_load(handle, dst, id, value) if has_local(dst))
 }
 
 // Makes an object with its value and its fields.
@@ -183,7 +190,6 @@ pub extern "C" fn hdt_object_make(
 // The same, at an end of a shared host.
 #[inline(never)]
 fn object_make_shared(
-    alloc: Global,
     host: &mut Held,
     c: u32,
     dst: u32,
@@ -191,13 +197,16 @@ fn object_make_shared(
     value: u64,
     src: &[u32],
     id: &mut u64,
+    mut end: Box<End>,
 ) -> u32
+    requires closed { host.old.value ≡ None }
+    requires shared { (e : EndView) × (end.value ≡ Shared e) }
     ensures { let command = cmd.New dst (length src.now) (flags == 1) in
         Comes (IsFilled c dst flags src.now) (λ at. FailsIn (at c) command)
-        (λ at. Makes (at c) dst flags value src.now id.new) (id.new ≡ id.old) host.old.value
+        (λ at. Makes (at c) dst flags value src.now id.new) (id.new ≡ id.old) (Some end.value)
         host.new.value result }
 {
-    on_open!(alloc, host, in c, object_make(dst, flags, value, src, id) if is_filled(dst, flags, src))
+    on_shared!(host, end, in c, object_make(dst, flags, value, src, id) if is_filled(dst, flags, src))
 }
 
 // Passes a reference to a context.
@@ -231,19 +240,21 @@ pub extern "C" fn hdt_local_pass(
 // The same, at an end of a shared host.
 #[inline(never)]
 fn local_pass_shared(
-    alloc: Global,
     host: &mut Held,
     to: u32,
     from: u32,
     dst: u32,
     src: u32,
     id: &mut u64,
+    mut end: Box<End>,
 ) -> u32
+    requires closed { host.old.value ≡ None }
+    requires shared { (e : EndView) × (end.value ≡ Shared e) }
     ensures { Comes (HasBoth to from dst src) (λ at. NeverFails)
-        (λ at. Passes (at to) (at from) dst src id.new) (id.new ≡ id.old) host.old.value
+        (λ at. Passes (at to) (at from) dst src id.new) (id.new ≡ id.old) (Some end.value)
         host.new.value result }
 {
-    on_open!(alloc, host, in to and from, local_pass(dst, src, id) if has_both(dst, src))
+    on_shared!(host, end, in to and from, local_pass(dst, src, id) if has_both(dst, src))
 }
 
 // Clears locals of a context.
@@ -272,11 +283,13 @@ pub extern "C" fn hdt_locals_clear(
 
 // The same, at an end of a shared host.
 #[inline(never)]
-fn locals_clear_shared(alloc: Global, host: &mut Held, c: u32, first: u32, n: u32) -> u32
+fn locals_clear_shared(host: &mut Held, c: u32, first: u32, n: u32, mut end: Box<End>) -> u32
+    requires closed { host.old.value ≡ None }
+    requires shared { (e : EndView) × (end.value ≡ Shared e) }
     ensures { Comes (HasRange c first n) (λ at. NeverFails) (λ at. ClearsLocals (at c) first n)
-        KeepsNothing host.old.value host.new.value result }
+        KeepsNothing (Some end.value) host.new.value result }
 {
-    on_open!(alloc, host, in c, locals_clear(first, n) if has_range(first, n))
+    on_shared!(host, end, in c, locals_clear(first, n) if has_range(first, n))
 }
 
 // How many objects a context may still make.

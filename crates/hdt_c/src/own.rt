@@ -16,10 +16,7 @@ macro_rules! on_own {
                 $crate::held::put($held, end);
                 status
             }
-            hd_ends::End::Shared(_) => {
-                $crate::held::put($held, end);
-                $shared($alloc, $held, $c, $($d,)? $($argument),+)
-            }
+            hd_ends::End::Shared(_) => $shared($held, $c, $($d,)? $($argument),+, end),
         }
     }};
     ($alloc:ident, $held:ident, $call:ident($($argument:ident),+), else $shared:ident) => {{
@@ -32,12 +29,49 @@ macro_rules! on_own {
                 $crate::held::put($held, end);
                 status
             }
-            hd_ends::End::Shared(_) => {
-                $crate::held::put($held, end);
-                $shared($alloc, $held, $($argument),+)
-            }
+            hd_ends::End::Shared(_) => $shared($held, $($argument),+, end),
         }
     }};
 }
 
 pub(crate) use on_own;
+
+/// Calls a function on the host of an end of a shared host, which was taken out and is put back, at
+/// its turn, where the arguments are in range, and returns its status.
+macro_rules! on_shared {
+    ($held:ident, $end:ident, in $c:ident $(and $d:ident)?, $call:ident($($argument:ident),+)
+        if $check:ident($($asked:ident),+)) => {{
+        let hd_ends::End::Shared(shared) = &mut *$end else {
+            unreachable!()
+        };
+        if !$check(shared.sharer.contexts(), $c, $($d,)? $($asked),+) {
+            $crate::held::put($held, $end);
+            return $crate::status::ARGUMENT;
+        }
+        let at = shared.sharer.first() + $c;
+        $(let $d = shared.sharer.first() + $d;)?
+        if !shared.sharer.enter() {
+            $crate::held::put($held, $end);
+            return $crate::status::BUSY;
+        }
+        let status = $call(shared.sharer.host(), at, $($d,)? $($argument),+);
+        shared.sharer.leave();
+        $crate::held::put($held, $end);
+        status
+    }};
+    ($held:ident, $end:ident, $call:ident($($argument:ident),+)) => {{
+        let hd_ends::End::Shared(shared) = &mut *$end else {
+            unreachable!()
+        };
+        if !shared.sharer.enter() {
+            $crate::held::put($held, $end);
+            return $crate::status::BUSY;
+        }
+        let status = $call(shared.sharer.host(), $($argument),+);
+        shared.sharer.leave();
+        $crate::held::put($held, $end);
+        status
+    }};
+}
+
+pub(crate) use on_shared;

@@ -16,15 +16,15 @@ returns-then-not-has_local-2 c =
     wrong_shared c.in-Some.ensures.value c.deref_mut.ensures.value c.in-Shared.is c.shared.view_is
     c.put-then-not-has_local-2.ensures c.contexts-in-Shared.ensures c.if-not-has_local-2.ensures.no tt
 
-pub returns-in_default-enter : goal.returns-in_default-enter
-returns-in_default-enter c =
+pub returns-then-not-enter : goal.returns-then-not-enter
+returns-then-not-enter c =
     was_busy c.in-Some.ensures.value c.deref_mut.ensures.value c.in-Shared.is c.shared.view_is
-    c.in_default-enter.ensures.busy c.put-in_default-enter.ensures c.contexts-in-Shared.ensures
+    c.if-not-enter.ensures.busy c.put-then-not-enter.ensures c.contexts-in-Shared.ensures
     c.if-not-has_local-2.ensures.yes tt
 
 pub leave-requires-clause-turn : goal.leave-requires-clause-turn
 leave-requires-clause-turn c =
-    leaves_by c.in-Some-enter.ensures.taken c.deref_mut-in-Shared.ensures.value (turn_by (λ did. turn_replied
+    leaves_by c.if-not-enter.ensures.taken c.host.ensures.value (turn_by (λ did. turn_replied
     _ _ (inr refl) did.1) c.table_remove-status-in-Shared.ensures)
 
 pub returns-else-not-has_local : goal.returns-else-not-has_local
@@ -32,9 +32,9 @@ returns-else-not-has_local c =
     ran_own c.in-Some.ensures.value c.deref_mut.ensures.value c.in-Own.is c.put-in-Own.ensures
     c.contexts.ensures.value c.if-not-has_local.ensures.yes c.table_remove-status.ensures
 
-pub returns-in-Some-enter : goal.returns-in-Some-enter
-returns-in-Some-enter c =
+pub returns-else-not-enter : goal.returns-else-not-enter
+returns-else-not-enter c =
     ran_shared c.in-Some.ensures.value c.deref_mut.ensures.value c.in-Shared.is c.shared.view_is
     c.put-in-Shared.ensures c.contexts-in-Shared.ensures c.if-not-has_local-2.ensures.yes
-    c.first.ensures.value c.in-Some-enter.ensures.taken c.leave.ensures c.deref_mut-in-Shared.ensures.value
+    c.first.ensures.value c.if-not-enter.ensures.taken c.leave.ensures c.host.ensures.value
     c.table_remove-status-in-Shared.ensures

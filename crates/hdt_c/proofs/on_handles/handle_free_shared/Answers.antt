@@ -1,28 +1,20 @@
-use Rattle.std.proofs.Common.{refl, sym}
+use Rattle.std.proofs.Common.{refl}
 use Rattle.hd_host.proofs.CallTurns.{turn_freed}
-use Rattle.hdt_c.proofs.Comings.{leaves_by, ran_own, ran_shared, shut, turn_by, was_busy}
+use Rattle.hdt_c.proofs.Comings.{leaves_by, ran_shared, turn_by, was_busy}
 use Rattle.hdt_c.proofs.on_handles.handle_free_shared.Goals as goal
 
-pub returns-in_default : goal.returns-in_default
-returns-in_default c = shut tt (sym c.in_default.ensures.value) c.take.ensures.closed refl
-
-pub returns-in_default-enter : goal.returns-in_default-enter
-returns-in_default-enter c =
-    was_busy c.in-Some.ensures.value c.deref_mut.ensures.value c.in-Shared.is c.shared.view_is
-    c.in_default-enter.ensures.busy c.put-in_default-enter.ensures refl tt tt
+pub returns-then-not-enter : goal.returns-then-not-enter
+returns-then-not-enter c =
+    was_busy refl c.deref_mut.ensures.value c.in-Shared.is c.shared.view_is
+    c.if-not-enter.ensures.busy c.put.ensures refl tt tt
 
 pub leave-requires-clause-turn : goal.leave-requires-clause-turn
 leave-requires-clause-turn c =
-    leaves_by c.in-Some-enter.ensures.taken c.deref_mut-in-Shared.ensures.value (turn_by (λ did. turn_freed _
-    _ did.0) c.handle_free-status-in-Shared.ensures)
+    leaves_by c.if-not-enter.ensures.taken c.host.ensures.value (turn_by (λ did. turn_freed _
+    _ did.0) c.handle_free-status.ensures)
 
-pub returns-in-Own : goal.returns-in-Own
-returns-in-Own c =
-    ran_own c.in-Some.ensures.value c.deref_mut.ensures.value c.in-Own.is c.put.ensures refl tt
-    c.handle_free-status.ensures
-
-pub returns-in-Some-enter : goal.returns-in-Some-enter
-returns-in-Some-enter c =
-    ran_shared c.in-Some.ensures.value c.deref_mut.ensures.value c.in-Shared.is c.shared.view_is
-    c.put-in-Shared.ensures refl tt refl c.in-Some-enter.ensures.taken c.leave.ensures
-    c.deref_mut-in-Shared.ensures.value c.handle_free-status-in-Shared.ensures
+pub returns : goal.returns
+returns c =
+    ran_shared refl c.deref_mut.ensures.value c.in-Shared.is c.shared.view_is
+    c.put-2.ensures refl tt refl c.if-not-enter.ensures.taken c.leave.ensures
+    c.host.ensures.value c.handle_free-status.ensures

@@ -10,7 +10,8 @@ returns-in-Own c =
     ran_own c.in-Some.ensures.value c.deref_mut.ensures.value c.in-Own.is c.put.ensures refl tt
     c.handle_free-status.ensures
 
+pub handle_free_shared-requires-clause-shared : goal.handle_free_shared-requires-clause-shared
+handle_free_shared-requires-clause-shared c = (_, c.in-Shared.is)
+
 pub returns-in-Shared : goal.returns-in-Shared
-returns-in-Shared c =
-    went_on (c.put-in-Shared.ensures ∙ ap Some c.deref_mut.ensures.value) c.in-Some.ensures.value
-    c.handle_free_shared.ensures
+returns-in-Shared c = went_on (ap Some c.deref_mut.ensures.value ∙ c.in-Some.ensures.value) c.handle_free_shared.ensures

@@ -15,7 +15,8 @@ returns-else-not-is_new_handle c =
     ran_own c.in-Some.ensures.value c.deref_mut.ensures.value c.in-Own.is c.put-in-Own.ensures
     c.contexts.ensures.value c.if-not-is_new_handle.ensures.yes c.handle_new-status.ensures
 
+pub handle_new_shared-requires-clause-shared : goal.handle_new_shared-requires-clause-shared
+handle_new_shared-requires-clause-shared c = (_, c.in-Shared.is)
+
 pub returns-in-Shared : goal.returns-in-Shared
-returns-in-Shared c =
-    went_on (c.put-in-Shared.ensures ∙ ap Some c.deref_mut.ensures.value) c.in-Some.ensures.value
-    c.handle_new_shared.ensures
+returns-in-Shared c = went_on (ap Some c.deref_mut.ensures.value ∙ c.in-Some.ensures.value) c.handle_new_shared.ensures

@@ -10,14 +10,14 @@ pub returns-then-not-is_strength : goal.returns-then-not-is_strength
 returns-then-not-is_strength c =
     wrong (sym c.in-Some.ensures.value) c.put.ensures c.if-not-is_strength.ensures.no tt
 
-pub returns-in_default-enter : goal.returns-in_default-enter
-returns-in_default-enter c =
+pub returns-then-not-enter : goal.returns-then-not-enter
+returns-then-not-enter c =
     was_busy c.in-Some.ensures.value c.deref_mut.ensures.value c.in-Shared.is c.shared.view_is
-    c.in_default-enter.ensures.busy c.put-in_default-enter.ensures refl c.if-not-is_strength.ensures.yes tt
+    c.if-not-enter.ensures.busy c.put-then-not-enter.ensures refl c.if-not-is_strength.ensures.yes tt
 
 pub leave-requires-clause-turn : goal.leave-requires-clause-turn
 leave-requires-clause-turn c =
-    leaves_by c.in-Some-enter.ensures.taken c.deref_mut-in-Shared.ensures.value (turn_by (λ did.
+    leaves_by c.if-not-enter.ensures.taken c.host.ensures.value (turn_by (λ did.
     turn_replied_of _ _ (inr refl) did.2.0) c.strength_set-status-in-Shared.ensures)
 
 pub returns-in-Own : goal.returns-in-Own
@@ -25,8 +25,8 @@ returns-in-Own c =
     ran_own c.in-Some.ensures.value c.deref_mut.ensures.value c.in-Own.is c.put-in-Own.ensures refl
     c.if-not-is_strength.ensures.yes c.strength_set-status.ensures
 
-pub returns-in-Some-enter : goal.returns-in-Some-enter
-returns-in-Some-enter c =
+pub returns-else-not-enter : goal.returns-else-not-enter
+returns-else-not-enter c =
     ran_shared c.in-Some.ensures.value c.deref_mut.ensures.value c.in-Shared.is c.shared.view_is
-    c.put-in-Shared.ensures refl c.if-not-is_strength.ensures.yes refl c.in-Some-enter.ensures.taken
-    c.leave.ensures c.deref_mut-in-Shared.ensures.value c.strength_set-status-in-Shared.ensures
+    c.put-in-Shared.ensures refl c.if-not-is_strength.ensures.yes refl c.if-not-enter.ensures.taken
+    c.leave.ensures c.host.ensures.value c.strength_set-status-in-Shared.ensures

@@ -10,15 +10,15 @@ pub returns-then-not-is_generation : goal.returns-then-not-is_generation
 returns-then-not-is_generation c =
     wrong (sym c.in-Some.ensures.value) c.put.ensures c.if-not-is_generation.ensures.no refl
 
-pub returns-in_default-enter : goal.returns-in_default-enter
-returns-in_default-enter c =
+pub returns-then-not-enter : goal.returns-then-not-enter
+returns-then-not-enter c =
     was_busy c.in-Some.ensures.value c.deref_mut.ensures.value c.in-Shared.is c.shared.view_is
-    c.in_default-enter.ensures.busy c.put-in_default-enter.ensures refl c.if-not-is_generation.ensures.yes
+    c.if-not-enter.ensures.busy c.put-then-not-enter.ensures refl c.if-not-is_generation.ensures.yes
     refl
 
 pub leave-requires-clause-turn : goal.leave-requires-clause-turn
 leave-requires-clause-turn c =
-    leaves_by c.in-Some-enter.ensures.taken c.deref_mut-in-Shared.ensures.value (turn_by (λ did. turn_replied
+    leaves_by c.if-not-enter.ensures.taken c.host.ensures.value (turn_by (λ did. turn_replied
     _ _ (inr refl) did.0) c.collect-status-in-Shared.ensures)
 
 pub returns-in-Own : goal.returns-in-Own
@@ -26,8 +26,8 @@ returns-in-Own c =
     ran_own c.in-Some.ensures.value c.deref_mut.ensures.value c.in-Own.is c.put-in-Own.ensures refl
     c.if-not-is_generation.ensures.yes c.collect-status.ensures
 
-pub returns-in-Some-enter : goal.returns-in-Some-enter
-returns-in-Some-enter c =
+pub returns-else-not-enter : goal.returns-else-not-enter
+returns-else-not-enter c =
     ran_shared c.in-Some.ensures.value c.deref_mut.ensures.value c.in-Shared.is c.shared.view_is
-    c.put-in-Shared.ensures refl c.if-not-is_generation.ensures.yes refl c.in-Some-enter.ensures.taken
-    c.leave.ensures c.deref_mut-in-Shared.ensures.value c.collect-status-in-Shared.ensures
+    c.put-in-Shared.ensures refl c.if-not-is_generation.ensures.yes refl c.if-not-enter.ensures.taken
+    c.leave.ensures c.host.ensures.value c.collect-status-in-Shared.ensures

@@ -15,7 +15,8 @@ returns-else-not-is_object c =
     ran_own c.in-Some.ensures.value c.deref_mut.ensures.value c.in-Own.is c.put-in-Own.ensures
     c.contexts.ensures.value c.if-not-is_object.ensures.yes c.object_new-status.ensures
 
+pub object_new_shared-requires-clause-shared : goal.object_new_shared-requires-clause-shared
+object_new_shared-requires-clause-shared c = (_, c.in-Shared.is)
+
 pub returns-in-Shared : goal.returns-in-Shared
-returns-in-Shared c =
-    went_on (c.put-in-Shared.ensures ∙ ap Some c.deref_mut.ensures.value) c.in-Some.ensures.value
-    c.object_new_shared.ensures
+returns-in-Shared c = went_on (ap Some c.deref_mut.ensures.value ∙ c.in-Some.ensures.value) c.object_new_shared.ensures

@@ -15,7 +15,8 @@ returns-else-not-is_filled c =
     ran_own c.in-Some.ensures.value c.deref_mut.ensures.value c.in-Own.is c.put-in-Own.ensures
     c.contexts.ensures.value c.if-not-is_filled.ensures.yes c.object_make-status.ensures
 
+pub object_make_shared-requires-clause-shared : goal.object_make_shared-requires-clause-shared
+object_make_shared-requires-clause-shared c = (_, c.in-Shared.is)
+
 pub returns-in-Shared : goal.returns-in-Shared
-returns-in-Shared c =
-    went_on (c.put-in-Shared.ensures ∙ ap Some c.deref_mut.ensures.value) c.in-Some.ensures.value
-    c.object_make_shared.ensures
+returns-in-Shared c = went_on (ap Some c.deref_mut.ensures.value ∙ c.in-Some.ensures.value) c.object_make_shared.ensures
