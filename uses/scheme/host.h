@@ -7,10 +7,10 @@
  * the next context. If that was the last one, what the oldest has goes into an object until it is returned to. */
 #include "hdt.h"
 enum { LOCALS = 16, NULL_LOCAL = 15, PLACES = 15 }; /* the last local of a context is null between calls */
-enum { OF_PAIR = 30, OF_PROCEDURE = 22, OF_ONE = 58 }; /* bits of an immediate in an object's value .. */
-enum { AT_CODE = 3, AT_CAPTURED = 19, SORT = 3, PAYLOAD = 6, AT_BYTES = 31, SPILLED = 0 }; /* .. and where they are; a static */
+/* Where the parts of an object's value begin, above its tag. */
+enum { AT_HEAD = 3, AT_TAIL = 33, AT_CODE = 3, AT_FIRST = 19, AT_SECOND = 41, SORT = 3, PAYLOAD = 6, AT_BYTES = 31, END = 64 };
+enum { SPILLED = 0, YOUNG = 5000 }; /* a static; objects until the next collection: what follows is made where they were */
 enum sort { BOX, WRAPPED, GUARDIAN, GUARDED }; /* of OTHER: in the three bits above the tag */
-enum { YOUNG = 12000 }; /* so many objects later there is a collection: what follows is made where they were */
 
 /* A constant, or a global variable with its name: its handle is strong. */
 struct cell {
@@ -29,10 +29,9 @@ static hdt_host host = HDT_CLOSED_HOST;
 static struct {
     uint32_t cells, blocks, contexts;
     bool is_stressed; /* a collection before each object */
-} of_host = { 1000000, 64, 256, false };
+} of_host = { 4000000, 64, 256, false };
 static const hdt_local none[1] = { NULL_LOCAL };
-static word *words;       /* by slot */
-static uint8_t *live;     /* by context that was left for the next: how many of its places are in use */
+static word *words;       /* by slot; of a context that was left for the next, its last is how many of its places are in use */
 static word (*spilled)[LOCALS]; /* words of contexts whose references are in an object */
 static size_t spilled_room;
 static uint32_t contexts; /* that procedures have; the next one is for work of the memory itself */
@@ -41,33 +40,28 @@ static uint32_t oldest;   /* that is not spilled */
 static uint32_t newest, lowest; /* that were entered since dead places were cleared */
 static unsigned kept;     /* locals of the present context that a call is at work with */
 static struct note *notes;
-static uint32_t buckets[1024], symbol_count, young;
+static uint32_t buckets[1024], symbol_count, left; /* objects until the next collection */
 
 static inline hdt_context context_of(slot at) { return at / LOCALS; }
 static inline hdt_local local_of(slot at) { return at % LOCALS; }
+static inline unsigned live_in(hdt_context c) { return (unsigned)words[c * LOCALS + NULL_LOCAL]; }
 static inline uint32_t note_of(hdt_handle handle) { return handle & 0xffffff; }
 static inline void must(hdt_status status, const char *what) { if (status != HDT_OK) fail(what, hdt_status_name(status)); }
-/* An immediate in so many bits, of which the low two say which; 0 for a reference, and where it does not fit. */
-static inline word packed(word it, unsigned bits) {
-    int64_t number = (int64_t)it >> TAG_BITS, most = (int64_t)1 << (bits > 3 ? bits - 3 : 0);
-    if (bits == 0 || is_reference(it) || number < -most || number >= most) return 0;
-    return ((word)number << 2 | (1 + tag_of(it))) & (((word)1 << bits) - 1);
-}
-static inline word unpacked(word part, unsigned bits) {
-    int64_t number = (int64_t)(part << (64 - bits)) >> (66 - bits);
-    return (word)number << TAG_BITS | ((part & 3) - 1);
+/* A part of a value is the low bits of a word: an immediate that fits, or else a reference's tag, and it is in a field. */
+static inline word part_of(word value, unsigned at, unsigned end) {
+    return (word)((int64_t)(value << (END - end)) >> (END - end + at));
 }
 static inline word other(enum sort sort, word payload) { return payload << PAYLOAD | (word)sort << SORT | OTHER; }
 static inline bool is_a(word it, enum sort sort) { return (it & ((1 << PAYLOAD) - 1)) == ((word)sort << SORT | OTHER); }
+static inline word payload_of(word value) { return part_of(value, PAYLOAD, END); }
 /* The word of a slot whose local was just loaded with an object of this value. */
-static inline word word_of(uint64_t value) { return is_a(value, WRAPPED) ? unpacked(value >> PAYLOAD, OF_ONE) : value; }
+static inline word word_of(uint64_t value) { return is_a(value, WRAPPED) ? payload_of(value) : value; }
 
 /* ---- collections */
 /* Clears the locals of a context that are no references of the program: all from `used` on, and those with an immediate. */
 static void clear_context(hdt_context c, unsigned used, unsigned at_work) {
     for (unsigned at = 0, first = 0; at < LOCALS; at++) {
         bool is_live = (at < used && is_reference(words[c * LOCALS + at])) || (at_work >> at & 1);
-        if (!is_live && at >= used) words[c * LOCALS + at] = 0;
         if (!is_live && at < NULL_LOCAL) continue;
         unsigned end = is_live ? at : LOCALS;
         if (first < end) must(hdt_locals_clear(&host, c, first, end - first), "clear");
@@ -77,7 +71,7 @@ static void clear_context(hdt_context c, unsigned used, unsigned at_work) {
 /* What the program cannot come to any more is in no local. Contexts below the lowest that was entered are as they were. */
 static void clear_dead(slot top) {
     for (uint32_t one = lowest > oldest ? lowest : oldest; one < context; one++)
-        clear_context(one % contexts, live[one % contexts], 0);
+        clear_context(one % contexts, live_in(one % contexts), 0);
     clear_context(context % contexts, local_of(top), kept);
     for (uint32_t one = context + 1; one <= newest && one < oldest + contexts; one++) clear_context(one % contexts, 0, 0);
     clear_context(contexts, 0, 0);
@@ -120,14 +114,15 @@ static void forget_symbols(void) {
         }
     } while (from != 0);
 }
-/* A collection of the young objects; of all where that is asked, or more than half of the heap is still in use. */
+/* A collection of the young objects; of all if asked, or if over half of the heap is in use. If much stays, the next is later. */
 static void collect(slot top, bool is_full) {
     hdt_report report;
     hdt_stats_out stats;
-    clear_dead(top), young = 0;
+    clear_dead(top);
     if (!is_full) must(hdt_collect(&host, 0, &report), "a collection");
     must(hdt_stats(&host, &stats), "stats");
     if (is_full || stats.cells > of_host.cells / 2) must(hdt_collect(&host, 2, &report), "a full collection");
+    left = of_host.is_stressed ? 0 : YOUNG + 2 * (report.kept < YOUNG ? report.kept : YOUNG);
     finalize();
     forget_symbols();
 }
@@ -141,7 +136,7 @@ static void make_room(unsigned refusals) {
 static inline void make_object(slot dst, word value, uint32_t flags, const hdt_local *src, size_t fields) {
     hdt_id id;
     hdt_status status;
-    if (of_host.is_stressed || young++ == YOUNG) make_room(0);
+    if (left-- == 0) make_room(0);
     for (unsigned refusals = 0;; make_room(refusals++)) {
         status = hdt_object_make(&host, context_of(dst), local_of(dst), flags, value, src, fields, &id);
         if (status != HDT_HEAP_FULL) break;
@@ -149,7 +144,7 @@ static inline void make_object(slot dst, word value, uint32_t flags, const hdt_l
     must(status, "an object");
     words[dst] = value;
 }
-static inline void load(slot dst, slot object, uint32_t field) {
+static void load(slot dst, slot object, uint32_t field) {
     hdt_id id;
     uint64_t value;
     must(hdt_field_load(&host, context_of(dst), local_of(dst), local_of(object), field, &id, &value), "a field");
@@ -168,60 +163,73 @@ static inline void pass(slot dst, slot src) {
 /* The slot's own local references its immediate, until the call is done. */
 static void wrap(slot at) {
     word it = words[at];
-    make_object(at, other(WRAPPED, packed(it, OF_ONE)), 0, none, 0);
+    make_object(at, other(WRAPPED, it), 0, none, 0);
     words[at] = it;
     kept |= 1u << local_of(at);
 }
-/* An object of parts: the first two are immediate in its value where they fit, from bit `at` on; the others are its fields. */
-static inline void make(slot dst, word value, unsigned at, unsigned bits, slot base, const uint32_t *from, unsigned count) {
+/* The part for what a slot has, which is in the next field if it is no immediate that fits. */
+static inline word put(slot from, unsigned at, unsigned end, hdt_local *src, size_t *fields) {
+    word it = words[from];
+    if (is_reference(it) || part_of(it << at, at, end) != it) {
+        if (!is_reference(it)) wrap(from), it = OTHER;
+        src[(*fields)++] = local_of(from);
+    }
+    return it << at & ~(word)0 >> (END - end);
+}
+static inline void get(slot dst, slot object, word part, uint32_t field) {
+    if (is_reference(part)) load(dst, object, field);
+    else words[dst] = part;
+}
+static void make_pair(slot dst, slot head, slot tail) {
+    hdt_local src[2];
+    size_t fields = 0;
+    word value = PAIR | put(head, AT_HEAD, AT_TAIL, src, &fields);
+    value |= put(tail, AT_TAIL, END, src, &fields);
+    make_object(dst, value, 0, src, fields);
+    kept = 0;
+}
+static inline void head_of(slot dst, slot pair) { get(dst, pair, part_of(words[pair], AT_HEAD, AT_TAIL), 0); }
+static inline void tail_of(slot dst, slot pair) {
+    get(dst, pair, part_of(words[pair], AT_TAIL, END), is_reference(words[pair] >> AT_HEAD));
+}
+/* What it captures from the third on is in fields alone. */
+static void make_procedure(slot dst, uint32_t code, slot base, const uint32_t *captured, unsigned count) {
     hdt_local src[PLACES];
     size_t fields = 0;
-    for (unsigned i = 0; i < count; i++) {
-        slot one = base + from[i];
-        word part = packed(words[one], i < 2 ? bits : 0);
-        if (part != 0) value |= part << (at + i * bits);
-        else if (!is_reference(words[one])) wrap(one);
-        if (part == 0) src[fields++] = local_of(one);
+    word value = (word)code << AT_CODE | PROCEDURE;
+    if (count > 0) value |= put(base + captured[0], AT_FIRST, AT_SECOND, src, &fields);
+    if (count > 1) value |= put(base + captured[1], AT_SECOND, END, src, &fields);
+    for (unsigned i = 2; i < count; i++) {
+        if (!is_reference(words[base + captured[i]])) wrap(base + captured[i]);
+        src[fields++] = local_of(base + captured[i]);
     }
     make_object(dst, value, 0, src, fields);
     kept = 0;
 }
-static inline void get(slot dst, slot object, unsigned i, unsigned at, unsigned bits) {
-    word mask = ((word)1 << bits) - 1, first = words[object] >> at & mask, second = words[object] >> (at + bits) & mask;
-    word part = i == 0 ? first : i == 1 ? second : 0;
-    if (part != 0) words[dst] = unpacked(part, bits);
-    else load(dst, object, i - (i > 0 && first != 0) - (i > 1 && second != 0));
-}
-static inline void make_pair(slot dst, slot head, slot tail) {
-    const slot from[2] = { head, tail };
-    make(dst, PAIR, TAG_BITS, OF_PAIR, 0, from, 2);
-}
-static inline void head_of(slot dst, slot pair) { get(dst, pair, 0, TAG_BITS, OF_PAIR); }
-static inline void tail_of(slot dst, slot pair) { get(dst, pair, 1, TAG_BITS, OF_PAIR); }
-static void make_procedure(slot dst, uint32_t code, slot base, const uint32_t *captured, unsigned count) {
-    make(dst, (word)code << AT_CODE | PROCEDURE, AT_CAPTURED, OF_PROCEDURE, base, captured, count);
-}
 static inline uint32_t code_of(slot procedure) { return words[procedure] >> AT_CODE & 0xffff; }
-static inline void captured_of(slot dst, slot procedure, unsigned i) { get(dst, procedure, i, AT_CAPTURED, OF_PROCEDURE); }
+static inline void captured_of(slot dst, slot procedure, unsigned i) {
+    const word it = words[procedure], first = it >> AT_FIRST, second = it >> AT_SECOND;
+    if (i == 0) get(dst, procedure, part_of(it, AT_FIRST, AT_SECOND), 0);
+    else if (i == 1) get(dst, procedure, part_of(it, AT_SECOND, END), is_reference(first));
+    else load(dst, procedure, is_reference(first) + is_reference(second) + i - 2);
+}
 /* A box has the value of a variable that is captured and set: immediate, or in its field. One in `dst` was just loaded. */
 static void make_box(slot dst, slot src) {
-    word part = packed(words[src], OF_ONE);
-    const hdt_local from[1] = { part == 0 ? local_of(src) : NULL_LOCAL };
-    make_object(dst, other(BOX, part), 0, from, 1);
+    const hdt_local from[1] = { is_reference(words[src]) ? local_of(src) : NULL_LOCAL };
+    make_object(dst, other(BOX, words[src]), 0, from, 1);
 }
 static inline void box_get(slot dst, slot box) {
     uint64_t value = words[box];
     if (dst != box) must(hdt_value_get(&host, context_of(box), local_of(box), &value), "a variable");
-    if (value >> PAYLOAD != 0) words[dst] = unpacked(value >> PAYLOAD, OF_ONE);
-    else load(dst, box, 0);
+    get(dst, box, payload_of(value), 0);
 }
 static void box_set(slot box, slot src) {
     uint64_t value;
-    word part = packed(words[src], OF_ONE);
+    bool is_object = is_reference(words[src]);
     must(hdt_value_get(&host, context_of(box), local_of(box), &value), "a variable");
-    must(hdt_value_set(&host, context_of(box), local_of(box), other(BOX, part)), "a variable");
-    if (part != 0 && value >> PAYLOAD != 0) return;
-    must(hdt_field_set(&host, context_of(box), local_of(box), 0, part != 0 ? NULL_LOCAL : local_of(src)), "a variable");
+    must(hdt_value_set(&host, context_of(box), local_of(box), other(BOX, words[src])), "a variable");
+    if (is_object || is_reference(payload_of(value)))
+        must(hdt_field_set(&host, context_of(box), local_of(box), 0, is_object ? local_of(src) : NULL_LOCAL), "a variable");
 }
 static bool is_same(slot one, slot another) {
     hdt_id first = words[one], second = words[another];
@@ -241,8 +249,7 @@ static void spill(void) {
     hdt_status status;
     if (oldest >= spilled_room) spilled = (word(*)[LOCALS])grown(spilled, &spilled_room, sizeof *spilled);
     memcpy(spilled[oldest], &words[c * LOCALS], sizeof *spilled);
-    spilled[oldest][NULL_LOCAL] = live[c];
-    for (hdt_local at = 0; at < live[c]; at++)
+    for (hdt_local at = 0; at < live_in(c); at++)
         if (is_reference(words[c * LOCALS + at])) src[fields++] = at;
     src[fields++] = NULL_LOCAL;
     for (unsigned refusals = 0;; make_room(refusals++)) {
@@ -260,9 +267,8 @@ static void restore(void) {
     hdt_id id;
     uint32_t field = 0;
     memcpy(&words[c * LOCALS], spilled[oldest], sizeof *spilled);
-    live[c] = (uint8_t)spilled[oldest][NULL_LOCAL];
     must(hdt_static_get(&host, c, NULL_LOCAL, SPILLED, &id), "frames");
-    for (hdt_local at = 0; at < live[c]; at++)
+    for (hdt_local at = 0; at < live_in(c); at++)
         if (is_reference(words[c * LOCALS + at])) must(hdt_field_get(&host, c, at, NULL_LOCAL, field++, &id), "a frame");
     must(hdt_field_get(&host, c, NULL_LOCAL, NULL_LOCAL, field, &id), "frames");
     must(hdt_static_set(&host, c, SPILLED, NULL_LOCAL), "frames");
@@ -271,10 +277,10 @@ static void restore(void) {
 /* Of a callee whose places do not fit: the next context, to which its procedure and arguments are passed. */
 static slot next_context(slot base, unsigned count) {
     if (context + 1 == oldest + contexts) spill();
-    live[context_of(base)] = (uint8_t)local_of(base);
+    words[base - local_of(base) + NULL_LOCAL] = local_of(base);
     context++;
     if (context > newest) newest = context;
-    slot to = context % contexts * LOCALS;
+    slot to = context_of(base) + 1 == contexts ? 0 : (context_of(base) + 1) * LOCALS;
     for (unsigned i = 0; i < count; i++) pass(to + i, base + i);
     return to;
 }
@@ -364,9 +370,7 @@ static void make_symbol(slot dst, const char *name) {
     *bucket_of(name) = note_of(handle);
     symbol_count++;
 }
-static void make_guardian(slot dst) {
-    make_object(dst, other(GUARDIAN, 0), 0, none, 1);
-}
+static void make_guardian(slot dst) { make_object(dst, other(GUARDIAN, 0), 0, none, 1); }
 static bool is_guardian(slot at) { return is_a(words[at], GUARDIAN); }
 /* What is finalized when `object` cannot be reached has it and its guardian, and is kept by it alone, over a dependent handle. */
 static void guard(slot guardian, slot object) {
@@ -416,12 +420,11 @@ static void memory_open(void) {
     hdt_limits limits = { of_host.cells, of_host.blocks, of_host.contexts };
     must(hdt_open(&host, &limits), "a host");
     words = (word *)calloc(of_host.contexts * LOCALS, sizeof *words);
-    live = (uint8_t *)calloc(of_host.contexts, sizeof *live);
     notes = (struct note *)calloc((of_host.blocks + 1) * 64, sizeof *notes);
-    if (words == NULL || live == NULL || notes == NULL) fail("no memory", "");
+    if (words == NULL || notes == NULL) fail("no memory", "");
 }
 static void memory_close(void) {
     for (uint32_t i = 0; i < (of_host.blocks + 1) * 64; i++) free(notes[i].name);
     hdt_close(&host);
-    free(notes), free(spilled), free(live), free(words);
+    free(notes), free(spilled), free(words);
 }

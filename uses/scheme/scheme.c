@@ -12,7 +12,7 @@
 typedef uint64_t word;
 typedef uint32_t slot; /* a place, of which words[place] is what it has */
 enum tag { INTEGER, SPECIAL, PAIR, PROCEDURE, STRING, SYMBOL, OTHER, TAG_BITS = 3 };
-enum special { CONSTANT, CODE, PRIMITIVE, KIND = 17 + TAG_BITS }; /* kinds of special words, and where the kind is */
+enum special { CONSTANT, CODE, PRIMITIVE, KIND = 16 + TAG_BITS }; /* kinds of special words, and where the kind is */
 enum { MOST_TEXT = 4096 }; /* bytes of a string or a name, and a zero */
 #define SPECIAL_OF(kind, number) ((word)(kind) << KIND | (word)(number) << TAG_BITS | SPECIAL)
 static const word NIL = SPECIAL_OF(CONSTANT, 0), FALSE = SPECIAL_OF(CONSTANT, 1), TRUE = SPECIAL_OF(CONSTANT, 2),
@@ -234,7 +234,7 @@ static size_t code_count, code_room, cell_count, cell_room;
 static void emit(struct scope *s, unsigned operation, unsigned a, unsigned b, unsigned c) {
     struct code *code = &codes[s->code];
     if (code->count == code->room) code->words = (uint32_t *)grown(code->words, &code->room, sizeof *code->words);
-    if (code->count > 0xffff || b > 0xffff) fail("too much code", "");
+    if (code->count > 0xffff || b > 0xffff || code_count > 0x10000) fail("too much code", "");
     code->words[code->count++] = operation | a << 8 | b << 16 | c << 24;
 }
 /* A jump whose end is not known yet, and its end. */
