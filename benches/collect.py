@@ -1,5 +1,6 @@
 #!/usr/bin/env python3
-"""collect.py PROGRAM [OLDER]: what collections and lookups cost, in instructions (callgrind) and in time of the processor.
+"""collect.py [--counts | --times] PROGRAM [OLDER]: what collections and lookups cost, in instructions (callgrind) and in time of the
+processor; or in instructions alone, or the rows of collections in time alone.
 
 It is what a script takes more than another without them. Times are the least and the median of some runs of all programs in turn.
 CoreCLR's collections stand beside them where `conformance/coreclr/machine/build` made its program; it compacts in each, and times
@@ -85,9 +86,9 @@ def most_of_coreclr(name):
 
 def faults(row, counts, times, has_older, has_coreclr):
     """What of a row is not as asked."""
-    if counts[0] > ASKED.get(row.name, counts[0]):
+    if counts and counts[0] > ASKED.get(row.name, counts[0]):
         yield f"{row.name}: {counts[0]:,.0f} instructions, {ASKED[row.name]:,} are asked"
-    if has_older and counts[0] > DEARER * counts[1]:
+    if counts and has_older and counts[0] > DEARER * counts[1]:
         yield f"{row.name}: {counts[0]:,.0f} instructions, {counts[1]:,.0f} by the older program"
     for what, ours, theirs in zip(("least", "median"), times[0], times[-1]) if has_coreclr and times else ():
         if ours > most_of_coreclr(row.name) * theirs:
@@ -100,18 +101,21 @@ def show(name, counts, times, columns):
     print("|", " | ".join([name] + written), "|", flush=True)
 
 
-def measure(programs, coreclr, row, paths):
+def measure(programs, coreclr, row, paths, ways):
     """The counts of a row and its times, by each program and, where it is a row of collections alone, by CoreCLR's."""
     for path in paths:
         if len({text_of(program, path) for program in programs}) > 1:
             sys.exit(f"the programs print different texts: {row.name}")
     beside = coreclr if row.collects else None
-    return counted(programs, beside, row, paths), timed(programs, beside, row, paths) if row.timed else []
+    counts = counted(programs, beside, row, paths) if "--counts" in ways else []
+    return counts, timed(programs, beside, row, paths) if row.timed and "--times" in ways else []
 
 
-def main(programs):
-    if len(programs) not in (1, 2):
-        sys.exit("usage: collect.py PROGRAM [OLDER]")
+def main(words):
+    programs = [word for word in words if not word.startswith("--")]
+    ways = [word for word in words if word.startswith("--")] or ["--counts", "--times"]
+    if len(programs) not in (1, 2) or not {*ways} <= {"--counts", "--times"}:
+        sys.exit("usage: collect.py [--counts | --times] PROGRAM [OLDER]")
     coreclr = place.coreclr() if os.path.exists(place.NOTE) else None
     names = [os.path.basename(program) for program in programs] + (["CoreCLR"] if coreclr else [])
     heads = [f"instructions, {name}" for name in names] + [f"µs, {name}: least, median" for name in names]
@@ -120,7 +124,9 @@ def main(programs):
     wrong, between = [], []
     with tempfile.TemporaryDirectory() as folder:
         for row, paths in scripts.write_all(folder):
-            counts, times = measure(programs, coreclr, row, paths)
+            if "--counts" not in ways and not (row.timed and row.collects):
+                continue
+            counts, times = measure(programs, coreclr, row, paths, ways)
             show(row.name, counts, times, len(names))
             wrong += faults(row, counts, times, len(programs) > 1, coreclr is not None and row.collects)
             between += [] if row.timed else [counts]

@@ -1,10 +1,12 @@
 #!/usr/bin/env python3
-"""gate.py OLD NEW [--coreclr PROGRAM]: what callers at the gate cost, by two builds of hdt in turn, beside what is asked.
+"""gate.py OLD NEW [--coreclr PROGRAM] [--only PART..]: what callers at the gate cost, by two builds of hdt in turn, beside what is
+asked.
 
-It prints the load with four, two and one processors; the futex calls of loads; `run` of one caller beside `solo`, with its
-instructions; how many collections a caller waits through that drops beside one that collects; and 1,000 replays by each build.
+The parts: `loads`, with four, two and one processors; `futexes`, their calls of the system; `lone`, `run` of one caller beside
+`solo`, with its instructions; `starving`, how many collections a caller waits through that drops beside one that collects, at
+real-time priority, where it has a processor whenever it can run, and as this is called; and `replays`, 1,000 by each build.
 CoreCLR's load is in turn with both, where its program is given or `conformance/coreclr/machine/build` made one. It needs perf or
-strace, valgrind and taskset, and nothing else running. The status is 1 where something is not as asked."""
+strace, valgrind, taskset and chrt, and nothing else running. The status is 1 where something is not as asked."""
 import argparse
 import os
 import re
@@ -20,23 +22,21 @@ TOP = os.path.dirname(HERE)
 RUNS = 15
 FUTEX_RUNS = 12
 STARVING_RUNS = 60
+# Of the older build, of which nothing is asked.
+OLD_STARVING_RUNS = 6
 DROPS = 100_000
 REPLAYS = 1_000
 PROCESSORS = {4: "0-3", 2: "0,1", 1: "0"}
 LOAD = "load callers 4 commands 96748 made 12000 live 0 collections 748 sum 18006000\n"
 # What is asked: the load to the old one's, the ratio to CoreCLR to the old one's, futex calls, `run` to `solo`, instructions of
-# `run` to the old one's, collections between two lines of one caller: of the first
-# four the median, of futex calls and collections the most.
+# `run` to the old one's, collections between two lines of one caller: of futex calls and collections the most, of the others the
+# median.
 LOADS_ASKED = {4: 0.62, 2: 0.8}
 RATIO_ASKED = 0.6
 FUTEX_ASKED = 1_000
 RUN_ASKED = 1.25
 INSTRUCTIONS_ASKED = 1.03
 COLLECTIONS_ASKED = 20
-# Where threads waited longer for a processor, in milliseconds, or the host of a virtual machine took more of the processors, a run
-# says nothing of how a caller waits at the gate.
-WAITED_MOST = 10
-TAKEN_MOST = 10
 
 
 class Asked:
@@ -118,7 +118,7 @@ def loads(asked, old, new, coreclr):
             asked.row("the same, to CoreCLR", f"{by_old:.2f}", f"{by_new:.2f}", "1", found=by_new / by_old, asked=RATIO_ASKED)
 
 
-def futexes(asked, old, new):
+def futexes(asked, old, new, _coreclr):
     asked.head("futex calls of a load", "old, mean", "least", "most", "new, mean", "least", "most", "asked")
     for processors in PROCESSORS:
         calls = [[futex_calls(program, processors) for _ in range(FUTEX_RUNS)] for program in (old, new)]
@@ -128,7 +128,7 @@ def futexes(asked, old, new):
         asked.row(*cells[:-1], found=max(calls[1]), asked=FUTEX_ASKED)
 
 
-def one_caller(asked, old, new):
+def one_caller(asked, old, new, _coreclr):
     asked.head(f"{DROPS:,} `drop` of one caller", "old", "new", "found", "asked")
     with tempfile.NamedTemporaryFile("w") as script:
         script.write("drop r0\n" * DROPS)
@@ -146,49 +146,30 @@ def one_caller(asked, old, new):
         asked.row("`run`, instructions", *(f"{count:,}" for count in counts), found=counts[1] / counts[0], asked=INSTRUCTIONS_ASKED)
 
 
-def taken_by_host():
-    """The milliseconds for which the host of a virtual machine had its processors do something else, since it started."""
-    with open("/proc/stat") as counts:
-        return int(counts.readline().split()[8]) * 1_000 // os.sysconf("SC_CLK_TCK")
+def starved(program, words):
+    """The most collections between two lines of one of three that drop, in a run in which all were at work."""
+    called = [os.path.join(TOP, "trials", "starving"), program, "--collections", "300", "--fields", "0", *words]
+    written = subprocess.run(called, capture_output=True, text=True).stdout
+    return max((int(wait) for wait in re.findall(r"at most (\d+)", written)), default=None)
 
 
-def starved(program):
-    """The most collections between two lines of one of three, and whether each thread had a processor when it could run."""
-    before = taken_by_host()
-    words = [os.path.join(TOP, "trials", "starving"), program, "--collections", "300"]
-    written = subprocess.run(words, capture_output=True, text=True).stdout
-    taken = taken_by_host() - before
-    waits = [int(wait) for wait in re.findall(r"at most (\d+)", written)]
-    waited = re.search(r"([\d.]+) ms in which", written)
-    return max(waits, default=None), taken <= TAKEN_MOST and waited is not None and float(waited[1]) <= WAITED_MOST
-
-
-def starving(asked, old, new):
-    asked.head("300 collections beside three that drop: most between two lines of one", "least", "median", "most",
-               "calm runs", "most in these", "asked")
-    runs, calm = {old: [], new: []}, {old: [], new: []}
-    for _ in range(STARVING_RUNS):
-        for program, most in runs.items():
-            wait, is_calm = starved(program)
-            if wait is not None:
-                most.append(wait)
-                calm[program] += [wait] if is_calm else []
-    for name, program in (("old", old), ("new", new)):
-        most = runs[program]
+def starving(asked, old, new, _coreclr):
+    asked.head("300 collections beside three that drop: most between two lines of one", "runs", "least", "median",
+               f"over {COLLECTIONS_ASKED}", "most", "asked")
+    rows = [("old, at real-time priority", old, ["--real-time"], OLD_STARVING_RUNS),
+            ("new, at real-time priority", new, ["--real-time"], STARVING_RUNS), ("new, as this is called", new, [], STARVING_RUNS)]
+    for name, program, words, often in rows:
+        most = [run for _ in range(often) if (run := starved(program, words)) is not None]
         if not most:
-            asked.row(name, "-", "-", "-", "no run in which all were at work", "-")
-            continue
-        cells = [name, min(most), int(statistics.median(most)), max(most), len(calm[program])]
+            sys.exit(f"{name}: there was no run in which all three were at work")
+        cells = [name, len(most), min(most), int(statistics.median(most)), sum(run > COLLECTIONS_ASKED for run in most)]
         if program == old:
-            asked.row(*cells, max(calm[program], default="-"), "-")
-        elif calm[program]:
-            asked.row(*cells, found=max(calm[program]), asked=COLLECTIONS_ASKED)
+            asked.row(*cells, max(most), "-")
         else:
-            asked.row(*cells, "not judged: no run was calm", COLLECTIONS_ASKED)
-            asked.failed = True
+            asked.row(*cells, found=max(most), asked=COLLECTIONS_ASKED)
 
 
-def replays(asked, old, new):
+def replays(asked, old, new, _coreclr):
     print()
     for name, program in (("old", old), ("new", new)):
         words = [os.path.join(TOP, ".ci", "replay"), "--runs", str(REPLAYS), program]
@@ -205,19 +186,20 @@ def built_coreclr():
         return None
 
 
+PARTS = {"loads": loads, "futexes": futexes, "lone": one_caller, "starving": starving, "replays": replays}
+
+
 def main():
     words = argparse.ArgumentParser(description=__doc__)
     words.add_argument("old")
     words.add_argument("new")
     words.add_argument("--coreclr", default=built_coreclr())
+    words.add_argument("--only", nargs="+", choices=PARTS, default=PARTS)
     given = words.parse_args()
     old, new = os.path.abspath(given.old), os.path.abspath(given.new)
     asked = Asked()
-    loads(asked, old, new, given.coreclr)
-    futexes(asked, old, new)
-    one_caller(asked, old, new)
-    starving(asked, old, new)
-    replays(asked, old, new)
+    for part in given.only:
+        PARTS[part](asked, old, new, given.coreclr)
     sys.exit(asked.failed)
 
 

@@ -1,12 +1,12 @@
 #!/usr/bin/env python3
-"""host.py [--only CALL..] [--counts] [--before LIBRARY] [--coreclr PROGRAM] [--jni PROGRAM] [--mono PROGRAM] LIBRARY..: what each call of the C
-library costs, one thread. Instructions a call (callgrind of 200,000 calls less as many of `hdt_abi` with the same operands) of
-one object and one handle (near), and of objects of 1 to 61 fields and 1,000 live handles of all kinds at random (scattered); and
-nanoseconds a call that the processor gave the thread, near, beside those of CoreCLR's machine and of mono's embedding API, in
-turn. LIBRARY is what the program is linked with, in this order: libhdt_c.a liblibc_c.a; --before names another libhdt_c.a, whose
-near figures get a column; with --counts no time is taken. PROGRAM is what conformance/coreclr/machine/build made, or
-benches/host_mono.c built. It needs cc and valgrind. The status is 1 where a call takes more than what is asked of it, scattered
-more than a tenth above."""
+"""host.py [--only CALL..] [--counts | --times] [--before LIBRARY] [--coreclr PROGRAM] [--jni PROGRAM] [--mono PROGRAM] LIBRARY..:
+what each call of the C library costs, one thread. Instructions a call (callgrind of 200,000 calls less as many of `hdt_abi` with
+the same operands) of one object and one handle (near), and of objects of 1 to 61 fields and 1,000 live handles of all kinds at
+random (scattered); and nanoseconds a call that the processor gave the thread, near, beside those of CoreCLR's machine, of JNI and
+of mono's embedding API, in turn. LIBRARY is what the program is linked with, in this order: libhdt_c.a liblibc_c.a; --before names
+another libhdt_c.a, whose near figures get a column; with --counts no time is taken, and with --times no instructions are counted.
+PROGRAM is what conformance/coreclr/machine/build made, or benches/host_jni.c or host_mono.c built. It needs cc and valgrind. The
+status is 1 where a call takes more than what is asked of it, scattered more than a tenth above."""
 import argparse
 import collections
 import os
@@ -91,17 +91,20 @@ def main(options):
         if options.before:
             measured.insert(0, (built(folder, "host_before", [options.before, *options.libraries[1:]]), "near"))
         calls = subprocess.run([program, "calls"], capture_output=True, text=True, check=True).stdout.split()
+        measured = [] if options.times else measured
         base = [instructions(*it, "abi") for it in measured]
-        titles = ["call", *(["before"] if options.before else []), "instructions", "scattered", "asked", "ns"]
-        titles += [f"ns, {name}" for name, _ in others]
+        counted = [] if options.times else [*(["before"] if options.before else []), "instructions", "scattered", "asked"]
+        titles = ["call", *counted, "ns", *(f"ns, {name}" for name, _ in others)]
         print(f"| {' | '.join(titles)} |\n|{'---|' * len(titles)}")
         for call in options.only or calls[1:]:
-            each = [instructions(*it, call) - less for it, less in zip(measured, base)]
-            found[call] = each
-            near, far = (asked_of(call, column, found) for column in (-2, -1))
-            if near and (each[-2] > near or call not in NEAR_ALONE and each[-1] > 1.1 * far):
-                missed.append(call)
-            shown = [f"`{call}`", *(f"{it:,.1f}" for it in each), f"{near:,.0f}" if near else ""]
+            shown = [f"`{call}`"]
+            if measured:
+                each = [instructions(*it, call) - less for it, less in zip(measured, base)]
+                found[call] = each
+                near, far = (asked_of(call, column, found) for column in (-2, -1))
+                if near and (each[-2] > near or call not in NEAR_ALONE and each[-1] > 1.1 * far):
+                    missed.append(call)
+                shown += [*(f"{it:,.1f}" for it in each), f"{near:,.0f}" if near else ""]
             is_timed = call not in WALKING and not options.counts
             shown += timed(program, call, others) if is_timed else [""] * (1 + len(others))
             print(f"| {' | '.join(shown)} |", flush=True)
@@ -114,6 +117,7 @@ if __name__ == "__main__":
     WORDS = argparse.ArgumentParser(usage=__doc__)
     WORDS.add_argument("--only", nargs="+", metavar="CALL")
     WORDS.add_argument("--counts", action="store_true")
+    WORDS.add_argument("--times", action="store_true")
     WORDS.add_argument("--before", metavar="LIBRARY")
     WORDS.add_argument("--coreclr")
     WORDS.add_argument("--jni")

@@ -75,7 +75,9 @@ def without_fields():
     yield collected("`collect 2`, 8,000 dependent handles of one", strong + ["new r1 0", "hnew h1 dep r0 r1"] * 8000 + AGED,
                     ["collect 2"], 20)
     for order, handles, often in (("good", 4000, 20), ("worse", 2000, 2), ("worse", 4000, 2)):
-        yield collected(f"`collect 2`, chain of {handles:,}, {order} order", chain(handles, order) + AGED, ["collect 2"], often)
+        row = collected(f"`collect 2`, chain of {handles:,}, {order} order", chain(handles, order) + AGED, ["collect 2"], often)
+        # CoreCLR goes over all dependent handles again and again, for 0.1 seconds in the good order.
+        yield row._replace(collects=False)
 
 
 def churn():
