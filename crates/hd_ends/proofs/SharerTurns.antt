@@ -2,7 +2,7 @@
 use Rattle.std.proofs.Common.{◌≡◌, ℕ, List, [], ◌∷◌, ◌+◌, ◌*◌, ◌<◌, ◌≤◌, ◌∙◌, None, Option, Some, ap, arith, refl, subst, sym}
 use Rattle.std.specs.Prelude.{IfSome}
 use Rattle.hd_model.specs.State.{Numbers}
-use Rattle.hd_turns.specs.Views.{AreTurns, Enters, GoesOn, Known, TakesTurn, gave_back as gate_given, missed, with_value}
+use Rattle.hd_turns.specs.Views.{AreTurns, GoesOn, Known, TakesTurn, gave_back as gate_given, missed, with_value}
 use Rattle.hd_turns.specs.Views.{MayLeave as MayLeaveGate}
 use Rattle.hd_turns.specs.declared.gate.TheConstants.{LOOKS}
 use Rattle.hd_turns.specs.declared.rule.View.{View}
@@ -11,7 +11,7 @@ use Rattle.hd_host.specs.declared.change.Change.{Change}
 use Rattle.hd_host.specs.Turns.{HostTurn}
 use Rattle.hd_host.specs.View.{HostView}
 use Rattle.hd_host.proofs.SoundTurns.{turn_numbers}
-use Rattle.hd_ends.specs.Ends.{EndView, Leaves, MayLeave, SharerView, Takes, TookTurn, first_of, gave_end, with_last}
+use Rattle.hd_ends.specs.Ends.{EndView, Leaves, MayLeave, SharerView, Takes, TookTurn, gave_end, with_last}
 use Rattle.hd_ends.specs.Views.{IsNewEnd, IsSharer, SharedTurn, SharedView, end_of, host_of, hosts_of, sharer_of, with_shared}
 use Rattle.hd_ends.proofs.HostHistories.{hosts_go_on, turns_of_hosts}
 
@@ -236,10 +236,3 @@ module _ {s t : SharerView} (takes : Takes s t) where
         new_is = ap (λ (x : SharerView). x.end) left.new_is
             ∙ ap (λ (e : EndView). gave_end leaves e) (as_taken ∙ ap (λ (x : SharerView). x.end) takes.new_is);
       }
-
-  -- the host has the contexts of an end
-  pub context_there : {first c : ℕ} {v : HostView} → t.host ≡ Some v → first ≡ first_of s.end → c < s.end.each
-      → first + c < v.machine.numbers.callers
-  context_there {first} {c} {v} has is low =
-      let callers = ap (λ (h : HostView). h.machine.numbers.callers) (has_found has) in
-      omega (arith, is, low, callers, takes.contexts)

@@ -1,4 +1,4 @@
-use Rattle.std.proofs.Common.{ap, ◌∙◌, subst, arith}
+use Rattle.std.proofs.Common.{subst, arith}
 use Rattle.hd_turns.specs.Views.{Known, TakesTurn}
 use Rattle.hd_turns.proofs.GateSteps.{takes_after}
 use Rattle.hd_turns.proofs.gate.Gate.try_enter.Goals as goal
