@@ -56,7 +56,8 @@ typedef struct { void *hdt_private; } hdt_host;
 /* A handle, opaque; 0 is none. It has the number of its slot and a stamp, so that the use of a freed one is refused (HDT_STALE)
  * also where its slot is in use again. It stays valid over collections, until hdt_handle_free. After 2^40 - 1 handles in a slot
  * the next one there is not freed (HDT_EXHAUSTED). A host knows a handle by these two numbers alone: one of another host, or of
- * this one before it was closed and opened again, may be taken for one of its own. */
+ * this one before it was closed and opened again, may be taken for one of its own. What a program has beside each handle it finds
+ * by the slot, the low 24 bits: from 64 to 64 * blocks + 63, and no two handles that are not freed have one. */
 typedef uint64_t hdt_handle;
 
 /* The identity of an object, 0 for null. No two objects of a host have one. It is a name and no reference: it keeps nothing. */
@@ -164,7 +165,8 @@ hdt_status hdt_last(hdt_host *host, hdt_change *out);
 /* ---- objects; fields are numbered from 0, at most 61; a new object has null fields, value 0 and generation 0 */
 hdt_status hdt_object_new(hdt_host *host, hdt_context c, hdt_local dst, uint32_t fields, uint32_t flags, hdt_id *id);
 /* The same with a value and with `fields` fields, which are what the locals in `src` referenced before the call, so dst may be
- * among them, and null ones give null. All of it is done, or it is refused as hdt_object_new is and nothing is made. */
+ * among them, and null ones give null: no number stands for null, so who wants a null field keeps a local that is null. All of it
+ * is done, or it is refused as hdt_object_new is and nothing is made. */
 hdt_status hdt_object_make(hdt_host *host, hdt_context c, hdt_local dst, uint32_t flags, uint64_t value, const hdt_local *src,
                            size_t fields, hdt_id *id);
 hdt_status hdt_field_get(hdt_host *host, hdt_context c, hdt_local dst, hdt_local object, uint32_t i, hdt_id *id);
@@ -214,7 +216,8 @@ hdt_status hdt_address(hdt_host *host, hdt_handle handle, uint32_t *cell); /* of
 
 /* ---- the weak table (ConditionalWeakTable) */
 hdt_status hdt_table_add(hdt_host *host, hdt_context c, hdt_local key, hdt_local value);
-/* AddOrUpdate: takes the key's entry out, if it has one, and adds one, in the least idle slot. Both are done, or neither is. */
+/* AddOrUpdate: takes the key's entry out, if it has one, and adds one, in the least idle slot. Both are done, or neither is. It
+ * does not say whether there was one: an hdt_table_find before it does. */
 hdt_status hdt_table_set(hdt_host *host, hdt_context c, hdt_local key, hdt_local value);
 hdt_status hdt_table_find(hdt_host *host, hdt_context c, hdt_local dst, hdt_local key, hdt_id *id);
 hdt_status hdt_table_remove(hdt_host *host, hdt_context c, hdt_local key);

@@ -124,10 +124,10 @@ module _ {Right : ℕ → Type 0} {Fails : (ℕ → ℕ) → HostView → Fault 
       (has_found takes has)
       (subst (λ f. Runs (Fails (λ c. f + c)) (Does (λ c. f + c)) Kept v leaves s) first did))))
 
-  -- an end that was taken out went to another function
-  pub went_on : {o n : Option End} {e : End} {s : ℕ} → Some e ≡ o → Comes Right Fails Does Kept (Some e) n s
+  -- the end went to another function
+  pub went_on : {m o n : Option End} {s : ℕ} → m ≡ o → Comes Right Fails Does Kept m n s
       → Comes Right Fails Does Kept o n s
-  went_on {n = n} {s = s} some did = subst (λ x. Comes Right Fails Does Kept x n s) some did
+  went_on {n = n} {s = s} same did = subst (λ x. Comes Right Fails Does Kept x n s) same did
 
 -- a turn of an end may be left
 pub leaves_by : {u t : SharerView} {v leaves : HostView} → Takes u t → t.host ≡ Some v

@@ -58,30 +58,7 @@ pub extern "C" fn hdt_handle_new(
         MakesHandle v (at c) made target w (record { 0 = out.new }) × (s ≡ OK)) (out.new ≡ out.old)
         host.old.value host.new.value result }
 {
-    on_own!(alloc, host, in c, handle_new(kind, target, extra, out)
-        if is_new_handle(kind, target, extra), else handle_new_shared)
-}
-
-// The same, at an end of a shared host.
-#[inline(never)]
-fn handle_new_shared(
-    host: &mut Held,
-    c: u32,
-    kind: u32,
-    target: u32,
-    extra: u32,
-    out: &mut u64,
-    mut end: Box<End>,
-) -> u32
-    requires closed { host.old.value ≡ None }
-    requires shared { (e : EndView) × (end.value ≡ Shared e) }
-    ensures { Comes (IsNewHandle c kind target extra) (λ at v f. (made : Make) ×
-        IsMake made kind extra × FailsIn (at c) (cmd.HNew 0 made target) v f)
-        (λ at v w s. (made : Make) × IsMake made kind extra ×
-        MakesHandle v (at c) made target w (record { 0 = out.new }) × (s ≡ OK)) (out.new ≡ out.old)
-        (Some end.value) host.new.value result }
-{
-    on_shared!(host, end, in c, handle_new(kind, target, extra, out)
+    on_open!(alloc, host, in c, handle_new(kind, target, extra, out)
         if is_new_handle(kind, target, extra))
 }
 
@@ -103,7 +80,7 @@ pub extern "C" fn hdt_handle_free(alloc: Global, host: &mut Held, handle: u64) -
         (λ at v w s. FreesHandle v (record { 0 = handle }) w × (s ≡ OK)) KeepsNothing host.old.value
         host.new.value result }
 {
-    on_own!(alloc, host, handle_free(handle), else handle_free_shared)
+    on_own!(alloc, host, handle_free(handle), else handle_free_shared with end)
 }
 
 // The same, at an end of a shared host.
@@ -150,7 +127,7 @@ pub extern "C" fn hdt_handle_get(
         (λ at. LoadsAt (at c) handle command id.new) (id.new ≡ id.old) host.old.value host.new.value
         result }
 {
-    on_own!(alloc, host, in c, handle_get(handle, dst, id) if has_local(dst), else get_shared)
+    on_own!(alloc, host, in c, handle_get(handle, dst, id) if has_local(dst), else get_shared with end)
 }
 
 // The same, at an end of a shared host.
@@ -197,7 +174,7 @@ pub extern "C" fn hdt_handle_set(
         (λ at. RepliesAt (at c) handle command reply.Done) KeepsNothing host.old.value
         host.new.value result }
 {
-    on_own!(alloc, host, in c, handle_set(handle, src) if has_local(src), else handle_set_shared)
+    on_own!(alloc, host, in c, handle_set(handle, src) if has_local(src), else handle_set_shared with end)
 }
 
 // The same, at an end of a shared host.

@@ -59,7 +59,7 @@ pub extern "C" fn hdt_local_copy(alloc: Global, host: &mut Held, c: u32, dst: u3
         Comes (HasLocals c dst src) (λ at. NeverFails) (λ at. Replies (at c) command reply.Done)
         KeepsNothing host.old.value host.new.value result }
 {
-    on_own!(alloc, host, in c, local_copy(dst, src) if has_locals(dst, src), else local_copy_shared)
+    on_own!(alloc, host, in c, local_copy(dst, src) if has_locals(dst, src), else local_copy_shared with end)
 }
 
 // The same, at an end of a shared host.
@@ -90,7 +90,7 @@ pub extern "C" fn hdt_local_clear(alloc: Global, host: &mut Held, c: u32, dst: u
         Comes (HasLocal c dst) (λ at. NeverFails) (λ at. Replies (at c) command reply.Done)
         KeepsNothing host.old.value host.new.value result }
 {
-    on_own!(alloc, host, in c, local_clear(dst) if has_local(dst), else local_clear_shared)
+    on_own!(alloc, host, in c, local_clear(dst) if has_local(dst), else local_clear_shared with end)
 }
 
 // The same, at an end of a shared host.
@@ -128,7 +128,7 @@ pub extern "C" fn hdt_static_get(
         Comes (HasLocals c dst k) (λ at. NeverFails) (λ at. Loads (at c) command id.new)
         (id.new ≡ id.old) host.old.value host.new.value result }
 {
-    on_own!(alloc, host, in c, static_get(dst, k, id) if has_locals(dst, k), else static_get_shared)
+    on_own!(alloc, host, in c, static_get(dst, k, id) if has_locals(dst, k), else static_get_shared with end)
 }
 
 // The same, at an end of a shared host.
@@ -166,7 +166,7 @@ pub extern "C" fn hdt_static_set(alloc: Global, host: &mut Held, c: u32, k: u32,
         Comes (HasLocals c k src) (λ at. NeverFails) (λ at. Replies (at c) command reply.Done)
         KeepsNothing host.old.value host.new.value result }
 {
-    on_own!(alloc, host, in c, static_set(k, src) if has_locals(k, src), else static_set_shared)
+    on_own!(alloc, host, in c, static_set(k, src) if has_locals(k, src), else static_set_shared with end)
 }
 
 // The same, at an end of a shared host.

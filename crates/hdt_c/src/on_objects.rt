@@ -51,28 +51,7 @@ pub extern "C" fn hdt_object_new(
         (λ at. Returns (at c) command reply.Object (λ made s. (id.new ≡ made.0) × (s ≡ OK)))
         (id.new ≡ id.old) host.old.value host.new.value result }
 {
-    on_own!(alloc, host, in c, object_new(dst, fields, flags, id) if is_object(dst, fields, flags), else object_new_shared)
-}
-
-// The same, at an end of a shared host.
-#[inline(never)]
-fn object_new_shared(
-    host: &mut Held,
-    c: u32,
-    dst: u32,
-    fields: u32,
-    flags: u32,
-    id: &mut u64,
-    mut end: Box<End>,
-) -> u32
-    requires closed { host.old.value ≡ None }
-    requires shared { (e : EndView) × (end.value ≡ Shared e) }
-    ensures { let command = cmd.New dst fields (flags == 1) in
-        Comes (IsObject c dst fields flags) (λ at. FailsIn (at c) command)
-        (λ at. Returns (at c) command reply.Object (λ made s. (id.new ≡ made.0) × (s ≡ OK)))
-        (id.new ≡ id.old) (Some end.value) host.new.value result }
-{
-    on_shared!(host, end, in c, object_new(dst, fields, flags, id) if is_object(dst, fields, flags))
+    on_open!(alloc, host, in c, object_new(dst, fields, flags, id) if is_object(dst, fields, flags))
 }
 
 fn field_get(host: &mut Host, c: u32, dst: u32, object: u32, i: u32, id: &mut u64) -> u32
@@ -111,21 +90,19 @@ pub extern "C" fn hdt_field_get(
 // The same, at an end of a shared host.
 #[inline(never)]
 fn field_get_shared(
+    alloc: Global,
     host: &mut Held,
     c: u32,
     dst: u32,
     object: u32,
     i: u32,
     id: &mut u64,
-    mut end: Box<End>,
 ) -> u32
-    requires closed { host.old.value ≡ None }
-    requires shared { (e : EndView) × (end.value ≡ Shared e) }
     ensures { let command = cmd.Get dst object (field_number i) in
         Comes (HasLocals c dst object) (λ at. FailsIn (at c) command)
-        (λ at. Loads (at c) command id.new) (id.new ≡ id.old) (Some end.value) host.new.value result }
+        (λ at. Loads (at c) command id.new) (id.new ≡ id.old) host.old.value host.new.value result }
 {
-    on_shared!(host, end, in c, field_get(dst, object, i, id) if has_locals(dst, object))
+    on_open!(alloc, host, in c, field_get(dst, object, i, id) if has_locals(dst, object))
 }
 
 fn field_set(host: &mut Host, c: u32, object: u32, i: u32, src: u32) -> u32
@@ -152,7 +129,7 @@ pub extern "C" fn hdt_field_set(
         (λ at. Replies (at c) command reply.Done) KeepsNothing host.old.value host.new.value
         result }
 {
-    on_own!(alloc, host, in c, field_set(object, i, src) if has_locals(object, src), else field_set_shared)
+    on_own!(alloc, host, in c, field_set(object, i, src) if has_locals(object, src), else field_set_shared with end)
 }
 
 // The same, at an end of a shared host.
@@ -204,7 +181,7 @@ pub extern "C" fn hdt_value_get(
         (λ at. Replies (at c) command (reply.Value value.new)) (value.new ≡ value.old)
         host.old.value host.new.value result }
 {
-    on_own!(alloc, host, in c, value_get(object, value) if has_local(object), else value_get_shared)
+    on_own!(alloc, host, in c, value_get(object, value) if has_local(object), else value_get_shared with end)
 }
 
 // The same, at an end of a shared host.
@@ -243,7 +220,7 @@ pub extern "C" fn hdt_value_set(
         (λ at. Replies (at c) command reply.Done) KeepsNothing host.old.value host.new.value
         result }
 {
-    on_own!(alloc, host, in c, value_set(object, value) if has_local(object), else value_set_shared)
+    on_own!(alloc, host, in c, value_set(object, value) if has_local(object), else value_set_shared with end)
 }
 
 // The same, at an end of a shared host.

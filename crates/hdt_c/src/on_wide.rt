@@ -67,6 +67,7 @@ pub extern "C" fn hdt_field_load(
 // The same, at an end of a shared host.
 #[inline(never)]
 fn field_load_shared(
+    alloc: Global,
     host: &mut Held,
     c: u32,
     dst: u32,
@@ -74,16 +75,13 @@ fn field_load_shared(
     i: u32,
     id: &mut u64,
     value: &mut u64,
-    mut end: Box<End>,
 ) -> u32
-    requires closed { host.old.value ≡ None }
-    requires shared { (e : EndView) × (end.value ≡ Shared e) }
     ensures { let command = cmd.Get dst object (field_number i) in
         Comes (HasLocals c dst object) (λ at. FailsIn (at c) command)
         (λ at. LoadsValue (at c) command dst id.new value.new)
-        ((id.new ≡ id.old) × (value.new ≡ value.old)) (Some end.value) host.new.value result }
+        ((id.new ≡ id.old) × (value.new ≡ value.old)) host.old.value host.new.value result }
 {
-    on_shared!(host, end, in c, field_load(dst, object, i, id, value) if has_locals(dst, object))
+    on_open!(alloc, host, in c, field_load(dst, object, i, id, value) if has_locals(dst, object))
 }
 
 // Loads the target of a handle, with its value.
@@ -125,22 +123,20 @@ pub extern "C" fn hdt_handle_load(
 // The same, at an end of a shared host.
 #[inline(never)]
 fn handle_load_shared(
+    alloc: Global,
     host: &mut Held,
     c: u32,
     handle: u64,
     dst: u32,
     id: &mut u64,
     value: &mut u64,
-    mut end: Box<End>,
 ) -> u32
-    requires closed { host.old.value ≡ None }
-    requires shared { (e : EndView) × (end.value ≡ Shared e) }
     ensures { let command = cmd.HGet dst 0 in
         Comes (HasLocal c dst) (λ at. FailsAt (at c) handle command)
         (λ at. LoadsValueAt (at c) handle command dst id.new value.new)
-        ((id.new ≡ id.old) × (value.new ≡ value.old)) (Some end.value) host.new.value result }
+        ((id.new ≡ id.old) × (value.new ≡ value.old)) host.old.value host.new.value result }
 {
-    on_shared!(host, end, in c, handle_load(handle, dst, id, value) if has_local(dst))
+    on_open!(alloc, host, in c, handle_load(handle, dst, id, value) if has_local(dst))
 }
 
 // Makes an object with its value and its fields.
@@ -184,7 +180,7 @@ pub extern "C" fn hdt_object_make(
         (λ at. Makes (at c) dst flags value src.now id.new) (id.new ≡ id.old) host.old.value
         host.new.value result }
 {
-    on_own!(alloc, host, in c, object_make(dst, flags, value, src, id) if is_filled(dst, flags, src), else object_make_shared)
+    on_own!(alloc, host, in c, object_make(dst, flags, value, src, id) if is_filled(dst, flags, src), else object_make_shared with end)
 }
 
 // The same, at an end of a shared host.
@@ -240,21 +236,19 @@ pub extern "C" fn hdt_local_pass(
 // The same, at an end of a shared host.
 #[inline(never)]
 fn local_pass_shared(
+    alloc: Global,
     host: &mut Held,
     to: u32,
     from: u32,
     dst: u32,
     src: u32,
     id: &mut u64,
-    mut end: Box<End>,
 ) -> u32
-    requires closed { host.old.value ≡ None }
-    requires shared { (e : EndView) × (end.value ≡ Shared e) }
     ensures { Comes (HasBoth to from dst src) (λ at. NeverFails)
-        (λ at. Passes (at to) (at from) dst src id.new) (id.new ≡ id.old) (Some end.value)
+        (λ at. Passes (at to) (at from) dst src id.new) (id.new ≡ id.old) host.old.value
         host.new.value result }
 {
-    on_shared!(host, end, in to and from, local_pass(dst, src, id) if has_both(dst, src))
+    on_open!(alloc, host, in to and from, local_pass(dst, src, id) if has_both(dst, src))
 }
 
 // Clears locals of a context.
@@ -283,13 +277,11 @@ pub extern "C" fn hdt_locals_clear(
 
 // The same, at an end of a shared host.
 #[inline(never)]
-fn locals_clear_shared(host: &mut Held, c: u32, first: u32, n: u32, mut end: Box<End>) -> u32
-    requires closed { host.old.value ≡ None }
-    requires shared { (e : EndView) × (end.value ≡ Shared e) }
+fn locals_clear_shared(alloc: Global, host: &mut Held, c: u32, first: u32, n: u32) -> u32
     ensures { Comes (HasRange c first n) (λ at. NeverFails) (λ at. ClearsLocals (at c) first n)
-        KeepsNothing (Some end.value) host.new.value result }
+        KeepsNothing host.old.value host.new.value result }
 {
-    on_shared!(host, end, in c, locals_clear(first, n) if has_range(first, n))
+    on_open!(alloc, host, in c, locals_clear(first, n) if has_range(first, n))
 }
 
 // How many objects a context may still make.

@@ -1,4 +1,4 @@
-use Rattle.std.proofs.Common.{inr, refl, sym}
+use Rattle.std.proofs.Common.{inr, refl}
 use Rattle.hd_host.proofs.CallTurns.{turn_replied}
 use Rattle.hdt_c.proofs.Comings.{leaves_by, ran_shared, turn_by, was_busy, wrong_shared}
 use Rattle.hdt_c.proofs.on_objects.value_set_shared.Goals as goal

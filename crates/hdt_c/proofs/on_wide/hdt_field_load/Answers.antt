@@ -15,8 +15,7 @@ returns-else-not-has_locals c =
     ran_own c.in-Some.ensures.value c.deref_mut.ensures.value c.in-Own.is c.put-in-Own.ensures
     c.contexts.ensures.value c.if-not-has_locals.ensures.yes c.field_load-status.ensures
 
-pub field_load_shared-requires-clause-shared : goal.field_load_shared-requires-clause-shared
-field_load_shared-requires-clause-shared c = (_, c.in-Shared.is)
-
 pub returns-in-Shared : goal.returns-in-Shared
-returns-in-Shared c = went_on (ap Some c.deref_mut.ensures.value ∙ c.in-Some.ensures.value) c.field_load_shared.ensures
+returns-in-Shared c =
+    went_on (c.put-in-Shared.ensures ∙ ap Some c.deref_mut.ensures.value ∙ c.in-Some.ensures.value)
+    c.field_load_shared.ensures

@@ -15,8 +15,7 @@ returns-else-not-has_local c =
     ran_own c.in-Some.ensures.value c.deref_mut.ensures.value c.in-Own.is c.put-in-Own.ensures
     c.contexts.ensures.value c.if-not-has_local.ensures.yes c.handle_load-status.ensures
 
-pub handle_load_shared-requires-clause-shared : goal.handle_load_shared-requires-clause-shared
-handle_load_shared-requires-clause-shared c = (_, c.in-Shared.is)
-
 pub returns-in-Shared : goal.returns-in-Shared
-returns-in-Shared c = went_on (ap Some c.deref_mut.ensures.value ∙ c.in-Some.ensures.value) c.handle_load_shared.ensures
+returns-in-Shared c =
+    went_on (c.put-in-Shared.ensures ∙ ap Some c.deref_mut.ensures.value ∙ c.in-Some.ensures.value)
+    c.handle_load_shared.ensures

@@ -15,8 +15,7 @@ returns-else-not-has_range c =
     ran_own c.in-Some.ensures.value c.deref_mut.ensures.value c.in-Own.is c.put-in-Own.ensures
     c.contexts.ensures.value c.if-not-has_range.ensures.yes c.locals_clear-status.ensures
 
-pub locals_clear_shared-requires-clause-shared : goal.locals_clear_shared-requires-clause-shared
-locals_clear_shared-requires-clause-shared c = (_, c.in-Shared.is)
-
 pub returns-in-Shared : goal.returns-in-Shared
-returns-in-Shared c = went_on (ap Some c.deref_mut.ensures.value ∙ c.in-Some.ensures.value) c.locals_clear_shared.ensures
+returns-in-Shared c =
+    went_on (c.put-in-Shared.ensures ∙ ap Some c.deref_mut.ensures.value ∙ c.in-Some.ensures.value)
+    c.locals_clear_shared.ensures
