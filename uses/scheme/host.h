@@ -144,7 +144,7 @@ static inline void make_object(slot dst, word value, uint32_t flags, const hdt_l
     must(status, "an object");
     words[dst] = value;
 }
-static void load(slot dst, slot object, uint32_t field) {
+static inline void load(slot dst, slot object, uint32_t field) {
     hdt_id id;
     uint64_t value;
     must(hdt_field_load(&host, context_of(dst), local_of(dst), local_of(object), field, &id, &value), "a field");
