@@ -15,7 +15,7 @@ NAME = r"[A-Za-z_][\w'-]*"
 OUTSIDE = set("""
     .ReRegisterForFinalize AddOrUpdate AddRef ConditionalWeakTable Dictionary Ref_AgeHandles TryAdd GetOrAdd WeakReference
     trackResurrection VHT_ _LONG _PINNED AddrOfPinnedObject arith assumption ground subst doc nice python3 rattle dac8208d650f15bf
-    kit-13f logic mutant grep allow-holes fact tidy your GetValue
+    kit-13f logic mutant grep allow-holes fact tidy plant your GetValue
     DeleteLocalRef PushLocalFrame NewGlobalRef NewWeakGlobalRef NewLocalRef DeleteGlobalRef DeleteWeakGlobalRef IsSameObject
     GetPrimitiveArrayCritical ReferenceEquals mono_array_addr mono_gc_collect mono_gchandle_new_v2 mono_gchandle_new_weakref_v2
     GetObjectField GetLongField GetObjectClass NewObject SetObjectField PopLocalFrame mono_field_get_value

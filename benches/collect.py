@@ -121,7 +121,7 @@ def main(words):
     heads = [f"instructions, {name}" for name in names] + [f"µs, {name}: least, median" for name in names]
     print("|", " | ".join(["what"] + heads), "|")
     print("|---" * (1 + len(heads)) + "|")
-    wrong, between = [], []
+    wrong = []
     with tempfile.TemporaryDirectory() as folder:
         for row, paths in scripts.write_all(folder):
             if "--counts" not in ways and not (row.timed and row.collects):
@@ -129,11 +129,6 @@ def main(words):
             counts, times = measure(programs, coreclr, row, paths, ways)
             show(row.name, counts, times, len(names))
             wrong += faults(row, counts, times, len(programs) > 1, coreclr is not None and row.collects)
-            between += [] if row.timed else [counts]
-            if len(between) == 2:
-                few, many = between
-                show("each of the 100 objects between", [(more - less) / 100 for less, more in zip(few, many)], [], len(names))
-                between = []
     print("", *wrong, sep="\n")
     sys.exit(1 if wrong else 0)
 

@@ -166,14 +166,24 @@ static hdt_status free_again(const struct pick *p, hdt_kind kind) {
 CALL(handle_new, free_again(p, p->kind % HDT_VARIABLE))
 CALL(paired_new, free_again(p, HDT_DEPENDENT))
 
-static hdt_status new_object(const struct pick *p, uint32_t fields) {
-    if (hdt_object_new(&host, p->context, RESULT, fields, 0, &id) == HDT_OK) return HDT_OK;
+/* A collection is out of line, so that the rows count no register that is saved for it. */
+__attribute__((noinline)) static hdt_status new_in_full_heap(const struct pick *p, uint32_t fields) {
     return hdt_collect(&host, 0, &report) | hdt_object_new(&host, p->context, RESULT, fields, 0, &id);
 }
 
+static hdt_status new_object(const struct pick *p, uint32_t fields) {
+    hdt_status status = hdt_object_new(&host, p->context, RESULT, fields, 0, &id);
+    return status == HDT_OK ? HDT_OK : new_in_full_heap(p, fields);
+}
+
+__attribute__((noinline)) static hdt_status filled_in_full_heap(const struct pick *p, size_t fields) {
+    return hdt_collect(&host, 0, &report)
+           | hdt_object_make(&host, p->context, RESULT, 0, p->field, p->both, fields, &id);
+}
+
 static hdt_status filled(const struct pick *p, size_t fields) {
-    if (hdt_object_make(&host, p->context, RESULT, 0, p->field, p->both, fields, &id) == HDT_OK) return HDT_OK;
-    return hdt_collect(&host, 0, &report) | hdt_object_make(&host, p->context, RESULT, 0, p->field, p->both, fields, &id);
+    hdt_status status = hdt_object_make(&host, p->context, RESULT, 0, p->field, p->both, fields, &id);
+    return status == HDT_OK ? HDT_OK : filled_in_full_heap(p, fields);
 }
 CALL(object_new, new_object(p, p->fields))
 CALL(new_two, new_object(p, 2))

@@ -1,10 +1,13 @@
 /* Threads that call the C library without a break, for benches/threads.py:
  *
  *   threads_bench WAY CALL THREADS MILLISECONDS
+ *   threads_bench alone CALL
  *
  * WAY is `own`: one thread and a host of its own; `mutex`: a host of their own under one pthread_mutex_t, each thread with a
  * context; or `shared`: each thread with an end of a shared host. CALL is `handle_get`, `handle_new` (with handle_free), or `mix`.
- * Printed are the calls of all threads and of the one that made least, each a second, and the busy answers of all a second. */
+ * Printed are the calls of all threads and of the one that made least, each a second, and the busy answers of all a second.
+ * `alone` prints what a call takes one thread, in nanoseconds, by its own host, by the mutex and by an end of a shared host: each
+ * the least of 4,000 short windows, all three in turn, so that what else a machine does is left out. */
 #define _GNU_SOURCE
 #include "hdt.h"
 #include <pthread.h>
@@ -146,11 +149,58 @@ static void open_all(const char *way, unsigned threads) {
     }
 }
 
+/* Nanoseconds a call, in one window of some microseconds. */
+static double window(struct worker *me, unsigned rounds) {
+    uint64_t before = me->calls;
+    double start = now();
+    for (unsigned i = 0; i < rounds; i++) round_of(me);
+    return (now() - start) * 1e9 / (double)(me->calls - before);
+}
+
+/* A second thread, without which the C library would leave out the mutex' locks. */
+static void *wait_for_the_end(void *none) {
+    pthread_barrier_wait(&all);
+    return none;
+}
+
+static void run_alone(void) {
+    enum { OWN, MUTEX, SHARED, WAYS };
+    double least[WAYS] = { 1e9, 1e9, 1e9 };
+    hdt_limits limits = { 1000000, 64, 1 };
+    pthread_t other;
+    pthread_barrier_init(&all, NULL, 2);
+    if (pthread_create(&other, NULL, wait_for_the_end, NULL) != 0) fail("no thread");
+    for (unsigned way = 0; way < WAYS; way++) {
+        done(way == SHARED ? hdt_open_shared(&ends[way], 1, &limits) : hdt_open(&ends[way], &limits), "not opened");
+        workers[way].host = &ends[way];
+        set_scene(&workers[way]);
+    }
+    for (unsigned n = 0; n < 4000; n++) {
+        for (unsigned way = 0; way < WAYS; way++) {
+            is_locked = way == MUTEX;
+            double time = window(&workers[way], round_of == mix ? 64 : 1000);
+            if (time < least[way]) least[way] = time;
+        }
+    }
+    pthread_barrier_wait(&all);
+    pthread_join(other, NULL);
+    for (unsigned way = 0; way < WAYS; way++) {
+        if (workers[way].worst != HDT_OK) fail(hdt_status_name(workers[way].worst));
+        hdt_close(&ends[way]);
+    }
+    printf("%.1f %.1f %.1f\n", least[OWN], least[MUTEX], least[SHARED]);
+}
+
 int main(int count, char **words) {
-    if (count != 5) fail("usage: threads_bench own|mutex|shared handle_get|handle_new|mix THREADS MILLISECONDS");
+    bool is_alone = count == 3 && strcmp(words[1], "alone") == 0;
+    if (count != 5 && !is_alone) fail("usage: threads_bench own|mutex|shared|alone handle_get|handle_new|mix [THREADS MILLISECONDS]");
+    round_of = strcmp(words[2], "mix") == 0 ? mix : strcmp(words[2], "handle_new") == 0 ? handle_new : handle_get;
+    if (is_alone) {
+        run_alone();
+        return 0;
+    }
     unsigned threads = (unsigned)atoi(words[3]);
     if (threads < 1 || threads > MOST) fail("1 to 16 threads");
-    round_of = strcmp(words[2], "mix") == 0 ? mix : strcmp(words[2], "handle_new") == 0 ? handle_new : handle_get;
     open_all(words[1], threads);
     double seconds = run(threads, strtoul(words[4], NULL, 10));
     uint64_t calls = 0, busy = 0, least = UINT64_MAX;
