@@ -57,6 +57,9 @@ struct out {
     hdt_root root;
     hdt_stats_out stats;
     hdt_handle_info rows[ROWS];
+    hdt_id ids[LOCALS];
+    hdt_object_out object;
+    hdt_sizes_out sizes;
 };
 
 struct worker {
@@ -572,7 +575,9 @@ static void on_take(struct worker *me) {
 static void on_stale(struct worker *me) {
     hdt_handle it = atomic_load(&graves[any(me, GRAVES)]);
     struct at at = any_local(me);
-    switch (any(me, 10)) {
+    switch (any(me, 12)) {
+    case 10: CALL(hdt_handle_load(me->end, at.c, it, at.d, &me->out.id, &me->out.value)); break;
+    case 11: CALL(hdt_handle_id(me->end, it, &me->out.id)); break;
     case 0: CALL(hdt_handle_get(me->end, at.c, it, at.d, &me->out.id)); break;
     case 1: CALL(hdt_handle_set(me->end, at.c, it, at.d)); break;
     case 2: CALL(hdt_handle_free(me->end, it)); break;
@@ -698,12 +703,19 @@ static void on_stats(struct worker *me) {
     last(me, true);
 }
 
+#include "host_threads_wide.h"
+
 /* What is out of range is refused in no turn, so it is never busy; and an end that is open is not opened. */
 static void on_wrong(struct worker *me) {
     struct at at = any_local(me);
     hdt_limits limits = { CELLS, BLOCKS, 1 };
     hdt_status due = HDT_ARGUMENT;
-    switch (any(me, 9)) {
+    hdt_local src = LOCALS + any(me, 1000);
+    switch (any(me, 13)) {
+    case 9: CALL(hdt_object_make(me->end, at.c, at.d, 0, 0, &src, 1, &me->out.id)); break;
+    case 10: CALL(hdt_locals_clear(me->end, at.c, LOCALS - at.d, at.d + 1)); break;
+    case 11: CALL(hdt_handles_of(me->end, 0, 0, 0, me->out.rows, ROWS, &me->out.count, &me->out.next)); break;
+    case 12: CALL(hdt_local_pass(me->end, each + any(me, 1000), at.d, at.c, at.d, &me->out.id)); break;
     case 0: CALL(hdt_local_clear(me->end, each + any(me, 1000), at.d)); break;
     case 1: CALL(hdt_local_id(me->end, at.c, LOCALS + any(me, 1000), &me->out.id)); break;
     case 2: CALL(hdt_handle_new(me->end, at.c, 7 + any(me, 1000), at.d, 0, &me->out.handle)); break;
@@ -729,6 +741,9 @@ static const struct {
     { 20, on_handle_kind }, { 30, on_secondary_get }, { 30, on_secondary_set }, { 30, on_strength }, { 40, on_count },
     { 30, on_address }, { 40, on_give }, { 50, on_take }, { 60, on_stale }, { 60, on_table }, { 6, on_collect },
     { 40, on_final }, { 4, on_trim }, { 1, on_root }, { 1, on_list }, { 10, on_stats }, { 30, on_wrong },
+    { 60, on_make }, { 40, on_field_load }, { 60, on_handle_load }, { 40, on_handle_id }, { 30, on_pass }, { 6, on_locals_clear },
+    { 20, on_locals }, { 10, on_context_left }, { 30, on_object_info }, { 2, on_list_of }, { 4, on_sizes }, { 2, on_trim_all },
+    { 20, on_table_set },
 };
 enum { KINDS = sizeof kinds / sizeof *kinds };
 
