@@ -20,7 +20,7 @@ pub use Rattle.hd_model.specs.State.{BlockUse, Handle, extra_data, handles_of, s
 pub use Rattle.hd_model.specs.Table.{IsLeastWithout, IsTable, Table, chain_of, empty_table, fits, fits_in, has_handles, is_count, is_nothing, is_secondary, is_single, is_strength, kind_at, kind_in, live_at, row_at, with_block, with_data, with_row, without_block, without_row}
 pub use Rattle.hd_model.specs.declared.data.Addr.{Addr}
 pub use Rattle.hd_model.specs.declared.data.Kind.{Kind}
-pub use Rattle.hd_seg.specs.{Inside.HasFrom, Inside.HasNumbers, Inside.HasUnused, Inside.IsBlocks, Inside.IsLinked, Inside.IsListed, Inside.ListsUnused, Inside.numbered, Blocks.Uses, Blocks.block_at, Blocks.extras_at, Blocks.use_at, Blocks.use_of, Blocks.uses_in}
+pub use Rattle.hd_seg.specs.{Inside.HasFrom, Inside.HasNumbers, Inside.HasUnused, Inside.IsBlocks, Inside.IsLinked, Inside.IsListed, Inside.ListsUnused, Blocks.Uses, Blocks.block_at, Blocks.extras_at, Blocks.use_at, Blocks.use_of, Blocks.uses_in}
 pub use Rattle.hd_seg.specs.{Inside.IsPaired, Inside.IsSeg, Inside.with_extra}
 pub use Rattle.hd_seg.specs.Rows.{Vectors, extra_at, extra_index, extra_index_in, live_bit, row_by, row_in, table_in, target_at}
 pub use Rattle.hd_seg.specs.Mapped.{mapped, with_entry}

@@ -3,7 +3,7 @@ use Rattle.hd_seg.proofs.Basics.{Block, IsBlocks, List, ListsUnused, None, Numbe
 use Rattle.hd_seg.proofs.Basics.{IsSome}
 use Rattle.hd_model.proofs.{MapEntries.some_value, ReadAfterWrite.len_less}
 use Rattle.hd_seg.proofs.FunctionMaps.{mapped-remove, within}
-use Rattle.hd_seg.proofs.ChainLinks.{none_is_some, some_of, use_is, extras_is, used_within, listed_like, found_in, linked_by}
+use Rattle.hd_seg.proofs.ChainLinks.{none_is_some, some_of, use_is, extras_is, used_within, listed_like, linked_by}
 use Rattle.hd_seg.proofs.BlockAdd.{block_same, block_other, extras_apart}
 use Rattle.hd_seg.proofs.UnusedBlocks.{out_of_use}
 use Rattle.std.specs.FinSet.{insert}
@@ -52,21 +52,21 @@ module _ {number given : ℕ} {table : List Block} {chains : List (List ℕ)}
 
   module _ {of : Block} (of_is : of ≡ block_at table b) where
     abbrev pub without : Block
-    without = record { kind = of.kind; index = of.index; extras = None }
+    without = record { kind = of.kind; extras = None }
 
     abbrev pub freed : List Block
-    freed = set (set table b without) d (record { kind = block.Unused; index = 0; extras = None })
+    freed = set (set table b without) d (record { kind = block.Unused; extras = None })
 
     size : length (set table b without) ≡ length table
     size = length-set table b without
 
-    at_d : block_at freed d ≡ record { kind = block.Unused; index = 0; extras = None }
-    at_d = block_same (set table b without) d (record { kind = block.Unused; index = 0; extras = None })
+    at_d : block_at freed d ≡ record { kind = block.Unused; extras = None }
+    at_d = block_same (set table b without) d (record { kind = block.Unused; extras = None })
         (omega (arith, d_inside, size)) d refl
 
     not_d : (q : ℕ) → q ≢ d → block_at freed q ≡ block_at (set table b without) q
     not_d q other = block_other (set table b without) d
-        (record { kind = block.Unused; index = 0; extras = None }) (omega (arith, d_inside, size)) q other
+        (record { kind = block.Unused; extras = None }) (omega (arith, d_inside, size)) q other
 
     at_b : block_at freed b ≡ without
     at_b = not_d b apart ∙ block_same table b without b_inside b refl
@@ -113,23 +113,25 @@ module _ {number given : ℕ} {table : List Block} {chains : List (List ℕ)}
     rows_before k q is =
         sym (use_other q (λ same. none_is_some _ (ap (use_at freed) same ∙ use_d) (some_of _ _ is))) ∙ is
 
-    kept_freed : (k : Kind) (q i : ℕ) → IsListed number table k q i → IsListed number freed k q i
-    kept_freed k q i is =
+    kept_freed : (k : Kind) (q : ℕ) → IsListed number table k q → IsListed number freed k q
+    kept_freed k q is =
         let other : q ≢ d =
         λ same. extras_apart (use_at table q) k (ap (use_at table) same ∙ use_data) is.use_is in
-        listed_like (use_other q other) (alike (λ (x : Block). x.index) refl q other) is
+        listed_like (use_other q other) is
+
+    was_freed : (k : Kind) (q : ℕ) → IsListed number freed k q → IsListed number table k q
+    was_freed k q is = record { low = is.low; high = is.high; use_is = rows_before k q is.use_is }
 
     pub blocks-freed : IsBlocks number (given - 1) freed chains
     blocks-freed = record {
       limit = inv.limit;
-      size = length-set (set table b without) d (record { kind = block.Unused; index = 0; extras = None })
+      size = length-set (set table b without) d (record { kind = block.Unused; extras = None })
           ∙ size ∙ inv.size;
       counted = (let less = len_less (mapped 1 number (use_at table)) d (some_of _ _ use_there) in
           omega (arith, ap len uses-freed, less, inv.counted));
       spare = (let less = len_less (mapped 1 number (extras_at table)) b (some_of _ _ extras_there) in
           omega (arith, ap len extras-freed, less, inv.spare));
-      linked = linked_by inv.linked.kinds (λ k i lt. kept_freed k _ i (inv.linked.listed k i lt))
-          (λ k q first last is. found_in inv.linked k q first last (rows_before k q is));
+      linked = linked_by inv.linked kept_freed was_freed;
       plain = λ q none. elim (cases_eq q b) [
         | inl same ↦ ap (extras_at freed) same ∙ extras_b
         | inr not_b ↦ extras_other q not_b ∙ elim (cases_eq q d) [

@@ -1,5 +1,6 @@
 pub mod Basics
 pub mod FunctionMaps
+pub mod ChainRings
 pub mod ChainLinks
 pub mod UnusedBlocks
 pub mod GivenBlocks

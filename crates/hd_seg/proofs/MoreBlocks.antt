@@ -5,7 +5,7 @@ use Rattle.std.specs.Prelude.{max}
 use Rattle.hd_tiers.proofs.SetMembers.{insert_same, insert_other}
 use Rattle.hd_seg.specs.Inside.{HasAdded}
 use Rattle.hd_seg.specs.declared.row.BlockKind.TheVariants as block
-use Rattle.hd_seg.proofs.ChainLinks.{found_in, linked_by, none_is_some, some_of}
+use Rattle.hd_seg.proofs.ChainLinks.{linked_by, none_is_some, some_of}
 use Rattle.hd_seg.proofs.FunctionMaps.{cases_within, get-mapped, get-mapped_out}
 
 -- a number more was added
@@ -67,11 +67,11 @@ wider first n m f g le same none = same_map nat_cmp_total nat_cmp-IsAntisymmetri
 module _ {number given more : ℕ} {table new : List Block} {chains : List (List ℕ)}
     (inv : IsBlocks number given table chains) (few : more ≤ HOST_BLOCKS) (up : number ≤ more)
     (is : new ≡ table ++ replicate (more + 1 - length table)
-    (record { kind = block.Unused; index = 0; extras = None })) where
+    (record { kind = block.Unused; extras = None })) where
   block_same : (b : ℕ) → block_at new b ≡ block_at table b
   block_same b = ap (λ t. block_at t b) is
       ∙ longer_same table (more + 1 - length table) b
-      (record { kind = block.Unused; index = 0; extras = None })
+      (record { kind = block.Unused; extras = None })
 
   use_same : (b : ℕ) → use_at new b ≡ use_at table b
   use_same b = ap (λ (x : Block). use_of x.kind) (block_same b)
@@ -80,8 +80,8 @@ module _ {number given more : ℕ} {table new : List Block} {chains : List (List
   extras_same b = ap (λ (x : Block). x.extras) (block_same b)
 
   past : (b : ℕ) → number + 1 ≤ b
-      → block_at table b ≡ record { kind = block.Unused; index = 0; extras = None }
-  past b le = past_all table b (record { kind = block.Unused; index = 0; extras = None })
+      → block_at table b ≡ record { kind = block.Unused; extras = None }
+  past b le = past_all table b (record { kind = block.Unused; extras = None })
       (omega (arith, inv.size, le))
 
   no_use : (b : ℕ) → number + 1 ≤ b → use_at table b ≡ None
@@ -100,26 +100,27 @@ module _ {number given more : ℕ} {table new : List Block} {chains : List (List
     limit = few;
     size = omega (
       arith,
-      long_enough table (more + 1) (record { kind = block.Unused; index = 0; extras = None }) is,
+      long_enough table (more + 1) (record { kind = block.Unused; extras = None }) is,
       inv.size,
       up,
     );
     counted = inv.counted ∙ sym (ap len uses-more);
     spare = omega (arith, inv.spare, ap len extras-more);
-    linked = linked_by inv.linked.kinds
-        (λ k i lt.
-        let was = inv.linked.listed k i lt in
-        record {
+    linked = linked_by inv.linked
+        (λ k b was. record {
           low = was.low;
           high = omega (arith, was.high, up);
-          use_is = use_same _ ∙ was.use_is;
-          index_is = ap (λ (x : Block). x.index) (block_same _) ∙ was.index_is;
+          use_is = use_same b ∙ was.use_is;
         })
-        (λ k b low high used. elim (cases_lt number b) [
-          | inl out ↦ absurd (none_is_some _ (no_use b (omega (arith, out)))
-              (some_of _ _ (sym (use_same b) ∙ used)))
-          | inr within ↦ found_in inv.linked k b low within (sym (use_same b) ∙ used)
-        ]);
+        (λ k b now. record {
+          low = now.low;
+          high = elim (cases_lt number b) [
+            | inl out ↦ absurd (none_is_some _ (no_use b (omega (arith, out)))
+                (some_of _ _ (sym (use_same b) ∙ now.use_is)))
+            | inr within ↦ within
+          ];
+          use_is = sym (use_same b) ∙ now.use_is;
+        });
     plain = λ b none. extras_same b
         ∙ inv.plain b (ap has_handles (sym (use_same b)) ∙ none);
   }

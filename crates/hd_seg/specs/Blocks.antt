@@ -1,5 +1,4 @@
--- The blocks of a table as the program keeps them. Each block has its index in the chain of its kind, so that
--- the block after it is found without a search.
+-- The blocks of a table as the program keeps them.
 use Rattle.std.specs.Prelude.{ℕ, List, slice_index_or, Option, Some, None, refl}
 use Rattle.std.specs.Coded.{Coded, code_by, coded×, coded_ℕ}
 use Rattle.std.specs.FinMap as map
@@ -32,7 +31,7 @@ use_of block.Extras = Some extra_data
 
 -- the block with a number, its use, and its data block
 abbrev pub block_at : List Block → ℕ → Block
-block_at table b = slice_index_or table b (record { kind = block.Unused; index = 0; extras = None })
+block_at table b = slice_index_or table b (record { kind = block.Unused; extras = None })
 
 abbrev pub use_at : List Block → ℕ → Option BlockUse
 use_at table b = use_of (block_at table b).kind

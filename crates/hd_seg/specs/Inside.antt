@@ -1,5 +1,5 @@
 -- What private clauses alone cite.
-use Rattle.std.specs.Prelude.{◌≡◌, ℕ, ◌+◌, ◌<◌, ◌≤◌, List, [], ◌∷◌, length, sum_by, slice_index, slice_index_or, slice_set, Some, None, ◌*◌, ◌/◌, true, false, Option, is_none, is_some}
+use Rattle.std.specs.Prelude.{◌≡◌, ◌≢◌, ℕ, ◌+◌, ◌<◌, ◌≤◌, List, [], length, sum_by, slice_index_or, slice_set, Some, None, ◌*◌, ◌/◌, true, false, Option, is_none, is_some, AllPairs, Contains}
 use Rattle.std.specs.FinMap.{len, get}
 use Rattle.std.specs.FinSet.{FinSet, contains}
 use Rattle.std.specs.Ordering.{nat_cmp}
@@ -10,11 +10,10 @@ use Rattle.hd_model.specs.Table.{IsTable, fits, has_handles}
 use Rattle.hd_model.specs.declared.handle.Extra.{Extra}
 use Rattle.hd_tiers.specs.Sets.{NumberSet}
 use Rattle.hd_seg.specs.{declared.block.Block.Block, Mapped.mapped}
-use Rattle.hd_seg.specs.Blocks.{block_at, use_at, extras_at, Uses}
+use Rattle.hd_seg.specs.Blocks.{use_at, extras_at, Uses}
 use Rattle.hd_seg.specs.Rows.{Vectors, live_bit, row_in}
 
--- ---- the blocks of a table as the program keeps them. Each block has its index in the chain of its kind, so that
--- the block after it is found without a search.
+-- ---- the blocks of a table as the program keeps them
 
 -- some block from a number on is unused
 pub record HasUnused (table : List Block) (from : ℕ) : Type 0 where
@@ -48,22 +47,20 @@ pub record HasAdded (from to : ℕ) (old new : NumberSet) : Type 0 where
   pub low : (b : ℕ) → b ≤ from → contains new.members b ≡ contains old.members b
   pub high : (b : ℕ) → to < b → contains new.members b ≡ contains old.members b
 
--- block b has handles of a kind, and a chain index
-pub record IsListed (number : ℕ) (table : List Block) (k : Kind) (b at : ℕ) : Type 0 where
+-- block b has handles of a kind
+pub record IsListed (number : ℕ) (table : List Block) (k : Kind) (b : ℕ) : Type 0 where
   pub low : 1 ≤ b
   pub high : b ≤ number
   pub use_is : use_at table b ≡ Some (handles_of k)
-  pub index_is : (block_at table b).index ≡ at
 
--- the chains have exactly the blocks of handles, each at its chain index
+-- the chains have exactly the blocks of handles, each once
 pub record IsLinked (number : ℕ) (table : List Block) (chains : List (List ℕ)) : Type 0 where
   pub kinds : length chains ≡ KINDS
-  pub within : (k : Kind) (b : ℕ) → 1 ≤ b → b ≤ number → use_at table b ≡ Some (handles_of k)
-      → (block_at table b).index < length (slice_index_or chains (kind_number k) [])
-  pub indexed : (k : Kind) (b : ℕ) → 1 ≤ b → b ≤ number → use_at table b ≡ Some (handles_of k)
-      → slice_index (slice_index_or chains (kind_number k) []) (block_at table b).index ≡ b
-  pub listed : (k : Kind) (i : ℕ) → i < length (slice_index_or chains (kind_number k) [])
-      → IsListed number table k (slice_index (slice_index_or chains (kind_number k) []) i) i
+  pub once : (k : Kind) → AllPairs (λ x y. x ≢ y) (slice_index_or chains (kind_number k) [])
+  pub listed : (k : Kind) (b : ℕ) → Contains (slice_index_or chains (kind_number k) []) b
+      → IsListed number table k b
+  pub found : (k : Kind) (b : ℕ) → 1 ≤ b → b ≤ number → use_at table b ≡ Some (handles_of k)
+      → Contains (slice_index_or chains (kind_number k) []) b
 
 -- what is always true of the blocks; what is in no chain has no data block, and chains and data blocks together
 -- have no more blocks than are in use
@@ -74,11 +71,6 @@ pub record IsBlocks (number given : ℕ) (table : List Block) (chains : List (Li
   pub spare : sum_by length chains + len (mapped 1 number (extras_at table)) ≤ given
   pub linked : IsLinked number table chains
   pub plain : (b : ℕ) → has_handles (use_at table b) ≡ false → extras_at table b ≡ None
-
--- the blocks after those of a list got chain indices, the first of them index i
-abbrev pub numbered : ℕ → List ℕ → List Block → List Block
-numbered i [] table = table
-numbered i (b ∷ bs) table = numbered (i + 1) bs (slice_set table b (record (block_at table b) { index = i }))
 
 -- ---- where the rows of a table are stored: targets by slot, extras by data block and row, and a mask of the live
 -- rows for each block.

@@ -1,6 +1,7 @@
 pub mod Row
 pub mod Mapped
 pub mod Blocks
+pub mod Chains
 pub mod Rows
 pub mod Rewriting
 pub mod Pairs

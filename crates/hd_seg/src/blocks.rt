@@ -1,7 +1,7 @@
 // Which blocks are in use, and in which order those of a kind follow one another.
 
-ghost use Rattle.std.specs.Prelude.{◌≡◌, ℕ, ◌+◌, ◌<◌, ◌≤◌, ◌++◌, ◌∷◌, List, [], Some, None, All, true, IsSome};
-ghost use Rattle.std.specs.Prelude.{drop, length, map, replicate, slice_get, slice_index, vec_capacity};
+ghost use Rattle.std.specs.Prelude.{◌≡◌, ℕ, ◌+◌, ◌<◌, ◌≤◌, ◌++◌, ◌∷◌, List, Some, None, true, IsSome};
+ghost use Rattle.std.specs.Prelude.{slice_get};
 ghost use Rattle.std.specs.Prelude.{IfOk, IfSome, MatchOption};
 ghost use Rattle.std.specs.FinMap.{get, insert, len, empty, remove};
 ghost use Rattle.hd_model.specs.Table.{empty_table, chain_of, has_handles, IsLeastWithout, kind_at};
@@ -10,19 +10,19 @@ ghost use Rattle.std.specs.Prelude.{MatchResult, max};
 ghost use Rattle.hd_model.specs.Table.{IsTable};
 ghost use Rattle.hd_model.specs.State.{extra_data};
 ghost use Rattle.hd_seg.specs.Row.{block_kind_of};
-ghost use Rattle.hd_seg.specs.Inside.{numbered};
 ghost use Rattle.hd_seg.specs.Pairs.{without_data};
 ghost use Rattle.hd_seg.specs.Given.{HasNoneGiven, IsNextGiven};
 
 use crate::block::{Block, UNUSED};
-use crate::lists::{lengthen, reserve_each};
+use crate::chains::Chains;
+use crate::lists::lengthen;
 use crate::row::BlockKind;
 use crate::unused::{add_numbers, numbers_to, take_from};
 use hd_mask::BITS;
-use hd_model::limits::{HOST_BLOCKS, KINDS};
+use hd_model::limits::HOST_BLOCKS;
 use hd_model::{Kind, Memory, filled};
 use hd_tiers::{Masks, Numbers, Tier};
-use std::alloc::{AllocError, Global};
+use std::alloc::Global;
 use std::marker::Model;
 
 /// The blocks of a table. Their numbers are from 1.
@@ -31,13 +31,13 @@ pub(crate) struct Blocks {
     number: u32,
     given: u32,
     table: Vec<Block>,
-    chains: Vec<Vec<u32>>,
+    chains: Chains,
     // The numbers of the blocks that are not in use.
     unused: Tier<Masks>,
 }
 
 impl Model for Blocks {
-    ghost use Rattle.std.specs.Prelude.{◌≤◌, All, map, vec_capacity};
+    ghost use Rattle.std.specs.Prelude.{◌≤◌};
     ghost use Rattle.hd_seg.specs.{Blocks.Uses, Blocks.uses_code, Blocks.uses_in, Inside.IsBlocks};
     ghost use Rattle.hd_seg.specs.{Inside.ListsUnused};
 
@@ -45,35 +45,10 @@ impl Model for Blocks {
 
     ghost coded = { uses_code };
 
-    ghost view = { λ b. uses_in b.number b.table.items (map (λ v. v.items) b.chains.items) };
+    ghost view = { λ b. uses_in b.number b.table.items b.chains.lists };
 
-    ghost invariant = { λ b. IsBlocks b.number b.given b.table.items
-        (map (λ v. v.items) b.chains.items) × All (λ v. b.number ≤ vec_capacity v) b.chains.items
-        × ListsUnused b.number b.table.items b.unused };
-}
-
-// An empty chain for each kind, with room for all blocks.
-fn empty_chains(alloc: Global, room: usize) -> Result<Vec<Vec<u32>>, AllocError>
-    ensures chains { IfOk result (λ chains. map (λ v. v.items) chains.items ≡ replicate KINDS []) }
-    ensures rooms { IfOk result (λ chains. All (λ v. room ≤ vec_capacity v) chains.items) }
-{
-    let mut chains = Vec::with_capacity(alloc, KINDS as usize)?;
-    for _kind in 0..KINDS {
-        chains.push_reserved(Vec::with_capacity(alloc, room)?);
-    }
-    Ok(chains)
-}
-
-// Writes the chain index of each block of a chain, from index `from` on.
-fn renumber(table: &mut [Block], chain: &[u32], from: usize)
-    requires blocks { (i : ℕ) → i < length chain.now → slice_index chain.now i < length table.old }
-    requires few { length chain.now ≤ HOST_BLOCKS }
-    ensures { table.new ≡ numbered from (drop from chain.now) table.old }
-{
-    for index in from..chain.len() {
-        let block = &mut table[chain[index] as usize];
-        block.index = index as u32;
-    }
+    ghost invariant = { λ b. IsBlocks b.number b.given b.table.items b.chains.lists
+        × (b.number ≤ b.chains.room) × ListsUnused b.number b.table.items b.unused };
 }
 
 impl Blocks {
@@ -86,9 +61,7 @@ impl Blocks {
     {
         let table = filled(alloc, UNUSED, number + 1)?;
         let unused = numbers_to(alloc, number)?;
-        let Ok(chains) = empty_chains(alloc, number as usize) else {
-            return Err(Memory);
-        };
+        let chains = Chains::open(alloc, number)?;
         Ok(Blocks {
             number,
             given: 0,
@@ -113,7 +86,7 @@ impl Blocks {
             return Ok(());
         }
         self.unused.reserve(number / BITS + 1)?;
-        reserve_each(&mut self.chains, number as usize)?;
+        self.chains.reserve(number)?;
         lengthen(&mut self.table, UNUSED, number + 1)?;
         add_numbers(&mut self.unused, self.number, number);
         self.number = number;
@@ -196,12 +169,9 @@ impl Blocks {
         ensures table { IsTable self.new.table }
     {
         let block = take_from(&mut self.unused, 1);
-        let chain = &mut self.chains[kind.number() as usize];
-        let index = chain.len() as u32;
-        chain.push_reserved(block);
+        self.chains.push(kind, block);
         self.table[block as usize] = Block {
             kind: BlockKind::Rows(kind),
-            index,
             extras: None,
         };
         self.given += 1;
@@ -260,35 +230,17 @@ impl Blocks {
             self.new ≡ record self.old { table = without_block self.old.table kind block } }
         ensures table { IsTable self.new.table }
     {
-        let (kind, index) = self.chain_position(block);
         self.table[block as usize] = UNUSED;
-        let chain = &mut self.chains[kind.number() as usize];
-        chain.remove(index);
-        renumber(&mut self.table, chain, index);
+        self.chains.remove(block);
         self.given -= 1;
         self.unused.insert(block);
     }
 
-    // The kind of a block of handles, and its index in the chain of that kind.
-    fn chain_position(&self, block: u32) -> (Kind, usize)
-        requires { has_handles (get self.now.table.uses block) ≡ true }
-        ensures kind { result.0 ≡ kind_at self.now.table block }
-        ensures index { slice_get (chain_of self.now.table result.0) result.1 ≡ Some block }
-        ensures small { result.1 < HOST_BLOCKS }
+    /// The first block of the chain of a kind, if it has one.
+    pub(crate) fn first(&self, kind: Kind) -> Option<u32>
+        ensures { result ≡ slice_get (chain_of self.now.table kind) 0 }
     {
-        let at = self.table[block as usize];
-        match at.kind {
-            BlockKind::Unused | BlockKind::Extras => unreachable!(),
-            BlockKind::Rows(kind) => (kind, at.index as usize),
-        }
-    }
-
-    /// The block at an index of the chain of a kind, if the chain has so many.
-    pub(crate) fn at(&self, kind: Kind, index: u32) -> Option<u32>
-        ensures { result ≡ slice_get (chain_of self.now.table kind) index }
-    {
-        let chain = &self.chains[kind.number() as usize];
-        chain.get(index as usize).copied()
+        self.chains.first(kind)
     }
 
     /// The block after a block of handles in its chain.
@@ -298,8 +250,6 @@ impl Blocks {
             (before after : List ℕ) → chain_of self.now.table kind ≡ before ++ block ∷ after →
             result ≡ slice_get after 0 }
     {
-        let (kind, index) = self.chain_position(block);
-        let chain = &self.chains[kind.number() as usize];
-        chain.get(index + 1).copied()
+        self.chains.after(block)
     }
 }

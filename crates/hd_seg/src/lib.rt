@@ -7,6 +7,7 @@
 
 mod block;
 mod blocks;
+mod chains;
 mod change;
 mod lists;
 mod row;

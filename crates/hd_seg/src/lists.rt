@@ -1,6 +1,5 @@
 // Lists that grow.
-ghost use Rattle.std.specs.Prelude.{◌≡◌, ℕ, ◌++◌, ◌-◌, ◌≤◌, All, OnOk, length, map, replicate, vec_capacity};
-ghost use Rattle.std.specs.Prelude.{MatchResult};
+ghost use Rattle.std.specs.Prelude.{◌≡◌, ◌++◌, ◌-◌, MatchResult, length, replicate};
 
 use hd_model::Memory;
 
@@ -22,21 +21,4 @@ pub(crate) fn lengthen<T: Copy + Drop>(
         Ok(()) => Ok(()),
         Err(_) => Err(Memory),
     }
-}
-
-/// Takes room for `room` numbers in each chain.
-pub(crate) fn reserve_each(chains: &mut Vec<Vec<u32>>, room: usize) -> Result<(), Memory>
-    ensures items { map (λ v. v.items) chains.new.items ≡ map (λ v. v.items) chains.old.items }
-    ensures rooms { OnOk result (All (λ v. room ≤ vec_capacity v) chains.new.items) }
-    ensures kept { (n : ℕ) → All (λ v. n ≤ vec_capacity v) chains.old.items →
-        All (λ v. n ≤ vec_capacity v) chains.new.items }
-{
-    for index in 0..chains.len() {
-        let chain = &mut chains[index];
-        let more = room.saturating_sub(chain.len());
-        let Ok(()) = chain.reserve(more) else {
-            return Err(Memory);
-        };
-    }
-    Ok(())
 }

@@ -323,17 +323,6 @@ impl Seg {
         write_extra(&mut self.extras, index, extra);
     }
 
-    /// The block at an index of the chain of a kind, if the chain has so many.
-    pub fn block_at(&self, kind: Kind, index: u32) -> Option<u32>
-        ensures value { result ≡ slice_get (chain_of self.now kind) index }
-        ensures within { IfSome result (λ block. (1 ≤ block) × (block ≤ self.now.blocks)) }
-        ensures of_kind { IfSome result (λ block.
-            get self.now.uses block ≡ Some (handles_of kind)) }
-        ensures table { IsTable self.now }
-    {
-        self.blocks.at(kind, index)
-    }
-
     /// The first block of the chain of a kind, if it has one.
     pub fn first(&self, kind: Kind) -> Option<u32>
         ensures value { result ≡ slice_get (chain_of self.now kind) 0 }
@@ -342,7 +331,7 @@ impl Seg {
             get self.now.uses block ≡ Some (handles_of kind)) }
         ensures table { IsTable self.now }
     {
-        self.block_at(kind, 0)
+        self.blocks.first(kind)
     }
 
     /// The block after a block of handles in its chain, if there is one.
