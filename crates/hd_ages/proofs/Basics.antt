@@ -12,7 +12,7 @@ pub use Rattle.std.specs.List.{range_with_len}
 pub use Rattle.std.specs.Option.{ForSome}
 pub use Rattle.std.specs.Prelude.{AllPairs, Contains, IfNone, IfSome, IsSome, MatchOption, nat_le, option_map, slice_index}
 pub use Rattle.hd_ages.specs.Clumps.{IsSlotOf, ages_at, clump_at, grown_at, with_ages}
-pub use Rattle.hd_ages.specs.{Inside.Advances, Inside.IsOver, Walk.Ends, Walk.Gives, Walk.IsOn, Walk.blocks_to_come, Walk.clumps_to_come, Walk.due_slots, Walk.slots_in, Walk.slots_of, Walk.slots_to_come}
+pub use Rattle.hd_ages.specs.{Inside.Advances, Inside.IsOver, Walk.Ends, Walk.Gives, Walk.IsOn, Walk.blocks_from, Walk.blocks_to_come, Walk.from_block, Walk.clumps_to_come, Walk.due_slots, Walk.slots_in, Walk.slots_of, Walk.slots_to_come}
 pub use Rattle.hd_ages.specs.{Inside.AreAbove, Inside.HasYoung, Inside.IsWord, Inside.ages_in, Inside.is_word, Word.age_in, Word.ages_of}
 pub use Rattle.hd_ages.specs.declared.due_rows.DueRows.{DueRows}
 pub use Rattle.hd_mask.specs.Mask.{set_bits}

@@ -1,5 +1,5 @@
 -- A walk goes on as before where rows got other contents, but the same slots are live.
-use Rattle.hd_ages.proofs.Basics.{Addr, CLUMP, DueRows, Handle, IsOn, IsSameTable, IsSome, List, ROWS, Rewrites, Table, [], ap, arith, blocks_to_come, cases_eq, contains_key, due_clumps, filter_agree, get, is_some, map, range_with_len, refl, set_bits, slots_of, sym, ℕ, ⊎_elim, ◌*◌, ◌++◌, ◌+◌, ◌∙◌, ◌∷◌, ◌≡◌}
+use Rattle.hd_ages.proofs.Basics.{Addr, CLUMP, DueRows, Handle, IfSome, IsOn, IsSameTable, IsSome, List, ROWS, Rewrites, Some, Table, [], ap, arith, blocks_to_come, cases_eq, contains_key, due_clumps, filter_agree, get, handles_of, is_some, map, range_with_len, refl, set_bits, slots_of, subst, sym, ℕ, ⊎_elim, ◌*◌, ◌++◌, ◌+◌, ◌∙◌, ◌∷◌, ◌≡◌}
 use Rattle.hd_ages.specs.Walk.{slots_in, clumps_to_come, slots_to_come}
 
 -- the same slots of two tables are live
@@ -21,6 +21,7 @@ module _ (old new : Table) (same : IsSameTable old new) (ages : List ℕ) where
   pub on_same : (w : DueRows) → IsOn old w → IsOn new w
   on_same w on = record {
     first = omega (arith, on.first, same.blocks);
+    next = subst (λ uses. IfSome w.next (λ b. get uses b ≡ Some (handles_of w.kind))) (sym same.uses) on.next;
     few = omega (arith, on.few, same.blocks);
   }
 

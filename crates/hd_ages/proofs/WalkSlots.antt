@@ -1,6 +1,6 @@
 -- The slots of a walk are the live slots of its kind in due clumps, each once.
-use Rattle.hd_ages.proofs.Basics.{AllPairs, HOST_BLOCKS, Bool, CLUMP, CLUMPS, Contains, Contains-append_cases, Contains-append_left, Contains-append_right, IsSome, IsTable, Kind, List, ROWS, Some, Table, [], ap, arith, cases_eq, chain_of, clump_of, clumps_of, contains_key, counts_le, drop, due_clumps, due_slots, fewer, filter, first_in, get, handles_of, is_some, later_in, len, length, length-append, member_cases, nat_le, not_in_none, pairs_append, pairs_cons, pairs_first, pairs_none, pairs_passing, pairs_rest, passing_from, passing_in, range_with_len, refl, slice_get, slice_index, slots_of, subst, suc, sym, true, zero, ℕ, ⊎_elim, ◌*◌, ◌+◌, ◌-◌, ◌/◌, ◌<◌, ◌∙◌, ◌∷◌, ◌≡◌, ◌≢◌, ◌≤◌}
-use Rattle.std.proofs.lemmas.{List.drop_all, List.FromFn.length-range_with_len, Option.slice_get_within}
+use Rattle.hd_ages.proofs.Basics.{AllPairs, HOST_BLOCKS, Bool, CLUMP, CLUMPS, Contains, Contains-append_cases, Contains-append_left, Contains-append_right, IsSome, IsTable, Kind, List, ROWS, Some, Table, [], ap, arith, cases_eq, chain_of, clump_of, clumps_of, contains_key, counts_le, due_clumps, due_slots, fewer, filter, first_in, get, handles_of, is_some, later_in, len, length, length-append, member_cases, nat_le, not_in_none, pairs_append, pairs_cons, pairs_first, pairs_none, pairs_passing, pairs_rest, passing_from, passing_in, range_with_len, refl, slice_index, slots_of, subst, suc, sym, true, zero, ℕ, ⊎_elim, ◌*◌, ◌+◌, ◌-◌, ◌/◌, ◌<◌, ◌∙◌, ◌∷◌, ◌≡◌, ◌≢◌, ◌≤◌}
+use Rattle.std.proofs.lemmas.{List.FromFn.length-range_with_len}
 use Rattle.hd_model.proofs.MapEntries.{some_value, counts_keys}
 use Rattle.hd_ages.specs.Walk.{slots_in}
 use Rattle.hd_model.specs.declared.data.Addr.{Addr}
@@ -201,13 +201,6 @@ module _ (t : Table) (is : IsTable t) (ages : List ℕ) (n : ℕ) (k : Kind) whe
       (λ b h. let within = is.uses b (ap is_some ((is.chained k b).0 h)) in
       of_range 1 HOST_BLOCKS b within.0 (let limit = is.limit in omega arith)) in
       omega (arith, few, length-range_with_len 1 HOST_BLOCKS)
-
-  pub few_indexes : (i b : ℕ) → slice_get (chain_of t k) i ≡ Some b → i < HOST_BLOCKS
-  few_indexes i b here = omega (arith, slice_get_within (chain_of t k) i b here, chain_few)
-
-  -- so none is past as many
-  pub past_chain : drop HOST_BLOCKS (chain_of t k) ≡ []
-  past_chain = drop_all HOST_BLOCKS (chain_of t k) chain_few
 
   -- their clumps are as few as those of the largest table
   pub due_clumps_few : length (due_clumps ages n (chain_of t k)) ≤ HOST_BLOCKS * CLUMPS

@@ -1,13 +1,14 @@
-ghost use Rattle.std.specs.Prelude.{◌≡◌, ◌≢◌, ℕ, ◌+◌, ◌*◌, ◌<◌, ◌≤◌, ◌^◌, ◌∷◌, drop, length, map};
-ghost use Rattle.std.specs.Prelude.{MatchOption, IfNone};
+ghost use Rattle.std.specs.Prelude.{◌≡◌, ◌≢◌, ℕ, ◌+◌, ◌*◌, ◌<◌, ◌≤◌, ◌^◌, ◌∷◌, Some, length, map};
+ghost use Rattle.std.specs.Prelude.{MatchOption, IfNone, IfSome};
+ghost use Rattle.std.specs.FinMap.{get};
 ghost use Rattle.hd_mask.specs.Mask.{set_bits};
 ghost use Rattle.hd_model.specs.Ages.{due_clumps};
 ghost use Rattle.hd_model.specs.Table.{IsTable, chain_of};
 ghost use Rattle.hd_model.specs.Visits.{visits_of};
-ghost use Rattle.hd_model.specs.declared.data.Kind.{Kind as KindValue};
+ghost use Rattle.hd_model.specs.State.{handles_of};
 ghost use Rattle.hd_ages.specs.Clumps.{CoversTable};
 ghost use Rattle.hd_ages.specs.{Walk.IsOn, Walk.Ends, Walk.Gives, Inside.Advances, Inside.IsOver};
-ghost use Rattle.hd_ages.specs.Walk.{clumps_to_come, slots_to_come, due_slots};
+ghost use Rattle.hd_ages.specs.Walk.{blocks_from, clumps_to_come, slots_to_come, due_slots};
 
 use crate::age_map::AgeMap;
 use crate::word::rows_of;
@@ -25,8 +26,8 @@ pub struct DueRows {
     // The kind of the rows, and the generation that is collected.
     kind: Kind,
     n: u8,
-    // The chain index of the block after the one that the walk is at.
-    next: u32,
+    // The block that the walk comes to next.
+    next: Option<u32>,
     // The first slot of the block that the walk is at.
     first: u32,
     // The live rows of its due clumps that are still to be visited, as a mask.
@@ -48,7 +49,7 @@ impl DueRows {
         DueRows {
             kind,
             n,
-            next: first_due(seg, ages, n),
+            next: first_due(seg, ages, kind, n),
             first: 0,
             rows: 0,
         }
@@ -87,9 +88,9 @@ impl DueRows {
         ensures kept { IfNone result (self.new ≡ self.old) }
         ensures unmoved { IfNone result (steps.new ≡ steps.old) }
     {
-        let block = seg.block_at(self.kind, self.next)?;
+        let block = self.next?;
+        self.next = seg.after(block);
         let due = ages.due(block, self.n);
-        self.next += 1;
         self.first = ROWS * block;
         self.rows = rows_of(due) & seg.live_rows(block);
         tick_each(due, steps);
@@ -119,19 +120,17 @@ fn tick_each<L: Ledger>(clumps: u8, steps: &mut Steps<L>)
     }
 }
 
-// The chain index of the first block that a walk looks at: past the end of each chain where a
-// collection of generation `n` has no clump to visit.
-fn first_due(seg: &Seg, ages: &AgeMap, n: u8) -> u32
+// The first block that a walk looks at: none where a collection of generation `n` has no clump to
+// visit.
+fn first_due(seg: &Seg, ages: &AgeMap, kind: Kind, n: u8) -> Option<u32>
     requires { CoversTable ages.now seg.now }
-    ensures clumps { (kind : KindValue) →
-        due_clumps ages.now n (drop result (chain_of seg.now kind))
+    ensures clumps { due_clumps ages.now n (blocks_from result (chain_of seg.now kind))
         ≡ due_clumps ages.now n (chain_of seg.now kind) }
-    ensures few { result ≤ HOST_BLOCKS }
+    ensures of_kind { IfSome result (λ block. get seg.now.uses block ≡ Some (handles_of kind)) }
     ensures table { IsTable seg.now }
 {
-    // The read brings what holds of every table.
-    let _given = seg.given();
-    if ages.may_be_due(n) { 0 } else { HOST_BLOCKS }
+    let first = seg.first(kind);
+    if ages.may_be_due(n) { first } else { None }
 }
 
 /// The number of clumps that a walk over the rows of a kind visits. It looks at no row.
@@ -141,10 +140,10 @@ pub fn count_due(seg: &Seg, ages: &AgeMap, kind: Kind, n: u8) -> u32
     ensures few { result ≤ CLUMPS * HOST_BLOCKS }
 {
     let mut clumps = 0;
-    let mut index = first_due(seg, ages, n);
-    while let Some(block) = seg.block_at(kind, index) {
+    let mut next = first_due(seg, ages, kind, n);
+    while let Some(block) = next {
+        next = seg.after(block);
         clumps += count(u64::from(ages.due(block, n)));
-        index += 1;
     }
     clumps
 }
@@ -154,9 +153,9 @@ pub fn pass_due<L: Ledger>(seg: &Seg, ages: &AgeMap, kind: Kind, n: u8, steps: &
     requires blocks { CoversTable ages.now seg.now }
     ensures { steps.new ≡ steps.old + visits_of seg.now ages.now n kind }
 {
-    let mut index = first_due(seg, ages, n);
-    while let Some(block) = seg.block_at(kind, index) {
+    let mut next = first_due(seg, ages, kind, n);
+    while let Some(block) = next {
+        next = seg.after(block);
         tick_each(ages.due(block, n), steps);
-        index += 1;
     }
 }

@@ -1,4 +1,4 @@
-use Rattle.hd_ages.proofs.Basics.{DueRows, List, ap, arith, length, sym, ℕ, ◌+◌, ◌∙◌}
+use Rattle.hd_ages.proofs.Basics.{DueRows, IfSome, List, Some, ap, arith, get, handles_of, length, subst, sym, ℕ, ◌+◌, ◌∙◌, ◌≡◌}
 use Rattle.hd_ages.proofs.WalkSteps.{gives, same_clumps}
 use Rattle.hd_ages.proofs.due_rows.DueRows.next.Goals as goal
 
@@ -7,6 +7,8 @@ returns-clause-on g c =
     let on = c.loop-self.invariant.on in
     record {
       first = omega (arith, on.first, ap (λ (w : DueRows). w.first) c.take_row.ensures.after);
+      next = subst (λ (w : DueRows). IfSome w.next (λ b. get c.args.seg.now.uses b ≡ Some (handles_of w.kind)))
+          (sym c.take_row.ensures.after) on.next;
       few = on.few;
     }
 

@@ -4,8 +4,7 @@ use Rattle.hd_ages.proofs.due_rows.DueRows.start.Goals as goal
 
 pub returns-clause-slots : goal.returns-clause-slots
 returns-clause-slots c =
-    slots_at_start c.args.seg.now c.args.ages.now _ (c.first_due.ensures.clumps c.args.kind) refl
+    slots_at_start c.args.seg.now c.args.ages.now _ c.first_due.ensures.clumps refl
 
 pub returns-clause-clumps : goal.returns-clause-clumps
-returns-clause-clumps c =
-    clumps_at_start c.args.seg.now c.args.ages.now _ (c.first_due.ensures.clumps c.args.kind)
+returns-clause-clumps c = clumps_at_start c.args.seg.now c.args.ages.now _ c.first_due.ensures.clumps
