@@ -1,6 +1,5 @@
-ghost use Rattle.std.specs.Prelude.{◌≡◌, ◌^◌, ◌<◌, ◌≤◌, true, false, length, take, count_by, IfOk, MatchResult};
-ghost use Rattle.hd_model.specs.{Counting.Counts, Scene.is_object, Scene.IsCondemned, Heap.objects_of};
-ghost use Rattle.hd_heap.specs.{Moves.is_kept_fate, Calls.IsExtent};
+ghost use Rattle.std.specs.Prelude.{◌≡◌, ◌≤◌, length, take, IfOk, MatchResult};
+ghost use Rattle.hd_heap.specs.Calls.{IsExtent};
 ghost use Rattle.hd_plan.specs.Plan.{FreeNeeded, FreeAtMost, IsTakenPlan, IsLaid, kept_in, forwarding_in, HasFreeRegions};
 
 use crate::extent::extent;
@@ -104,26 +103,6 @@ impl Plan {
     {
         self.extent
     }
-
-    /// How many condemned objects are kept.
-    pub fn kept(&self) -> u32
-        requires { IsLaid self.now }
-        ensures { let of = self.now.basis in
-            Counts (λ a. IsCondemned (objects_of of) of.condemned a
-            × (kept_in self.now a ≡ true)) result }
-    {
-        count_kept(&self.moves)
-    }
-
-    /// How many objects are not kept.
-    pub fn removed(&self) -> u32
-        requires { IsLaid self.now }
-        ensures { let of = self.now.basis in
-            Counts (λ a. (is_object (objects_of of) a ≡ true)
-            × (kept_in self.now a ≡ false)) result }
-    {
-        self.extent.objects - count_kept(&self.moves)
-    }
 }
 
 impl Forward for Plan {
@@ -140,18 +119,4 @@ impl Forward for Plan {
     }
 
     ghost keeps = { λ p laid. laid.keeping };
-}
-
-// How many moves keep their object.
-fn count_kept(moves: &Vec<Move>) -> u32
-    requires { length moves.now.items < 2 ^ 32 }
-    ensures { result ≡ count_by (λ m. is_kept_fate m.fate) moves.now.items }
-{
-    let mut kept = 0;
-    for object in moves {
-        if object.fate.is_kept() {
-            kept += 1;
-        }
-    }
-    kept
 }
