@@ -1,5 +1,5 @@
 -- Free regions are nothing to a collection, but for their number.
-use Rattle.hd_gc.proofs.Basics.{Collected, Heap, IsReady, List, Parts, Report, ap, arith, len, length, subst, sym, ℕ, ◌+◌, ◌∙◌, ◌≡◌}
+use Rattle.hd_gc.proofs.Basics.{Collected, Heap, IsReady, List, Parts, Report, ap, arith, len, subst, sym, ℕ, ◌+◌, ◌∙◌, ◌≡◌}
 use Rattle.hd_gc.specs.Collected.{HoldsRegions}
 use Rattle.hd_plan.specs.Commit.{all_regions}
 use Rattle.hd_plan.specs.Plan.{FreeAtMost, FreeNeeded}

@@ -1,6 +1,6 @@
 -- Roots that are null: neither what the first ones reference nor what they become where they move changes by
 -- them.
-use Rattle.hd_gc.proofs.Basics.{Addr, AreFourNull, AreNull, Contains, List, MarksOf, None, Option, Promotes, Some, [], ap, arith, cases_lt, first_in, get_or, inl, inr, later_in, length, member_cases, none-some, not_in_none, option_map, subst, suc, sym, take, zero, ℕ, ⊎_elim, ◌+◌, ◌<◌, ◌∙◌, ◌∷◌, ◌≡◌, ◌≤◌}
+use Rattle.hd_gc.proofs.Basics.{Addr, AreFourNull, AreNull, Contains, List, MarksOf, None, Option, Promotes, Some, [], ap, arith, cases_lt, first_in, get_or, inl, inr, later_in, length, member_cases, none-some, not_in_none, option_map, subst, suc, sym, take, zero, ℕ, ⊎_elim, ◌+◌, ◌∙◌, ◌∷◌, ◌≡◌, ◌≤◌}
 use Rattle.hd_ages.proofs.MappedPrefixes.{length-mapped_to, mapped_on, mapped_past, mapped_to}
 use Rattle.hd_gc.proofs.PromoteSteps.{promotes_like}
 

@@ -1,5 +1,5 @@
 -- What private clauses alone cite.
-use Rattle.std.specs.Prelude.{ℕ, Bool, ◌+◌, ◌*◌, List, ◌≡◌, ◌↔◌, ◌⊎◌, true, ◌<◌, false, ◌++◌, option_map, length, slice_index_or, Contains, AllPairs, ◌≤◌, cond, Option, Some, None}
+use Rattle.std.specs.Prelude.{ℕ, Bool, ◌+◌, ◌*◌, List, ◌≡◌, ◌↔◌, ◌⊎◌, true, ◌<◌, false, ◌++◌, option_map, length, slice_index_or, Contains, AllPairs, ◌≤◌, cond, Option, Some, None, map, take, drop}
 use Rattle.std.specs.{Bool.Decides, FinMap.len}
 use Rattle.hd_model.specs.{declared.data.Addr.Addr, declared.data.Report.Report, Counting.Counts, Marking.IsKeeping, Ages.HasSoundCards, Ages.is_due}
 use Rattle.hd_model.specs.State.{Handle, secondary_of, rename_handle}
@@ -75,6 +75,12 @@ pub record Promotes (Start : Addr → Type 0) (old new : MarksOf) : Type 0 where
   pub pinned : pinned_in new ≡ pinned_in old
   pub grows : Grows (IsYoungField (objects_of old.basis) old.basis.condemned) Start (promoted_in old)
       (promoted_in new)
+
+-- marks that promoted what the roots before one reference come to have promoted what those before another do
+abbrev pub PromotesOn : List (Option Addr) → ℕ → ℕ → (old new : MarksOf) → Type 0
+PromotesOn roots from to old new =
+    (m : MarksOf) → Promotes (λ x. Contains (take from roots) (Some x)) m old
+    → Promotes (λ x. Contains (take to roots) (Some x)) m new
 
 -- y is in a field of an older object in a set card
 pub record IsOldField (h : Heap) (n : ℕ) (y : Addr) : Type 0 where
@@ -186,6 +192,21 @@ abbrev pub IsRenamed : {N : Type 0} → List ℕ → ℕ → (N → N) → (befo
 IsRenamed ages n forwarding before after =
     (slot : ℕ)
     → after slot ≡ option_map (λ h. cond (is_due ages n slot) (rename_handle forwarding h) h) (before slot)
+
+-- roots of which the first i have their new addresses
+abbrev pub first_moved : PlanOf → ℕ → List (Option Addr) → List (Option Addr)
+first_moved plan i roots = map (option_map (forwarding_in plan)) (take i roots) ++ drop i roots
+
+-- roots of which the first i have their new addresses, and that referenced kept objects before
+pub record WereKept (plan : PlanOf) (i : ℕ) (roots : List (Option Addr)) : Type 0 where
+  pub before : List (Option Addr)
+  pub moved : roots ≡ first_moved plan i before
+  pub kept : (x : Addr) → Contains before (Some x) → kept_in plan x ≡ true
+
+-- roots of which those before one have their new addresses come to have those of all before another
+abbrev pub MovesOn : PlanOf → ℕ → ℕ → (old new : List (Option Addr)) → Type 0
+MovesOn plan from to old new =
+    (before : List (Option Addr)) → old ≡ first_moved plan from before → new ≡ first_moved plan to before
 
 -- ---- what a collection keeps while it marks and clears
 

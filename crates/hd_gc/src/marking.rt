@@ -1,12 +1,12 @@
 // What is promoted and pinned: all that is reached.
-ghost use Rattle.std.specs.Prelude.{◌≡◌, ◌+◌, ◌*◌, ◌≤◌, true, Some, Contains};
+ghost use Rattle.std.specs.Prelude.{◌≡◌, ◌+◌, ◌*◌, ◌≤◌, true, Some, Contains, length};
 ghost use Rattle.hd_model.specs.declared.data.Kind.TheVariants as kind;
 ghost use Rattle.hd_model.specs.declared.limits.TheConstants.{CLUMP};
 ghost use Rattle.hd_model.specs.{Heap.has_object, Heap.object_at, Scene.IsField, Table.row_at, Visits.visits_of};
 ghost use Rattle.hd_mark.specs.Marks.{first_marks};
 ghost use Rattle.hd_scan.specs.Tasks.{root_tasks};
 ghost use Rattle.hd_gc.specs.{Ready.IsReady, Steps.task_visits, Inside.Traced, Inside.traced_steps};
-ghost use Rattle.hd_gc.specs.Inside.{MayPromote, Promotes, IsOldField, Holds};
+ghost use Rattle.hd_gc.specs.Inside.{MayPromote, Promotes, PromotesOn, IsOldField, Holds};
 ghost use Rattle.hd_gc.specs.Inside.{IsTracing, basis_in, parts_in};
 
 use crate::phases::{Context, Marked, Tracer};
@@ -30,16 +30,31 @@ fn promote_named(at: Option<Addr>, marks: &mut Marks)
     }
 }
 
-// Promotes what the roots reference.
+// Promotes what the roots from one on and before another reference.
+#[inline(always)]
+fn promote_between(roots: &[Option<Addr>], from: usize, to: usize, marks: &mut Marks)
+    requires order { from ≤ to }
+    requires within { to ≤ length roots.now }
+    requires may { MayPromote (λ x. Contains roots.now (Some x)) marks.old }
+    ensures { PromotesOn roots.now from to marks.old marks.new }
+{
+    for i in from..to {
+        promote_named(roots[i], marks);
+    }
+}
+
+// Promotes what the roots reference. Null ones are passed four at once; where four are not all
+// null, all of them are gone over before the next look, so that a root costs little more.
 fn promote_roots(roots: &[Option<Addr>], marks: &mut Marks)
     requires { MayPromote (λ x. Contains roots.now (Some x)) marks.old }
     ensures { Promotes (λ x. Contains roots.now (Some x)) marks.old marks.new }
 {
     let mut at = skip_null(roots, 0);
-    while at < roots.len() {
-        promote_named(roots[at], marks);
-        at = skip_null(roots, at + 1);
+    while roots.len() - at >= 4 {
+        promote_between(roots, at, at + 4, marks);
+        at = skip_null(roots, at + 4);
     }
+    promote_between(roots, at, roots.len(), marks);
 }
 
 // Promotes what is queued for finalization.
