@@ -123,7 +123,8 @@ impl Contents {
             .put_filled(id, value, fin, &self.roots, first, src)
         {
             Some(at) => {
-                self.serials[caller as usize] = serial;
+                // Counted up in place: no register keeps the serial while the object is put.
+                self.serials[caller as usize] += 1;
                 Some((at, id))
             }
             None => None,
@@ -162,6 +163,7 @@ impl Contents {
 
 // Makes an object as `make_filled` does, where memory may have to be taken. Out of line: a region
 // has many objects.
+#[cold]
 #[inline(never)]
 fn make_with_room(
     store: &mut Contents,

@@ -81,6 +81,7 @@ fn make_in_current(heap: &mut Heap, queue: &Final, id: Id, fields: u32, fin: boo
 }
 
 // Makes an object, with room for it in the queue, where memory may have to be taken.
+#[cold]
 #[inline(never)]
 fn make_with_room(
     heap: &mut Heap,
@@ -161,7 +162,8 @@ impl Contents {
         let id = identity(caller, serial);
         match make(&mut self.heap, &mut self.queue, id, u32::from(fields), fin) {
             Ok(at) => {
-                self.serials[caller as usize] = serial;
+                // Counted up in place: no register keeps the serial while the object is put.
+                self.serials[caller as usize] += 1;
                 Ok(at)
             }
             Err(fault) => Err(fault),

@@ -2,13 +2,19 @@ use Rattle.hd_store.proofs.StoreWords.{Addr, IsMade, KeepsNames, Machine, None, 
 use Rattle.hd_heap.specs.Calls.{IsRefused as IsRefusedBy}
 use Rattle.hd_store.proofs.StateCounts.{used-is, few_objects}
 use Rattle.hd_store.proofs.StoreNew.{serial-next, stored-next, machine-next, names-next, refused-next, stored-refused}
-use Rattle.hd_store.proofs.contents.Contents.add_object.Goals.{After-from}
+use Rattle.hd_store.proofs.contents.Contents.add_object.Goals.{After-index_mut}
 use Rattle.hd_store.proofs.contents.Contents.add_object.Goals as goal
 
--- the serial of the new object
-last : (c : After-from) → c.index.result.now + 1 ≡ last_serial c.args.self.now.state c.args.caller + 1
+-- the serial of the new object, and that its identity has it
+last : (c : After-index_mut) → c.index_mut.result.now + 1 ≡ last_serial c.args.self.now.state c.args.caller + 1
 last c = serial-next (parts c.self.inside) c.args.self.now c.self.view_is c.self.invariant c.args.caller
-    c.index.result.now c.requires.caller c.index.ensures
+    c.index_mut.result.now c.requires.caller c.index_mut.ensures.value
+
+named : (c : After-index_mut) → c.identity-id.result ≡ identity_of c.args.caller (c.index_mut.result.now + 1)
+named c =
+    let read = serial-next (parts c.self.inside) c.args.self.now c.self.view_is c.self.invariant c.args.caller
+    c.index.result.now c.requires.caller c.index.ensures in
+    c.identity-id.ensures.value ∙ ap (identity_of c.args.caller) (read ∙ sym (last c))
 
 pub make-requires-clause-few : goal.make-requires-clause-few
 make-requires-clause-few c =
@@ -17,24 +23,24 @@ make-requires-clause-few c =
 
 pub invariant_of-self : goal.invariant_of-self
 invariant_of-self c =
-    let at = (goal.at.invariant_of-self c).After-from in
+    let at = (goal.at.invariant_of-self c).After-index_mut in
     let f = parts c.self.inside in
     let q = c.make.new.queue in
     stored-next f c.args.self.now c.self.view_is c.self.invariant c.make.new.heap c.in-Ok.at
     c.identity-id.result c.from.result c.args.fin c.in-Ok.ensures.heap c.args.caller
-    (c.index.result.now + 1) (last at) c.identity-id.ensures.value c.requires.fresh q
+    (c.index_mut.result.now + 1) (last at) (named at) c.requires.fresh q
     c.make.ensures.queue.0 c.in-Ok.ensures.room
 
 pub returns-in-Ok-clause-made : goal.returns-in-Ok-clause-made
 returns-in-Ok-clause-made c =
-    let at = (goal.at.returns-in-Ok-clause-made c).After-from in
+    let at = (goal.at.returns-in-Ok-clause-made c).After-index_mut in
     let f = parts c.self.inside in
     let q = c.make.new.queue in
     machine-next f c.args.self.now c.self.view_is c.self.invariant c.make.new.heap c.in-Ok.at
     c.identity-id.result c.args.fields c.args.fin
     (subst (λ n. IsMade c.self.inside.heap c.make.new.heap c.in-Ok.at
     (new_object c.identity-id.result n c.args.fin)) c.from.ensures c.in-Ok.ensures.heap) c.args.caller
-    (c.index.result.now + 1) (last at) c.identity-id.ensures.value c.requires.fresh q
+    (c.index_mut.result.now + 1) (last at) (named at) c.requires.fresh q
     c.make.ensures.queue.0 c.in-Ok.ensures.room
 
 pub invariant_of-self-in-Err : goal.invariant_of-self-in-Err
@@ -71,11 +77,11 @@ returns-in-Ok-clause-known c = ap (λ (m : Machine). is_some (get m.names c.in-O
 
 pub returns-in-Ok-clause-kept : goal.returns-in-Ok-clause-kept
 returns-in-Ok-clause-kept c =
-    let at = (goal.at.returns-in-Ok-clause-kept c).After-from in
+    let at = (goal.at.returns-in-Ok-clause-kept c).After-index_mut in
     let f = parts c.self.inside in
     let q = c.make.new.queue in
     subst (λ (m : Machine). KeepsNames c.args.self.now.names m.names) (sym (returns-in-Ok-clause-made c))
     (names-next f c.args.self.now c.self.view_is c.self.invariant c.make.new.heap c.in-Ok.at
     c.identity-id.result c.from.result c.args.fin c.in-Ok.ensures.heap c.args.caller
-    (c.index.result.now + 1) (last at) c.identity-id.ensures.value c.requires.fresh q
+    (c.index_mut.result.now + 1) (last at) (named at) c.requires.fresh q
     c.make.ensures.queue.0 c.in-Ok.ensures.room)
