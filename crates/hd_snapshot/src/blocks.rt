@@ -18,43 +18,33 @@ pub(crate) fn blocks(alloc: Global, store: &Store) -> Result<Vec<SeenBlock>, All
 {
     let mut seen = Vec::new(alloc);
     let contents = store.contents();
-    add_chains(&mut seen, contents.table(), contents.blocks())?;
+    add_chains(&mut seen, contents.table())?;
     add_data(&mut seen, contents.table(), contents.blocks())?;
     Ok(seen)
 }
 
 // Adds the blocks of handles, kind by kind.
-fn add_chains(seen: &mut Vec<SeenBlock>, table: &Seg, blocks: u32) -> Result<(), AllocError>
-    requires { blocks ≡ table.now.blocks }
+fn add_chains(seen: &mut Vec<SeenBlock>, table: &Seg) -> Result<(), AllocError>
     ensures { OnOk result
         (seen.new.items ≡ seen.old.items ++ flat_map (chain_seen table.now) all_kinds) }
 {
     for kind in Kind::ALL {
-        add_chain(seen, table, blocks, kind)?;
+        add_chain(seen, table, kind)?;
     }
     Ok(())
 }
 
 // Adds the blocks of a kind, in the order of its chain.
-fn add_chain(
-    seen: &mut Vec<SeenBlock>,
-    table: &Seg,
-    blocks: u32,
-    kind: Kind,
-) -> Result<(), AllocError>
-    requires { blocks ≡ table.now.blocks }
+fn add_chain(seen: &mut Vec<SeenBlock>, table: &Seg, kind: Kind) -> Result<(), AllocError>
     ensures { OnOk result (seen.new.items ≡ seen.old.items ++ chain_seen table.now kind) }
 {
-    // For the proof: a chain has no more blocks than the table.
-    let _given = table.given();
-    for index in 0..blocks {
-        let Some(number) = table.block_at(kind, index) else {
-            return Ok(());
-        };
+    let mut next = table.first(kind);
+    while let Some(number) = next {
         seen.push(SeenBlock {
             number,
             kind: Some(kind),
         })?;
+        next = table.after(number);
     }
     Ok(())
 }
