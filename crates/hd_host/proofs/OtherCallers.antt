@@ -9,7 +9,7 @@ use Rattle.hd_model.proofs.StepFrames.{untouched_stays}
 use Rattle.hd_store.specs.Store.{Machine}
 use Rattle.hd_store.specs.Hosted.{cleared, with_cleared}
 use Rattle.hd_host.specs.Steps.{HasStepped}
-use Rattle.hd_host.specs.Turns.{HostStep, HostTurn, IsContextOf, IsOneOf, IsRow, LeavesState, LocalsAreAsLeft, LocalsStay, NoContextIsOfTwoEnds, OthersKeepLocals, TrimsRow, TurnsOfOthers, alone, frees, gives_back, goes_on, makes, more, next_kind, no_kinds, one, one_more, passes, stays, steps, trims}
+use Rattle.hd_host.specs.Turns.{HostStep, HostTurn, IsContextOf, IsOneOf, IsRow, LeavesState, LocalsAreAsLeft, LocalsStay, NoContextIsOfTwoEnds, OthersKeepLocals, TrimsRow, alone, frees, gives_back, goes_on, makes, more, next_kind, no_kinds, one, one_more, passes, stays, steps, trims}
 use Rattle.hd_host.specs.Turns.{clears as clears_locals, none as no_turn}
 use Rattle.hd_host.specs.View.{HostView}
 use Rattle.hd_host.proofs.TrimTurns.{OneTrim, one_trim, trim_kept, trim_ran, trim_stepped}

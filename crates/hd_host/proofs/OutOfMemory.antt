@@ -1,17 +1,19 @@
 -- A command that ran out of memory has no other fault, and `gcroot` of a null local is refused.
-use Rattle.std.proofs.Common.{Bool, List, None, Option, Some, ap, arith, false, nat_lt, refl, subst, sym, ℕ, ⊎_elim, ◌+◌, ◌<◌, ◌^◌, ◌∙◌, ◌≡◌, ◌≤◌}
+use Rattle.std.proofs.Common.{Bool, List, None, Option, Some, ap, arith, cond, false, inl, inr, nat_lt, refl, subst, sym, true, ℕ, ⊎_elim, ◌+◌, ◌<◌, ◌^◌, ◌∙◌, ◌≡◌, ◌≤◌}
 use Rattle.std.proofs.lemmas.{Bool.le-ltb, Bool.true≢false, Option.none-some}
 use Rattle.std.specs.{FinMap.empty, Option.option_map_or}
 use Rattle.hd_model.proofs.{AgedRuns.nothing_at, Outcomes.test_cases}
-use Rattle.hd_model.specs.{declared.command.Cmd.Cmd, declared.data.Entry.Entry, declared.data.Id.Id, declared.data.Refusal.Refusal, declared.data.Reply.Reply, declared.data.Slot.Slot, Aging.is_refused, PinnedAddresses.with_pinned, Step.IsOutcome, Step.StepOf}
-use Rattle.hd_model.specs.Command.{Outcome, new_object, refuses, reply_root, reply_with}
+use Rattle.hd_model.specs.{declared.command.Cmd.Cmd, declared.data.Entry.Entry, declared.data.Id.Id, declared.data.Make.Make, declared.data.Refusal.Refusal, declared.data.Reply.Reply, declared.data.Slot.Slot, Aging.is_refused, Kinds.kind_of, PinnedAddresses.with_pinned, Run.NoneFree}
+use Rattle.hd_model.specs.Step.{IsOutcome, StepOf, TakesWay, blocks_needed, way_of_adding}
+use Rattle.hd_model.specs.declared.data.Kind.TheVariants as kinds
+use Rattle.hd_model.specs.Command.{Adding, Outcome, adding_of, in_idle, in_new, is_refused as is_refusal, new_object, refuses, reply_root, reply_with}
 use Rattle.hd_model.specs.declared.command.Cmd.TheVariants as cmd
 use Rattle.hd_model.specs.declared.data.Grown.TheVariants.{Zero}
 use Rattle.hd_model.specs.declared.data.Refusal.TheVariants as refusal
 use Rattle.hd_model.specs.declared.data.Reply.TheVariants as reply
 use Rattle.hd_model.specs.declared.limits.TheConstants.{REGISTERS}
-use Rattle.hd_model.specs.State.{Numbers, State, last_serial, register_of, total_size}
-use Rattle.hd_store.specs.{Offers.FitsHeap, Offers.RanOut, PinnedAddresses.Moves, Store.Machine}
+use Rattle.hd_model.specs.State.{Numbers, State, given_of, last_serial, register_of, total_size}
+use Rattle.hd_store.specs.{Offers.FitsHeap, Offers.RanOut, Offers.handle_slot, Offers.needs_new, Offers.needs_slot, Offers.no_room, PinnedAddresses.Moves, Store.Machine}
 use Rattle.hd_host.specs.{declared.change.Change.Change, Calls.IsAtEnd, Calls.IsRefused, Calls.RanOutOfMemory, Calls.no_count, Calls.no_serial, Calls.no_stamp, Steps.pointed, View.HostView, View.IsAsItWas}
 use Rattle.hd_host.proofs.{CallHost.parts_of, SameHost.unchanged}
 
@@ -156,7 +158,7 @@ pub collect_ran_out : {m k : Machine} {stamps : List ℕ} {last : Change} {v : H
     → RanOut m.numbers m.state (cmd.Collect n) m k → parts_of m stamps last ≡ v
     → RanOutOfMemory v context None (cmd.Collect n)
 collect_ran_out out view = record {
-  memory = out.memory;
+  cause = inl out.memory;
   fits = fits out view;
   allowed = never_collect;
   below_end = λ at. ends at;
@@ -166,7 +168,7 @@ pub new_ran_out : {m k : Machine} {stamps : List ℕ} {last : Change} {v : HostV
     → RanOut m.numbers m.state (cmd.New d fields fin) m k → parts_of m stamps last ≡ v
     → last_serial v.machine.state context + 1 < 2 ^ 32 → RanOutOfMemory v context None (cmd.New d fields fin)
 new_ran_out out view below = record {
-  memory = out.memory;
+  cause = inl out.memory;
   fits = fits out view;
   allowed = never_new (fits out view);
   below_end = λ at. omega (arith, ends at, below);
@@ -176,8 +178,59 @@ pub root_ran_out : {m k : Machine} {stamps : List ℕ} {last : Change} {v : Host
     → RanOut m.numbers m.state (cmd.GcRoot object) m k → parts_of m stamps last ≡ v
     → register_of v.machine.state context object ≡ Some goal → RanOutOfMemory v context None (cmd.GcRoot object)
 root_ran_out out view names = record {
-  memory = out.memory;
+  cause = inl out.memory;
   fits = fits out view;
   allowed = never_root names;
   below_end = λ at. ends at;
 }
+
+-- ---- a table that may have to grow
+
+clash_made : {v : HostView} {context d t : ℕ} {make : Make} {slot : Option Slot}
+    → given_of v.machine.state + blocks_needed (kind_of make) ≤ v.machine.numbers.blocks → (why : Refusal)
+    → IsRefused v context slot (cmd.HNew d make t) why → ⊥
+clash_made {v} {d = d} {t = t} {make = make} enough why refused = by (did refused)
+  where
+    by : StepOf v.machine.numbers (asked refused) refused.entry
+        (with_pinned refused.stepped.after.state (goes refused).pinned) (cmd.HNew d make t) → ⊥
+    by (inl made) = not_done refused reply.Done made.reply refl
+    by (inr full) = omega (arith, full.few, enough)
+
+pub make_ran_out : {v : HostView} {context d t : ℕ} {make : Make} → NoneFree v.machine.state (kind_of make)
+    → given_of v.machine.state + blocks_needed (kind_of make) ≤ v.machine.numbers.blocks
+    → RanOutOfMemory v context None (cmd.HNew d make t)
+make_ran_out {make = make} none enough = record {
+  cause = inr (record { kind = kind_of make; asks = refl; none = none; enough = enough });
+  fits = λ fields same. absurd (let clash = same in cc);
+  allowed = clash_made enough;
+  below_end = λ at. ends at;
+}
+
+module _ {v : HostView} {context key value : ℕ}
+    (needs : needs_slot v.machine.state context (cmd.CAdd key value) ≡ true)
+    (enough : given_of v.machine.state + 2 ≤ v.machine.numbers.blocks) where
+  never_add : (why : Refusal) → IsRefused v context None (cmd.CAdd key value) why → ⊥
+  never_add why refused = by (adding_of (asked refused) refused.entry.caller key)
+      (ap (λ k. needs_new (adding_of v.machine.state k key)) refused.stepped.command_is.0 ∙ needs) (did refused)
+    where
+      by : (a : Adding) → needs_new a ≡ true
+          → TakesWay v.machine.numbers (asked refused) refused.entry
+          (with_pinned refused.stepped.after.state (goes refused).pinned)
+          (way_of_adding (asked refused) refused.entry.caller value a) → ⊥
+      by (is_refusal r) new way = absurd (true≢false (sym new))
+      by (in_idle slot x) new way = absurd (true≢false (sym new))
+      by (in_new x) new (inl added) = not_done refused reply.Done added.reply refl
+      by (in_new x) new (inr full) = omega (arith, full.few, enough)
+
+  pub add_ran_out : NoneFree v.machine.state kinds.Dependent → RanOutOfMemory v context None (cmd.CAdd key value)
+  add_ran_out none = record {
+    cause = inr (record {
+      kind = kinds.Dependent;
+      asks = ap (λ b. cond b (handle_slot kinds.Dependent) no_room) needs;
+      none = none;
+      enough = enough;
+    });
+    fits = λ fields same. absurd (let clash = same in cc);
+    allowed = never_add;
+    below_end = λ at. ends at;
+  }

@@ -1,5 +1,5 @@
 -- A block that is given back with its data block leaves a host what it is, and is a step of the host.
-use Rattle.std.proofs.Common.{Bool, List, None, Option, Some, ap, arith, false, inl, inr, refl, subst, sym, true, ℕ, ⊎_elim, ◌&&◌, ◌+◌, ◌/◌, ◌<◌, ◌||◌, ◌∙◌, ◌≡◌, ◌≢◌, ◌≤◌, ◌⊎◌}
+use Rattle.std.proofs.Common.{List, None, Some, ap, arith, inl, inr, refl, subst, sym, ℕ, ⊎_elim, ◌&&◌, ◌+◌, ◌<◌, ◌||◌, ◌∙◌, ◌≡◌, ◌≢◌, ◌≤◌, ◌⊎◌}
 use Rattle.std.proofs.lemmas.Bool.{and_right, cases_eq}
 use Rattle.std.specs.FinMap as map
 use Rattle.std.specs.FinMap.{empty, get, remove}
@@ -10,16 +10,14 @@ use Rattle.std.specs.Prelude.{IsSome, is_some, not}
 use Rattle.hd_tiers.proofs.SetMembers.{difference_same, difference_other}
 use Rattle.hd_model.proofs.ReadAfterWrite.{get_left, get_removed, len_less}
 use Rattle.hd_model.specs.{declared.data.Kind.Kind, declared.data.Slot.Slot, PinnedAddresses.with_pinned}
-use Rattle.hd_model.specs.State.{BlockUse, Numbers, State, WeakEntry, block_of, extra_data, given_of, handle_at, handles_of, use_of}
-use Rattle.hd_model.specs.declared.data.Id.{Id}
-use Rattle.hd_model.specs.declared.limits.TheConstants.{ROWS}
+use Rattle.hd_model.specs.State.{Numbers, State, block_of, extra_data, given_of, handles_of, use_of}
 use Rattle.hd_pool.specs.Pool.{FreeSlots, slots_of}
 use Rattle.hd_slots.specs.{Change.without_block, Tied.IsTied, Tied.is_free, Tied.is_live, Tied.kind_of_block}
-use Rattle.hd_store.proofs.SpareBlocks.{pair_keeps, slot_gone, slot_left}
+use Rattle.hd_store.proofs.SpareBlocks.{pair_keeps, slot_left}
 use Rattle.hd_store.specs.{Growth.kind_in_use, StateHeap.IsStoredAt, Store.Machine}
-use Rattle.hd_store.specs.Spare.{GivesBackPair, HasNothing, IsLeastSpare, IsSpare, without_pair, without_slots}
+use Rattle.hd_store.specs.Spare.{GivesBackPair, IsLeastSpare, IsSpare, without_pair}
 use Rattle.hd_host.specs.declared.change.Change.{Change}
-use Rattle.hd_host.specs.{Changes.change_back, Inside.IsHost, Turns.IsAsItWasButLast, Turns.LeavesState, Turns.TrimsPair, View.HostView, View.state_in}
+use Rattle.hd_host.specs.{Changes.change_back, Inside.IsHost, Turns.IsAsItWasButLast, Turns.TrimsPair, View.HostView, View.state_in}
 use Rattle.hd_host.proofs.CallHost.{view_of}
 
 -- a spare block is one whatever addresses were returned

@@ -1,7 +1,7 @@
 -- `Tries` is the row of one command.
-use Rattle.std.proofs.Common.{◌≡◌, ℕ, zero, suc, ◌+◌, List, [], ◌∷◌, ◌++◌, length, length-append, None, Option, ap, arith, refl, subst, sym, ◌∙◌}
+use Rattle.std.proofs.Common.{◌≡◌, ℕ, List, [], ◌∷◌, ◌++◌, length, length-append, None, ap, arith, refl, subst, sym}
 use Rattle.std.specs.Prelude.{Err, Ok, Result}
-use Rattle.hd_model.specs.{declared.command.Cmd.Cmd, declared.data.Reply.Reply, declared.data.Slot.Slot}
+use Rattle.hd_model.specs.{declared.command.Cmd.Cmd, declared.data.Reply.Reply}
 use Rattle.hd_host.specs.declared.fault.Fault.{Fault}
 use Rattle.hd_host.specs.Calls.{FailsBy, HasReplied, Tries}
 use Rattle.hd_host.specs.Turns.{HasRow, RowCommand, TriesRow}

@@ -1,5 +1,5 @@
 -- An entry of the weak table that is taken out and added anew.
-use Rattle.std.proofs.Common.{Bool, List, None, Ok, Some, ap, false, inl, inr, refl, subst, sym, true, ℕ, ◌<◌, ◌∙◌, ◌≡◌}
+use Rattle.std.proofs.Common.{Bool, List, None, Ok, Some, ap, cond, false, inl, inr, refl, subst, sym, true, ⊎_elim, ℕ, ◌<◌, ◌∙◌, ◌≡◌}
 use Rattle.std.proofs.lemmas.Bool.{true≢false}
 use Rattle.std.specs.FinMap.{empty, get}
 use Rattle.std.specs.Option.{option_map_or}
@@ -13,8 +13,9 @@ use Rattle.hd_model.specs.declared.data.Refusal.TheVariants as refusal
 use Rattle.hd_model.specs.declared.data.Reply.TheVariants as reply
 use Rattle.hd_pool.specs.Pool.{FreeSlots}
 use Rattle.hd_commands.specs.Done.{entry_by, replied}
-use Rattle.hd_store.specs.{Calls.HasCalled, Calls.HasReturned, Calls.pointed, PinnedAddresses.Moves, Replies.removed_reply, Store.Machine}
-use Rattle.hd_host.specs.{declared.change.Change.Change, Changes.no_change, declared.fault.Fault.Fault, Calls.AddsEntry, Calls.FailsBy, Calls.HasReplied, Calls.IsRefused, View.HostView, View.IsAsItWas, Inside.IsHost, Wide.FailsToAdd, Wide.SetsEntry}
+use Rattle.hd_model.specs.declared.data.Kind.TheVariants as kinds
+use Rattle.hd_store.specs.{Calls.HasCalled, Calls.HasReturned, Calls.pointed, Offers.handle_slot, Offers.needs_new, Offers.no_room, PinnedAddresses.Moves, Replies.removed_reply, Store.Machine}
+use Rattle.hd_host.specs.{declared.change.Change.Change, Changes.no_change, declared.fault.Fault.Fault, Calls.AddsEntry, Calls.FailsBy, Calls.GrowsTable, Calls.HasReplied, Calls.IsRefused, View.HostView, View.IsAsItWas, Inside.IsHost, Wide.FailsToAdd, Wide.SetsEntry}
 use Rattle.hd_host.specs.declared.fault.Fault.TheVariants as fault
 use Rattle.hd_host.proofs.CallHost.{view_of}
 use Rattle.hd_host.proofs.ReplyForms.{not_removed, removes}
@@ -75,6 +76,18 @@ module _ (n : Numbers) (s t : State) (e : Entry) (k v idle : ℕ) (key : Id)
         let has : HasKey s key slot.0 = key_found s key slot found in
         absurd (absent slot.0 has.entry has.held has.keyed)))
 
+-- while a slot is idle, none needs a new one
+module _ (s : State) (caller k idle : ℕ) (there : get s.weak idle ≡ Some None) where
+  abbrev Idle : Adding → Type 0
+  Idle a = needs_new a ≡ false
+
+  pub never_new : Idle (adding_of s caller k)
+  never_new = option_cases Idle (adding_key s) (register_of s caller k) (is_refused refusal.Null) (λ _. refl)
+      (λ key named. option_cases Idle (λ _. is_refused refusal.Present) (slot_of_key s key)
+      (option_map_or (λ slot. in_idle slot key) (idle_slot s) (in_new key))
+      (λ _. option_cases Idle (λ slot. in_idle slot key) (idle_slot s) (in_new key)
+      (λ none. absurd (where_none is_idle s none idle None there refl)) (λ slot is. refl)) (λ slot found. refl))
+
 -- no entry of a key is left where its slot is idle
 pub none_left : (s : State) (key : Id) (slot : Slot) → HasWeakTable s → slot_of_key s key ≡ Some slot
     → HasNoKey (with_weak s slot None) key
@@ -121,6 +134,14 @@ module _ {m m1 : Machine} {p : FreeSlots} {stamps : List ℕ} (host : IsHost m p
       (step_of m1.numbers asked r.entry comes (cmd.CAdd key value) moved.step r.stepped.command_is.1) in
       absurd (let other = sym done ∙ r.reply in cc)
 
+  never_grows : GrowsTable (view_of m1 stamps after) context (cmd.CAdd key value) → ⊥
+  never_grows grows =
+      let there : get m1.state.weak was.slot.0 ≡ Some None =
+      ap (λ w. get w was.slot.0) weak-is ∙ get_inserted m.state.weak was.slot.0 None in
+      let asks = sym (ap (λ b. cond b (handle_slot kinds.Dependent) no_room)
+      (never_new m1.state context key was.slot.0 there)) ∙ grows.asks in
+      absurd (let clash = asks in cc)
+
   pub never_fails : (f : Fault) → FailsBy (view_of m1 stamps after) context None (cmd.CAdd key value) f → ⊥
   never_fails fault.Stale h = elim h [
     | inl r ↦ never_refused refusal.NotLive r
@@ -137,7 +158,7 @@ module _ {m m1 : Machine} {p : FreeSlots} {stamps : List ℕ} (host : IsHost m p
   ]
   never_fails (fault.TableFull given) r = never_refused (refusal.TableFull given) r
   never_fails fault.Exhausted h = elim h [ ]
-  never_fails fault.Memory h = absurd (true≢false (sym h.memory))
+  never_fails fault.Memory h = ⊎_elim (λ takes. absurd (true≢false (sym takes))) never_grows h.cause
 
 -- where there was none, all is as it was
 module _ {m m1 : Machine} {context : ℕ} (key : ℕ)

@@ -21,8 +21,8 @@ use Rattle.hd_store.specs.Hosted.{with_cleared}
 use Rattle.hd_host.specs.Handles.{stamp_of}
 use Rattle.hd_host.specs.Steps.{HasStepped}
 use Rattle.hd_host.specs.Turns.{none as no_turn}
-use Rattle.hd_host.specs.Turns.{HostStep, HostTurn, IsOneOf, IsRow, IsSoundHost, LeavesState, MakesFilled, OthersKeepObjects, TrimsRow, TurnsKeepSound, TurnsOfOthers, alone, clears, frees, gives_back, goes_on, makes, more, next_kind, no_kinds, one, one_more, passes, stays, steps, trims}
-use Rattle.hd_host.specs.View.{HostView, IsAsItWas, state_in}
+use Rattle.hd_host.specs.Turns.{HostStep, HostTurn, IsRow, IsSoundHost, MakesFilled, OthersKeepObjects, TrimsRow, TurnsKeepSound, TurnsOfOthers, alone, clears, frees, gives_back, goes_on, makes, more, next_kind, no_kinds, one, one_more, passes, stays, steps, trims}
+use Rattle.hd_host.specs.View.{HostView, state_in}
 use Rattle.hd_host.proofs.OtherCallers.{locals_are_as_left}
 use Rattle.hd_host.proofs.PairTrimmed.{spare_pinned}
 use Rattle.hd_host.proofs.TrimTurns.{OneTrim, one_trim, trim_kept, trim_ran, trim_stepped}

@@ -1,5 +1,5 @@
 -- Each block that is given back, or none, is what one turn may do.
-use Rattle.std.proofs.Common.{Bool, List, None, [], ◌∷◌, false, inl, inr, refl, true, ℕ, ◌≡◌}
+use Rattle.std.proofs.Common.{Bool, List, None, [], ◌∷◌, false, inl, inr, refl, true, ℕ}
 use Rattle.hd_model.specs.{declared.data.Kind.Kind, Kinds.is_paired}
 use Rattle.hd_model.specs.declared.command.Cmd.TheVariants as cmd
 use Rattle.hd_host.specs.Turns.{HostStep, IsAsItWasButLast, IsRow, TrimsBlock, TrimsBy, TrimsRow, gives_back, next_kind, no_kinds, one, one_more}

@@ -50,7 +50,7 @@ host_objects objects heap host sound = record {
 
 -- ---- what a load found is what `read` replies
 
-each_some : {A : Type 0} {X Y : Type 0} (o : Option A) → (X → Y) → IfSome o (λ _. X) → IfSome o (λ _. Y)
+pub each_some : {A : Type 0} {X Y : Type 0} (o : Option A) → (X → Y) → IfSome o (λ _. X) → IfSome o (λ _. Y)
 each_some None f x = tt
 each_some (Some a) f x = f x
 

@@ -1,14 +1,14 @@
 -- What the calls of a host come to. Each is one command of the machine, from the state in which the first
 -- handle register of its context has the slot of its handle.
 use Rattle.std.specs.Prelude.{◌≡◌, ◌↔◌, ℕ, ◌+◌, ◌<◌, ◌≤◌, ◌^◌, true, false, slice_set, Option, Some, None, Bool, Result, MatchResult, ◌⊎◌}
-use Rattle.hd_model.specs.{declared.data.Entry.Entry, declared.data.Kind.Kind, declared.data.Make.Make, declared.data.Refusal.Refusal, declared.data.Reply.Reply, declared.data.Slot.Slot, declared.command.Cmd.Cmd, Class.class_of, Aging.is_refused, Run.NoneAllFree, Valid.takes_memory}
+use Rattle.hd_model.specs.{declared.data.Entry.Entry, declared.data.Kind.Kind, declared.data.Make.Make, declared.data.Refusal.Refusal, declared.data.Reply.Reply, declared.data.Slot.Slot, declared.command.Cmd.Cmd, Class.class_of, Aging.is_refused, Run.NoneAllFree, Run.NoneFree, Step.blocks_needed, Valid.takes_memory}
 use Rattle.hd_model.specs.declared.class.Class.TheVariants as class
 use Rattle.hd_model.specs.declared.command.Cmd.TheVariants as cmd
 use Rattle.hd_model.specs.declared.data.Reply.TheVariants as reply
 use Rattle.hd_model.specs.declared.data.Refusal.TheVariants as refusal
 use Rattle.hd_model.specs.declared.data.Id.{Id}
-use Rattle.hd_model.specs.State.{Handle as Held, count_of, handle_at, last_serial, total_size}
-use Rattle.hd_store.specs.{Offers.FitsHeap, Store.Machine}
+use Rattle.hd_model.specs.State.{Handle as Held, count_of, given_of, handle_at, last_serial, total_size}
+use Rattle.hd_store.specs.{Offers.FitsHeap, Offers.asks_of, Offers.handle_slot, Store.Machine}
 use Rattle.hd_host.specs.declared.fault.Fault.{Fault}
 use Rattle.hd_host.specs.declared.fault.Fault.TheVariants as fault
 use Rattle.hd_host.specs.declared.handle.Handle.{Handle}
@@ -62,10 +62,18 @@ pub data IsAtEnd (v : HostView) (context : ℕ) (slot : Option Slot) : Cmd → T
   no_stamp : (h : ℕ) (at : Slot) → slot ≡ Some at → stamp_of v at + 1 ≡ 2 ^ 40
       → IsAtEnd v context slot (cmd.HFree h)
 
--- memory ran out: the command may take some, and has no other fault. The heap has room for what it makes, the
--- machine does not refuse it, and nothing that it needs is at its end.
+-- a command needs a slot, none of its kind is free, and enough blocks are without a use: the table may have to
+-- grow for it
+pub record GrowsTable (v : HostView) (context : ℕ) (command : Cmd) : Type 0 where
+  pub kind : Kind
+  pub asks : asks_of v.machine.state context command ≡ handle_slot kind
+  pub none : NoneFree v.machine.state kind
+  pub enough : given_of v.machine.state + blocks_needed kind ≤ v.machine.numbers.blocks
+
+-- memory ran out: the command may take some, or may have to grow the table, and it has no other fault. The
+-- heap has room for what it makes, the machine does not refuse it, and nothing that it needs is at its end.
 pub record RanOutOfMemory (v : HostView) (context : ℕ) (slot : Option Slot) (command : Cmd) : Type 0 where
-  pub memory : takes_memory command ≡ true
+  pub cause : (takes_memory command ≡ true) ⊎ GrowsTable v context command
   pub fits : FitsHeap v.machine.numbers v.machine.state command
   pub allowed : (why : Refusal) → IsRefused v context slot command why → ⊥
   pub below_end : IsAtEnd v context slot command → ⊥

@@ -1,5 +1,5 @@
 -- What a call did to slots and blocks, by the entry of its command.
-use Rattle.std.specs.Prelude.{ℕ, Option, None, Some}
+use Rattle.std.specs.Prelude.{ℕ, zero, suc, Option, None, Some}
 use Rattle.std.specs.Coded.{Coded}
 use Rattle.hd_model.specs.{declared.data.Grown.Grown, declared.data.Slot.Slot}
 use Rattle.hd_model.specs.declared.data.Grown.TheVariants.{Zero, One, Two, Back}
@@ -32,6 +32,12 @@ change_by slot (Back block) = record no_change { slot = slot; given_back = Some 
 -- that of a call that gave a block back with the data block that it had
 abbrev pub change_back : ℕ → ℕ → Change
 change_back block extra = record no_change { given_back = Some block; data_given_back = Some extra }
+
+-- a change in short, by its word
+abbrev pub short_of : ℕ → Short
+short_of zero = short.Nothing
+short_of (suc zero) = short.Blocks
+short_of (suc (suc slot)) = short.Slot (record { 0 = slot })
 
 -- a change in short, in full: where blocks changed, it is what they last did
 abbrev pub in_full : Short → Change → Change

@@ -9,18 +9,20 @@ ghost use Rattle.hd_model.specs.Handles.{extra_of};
 ghost use Rattle.hd_host.specs.{Handles.handle_of, Inside.Settled, View.IsAsItWas};
 
 use crate::fault::Fault;
+use crate::growing::make_room;
 use crate::handle::Handle;
 use crate::host::Host;
 use crate::last::{Last, settle};
 use crate::stamps::END;
 use hd_model::limits::REGISTERS;
-use hd_model::{Grown, Id, Make, Refusal, Slot, Strength};
+use hd_model::{Grown, Id, Make, Memory, Refusal, Slot, Strength};
 use hd_slots::{Change as Slots, note_slot, offer};
 use hd_store::ExtraInfo;
 
 impl Host {
     /// Makes a handle whose target is what the local references, or null (GCHandle.Alloc). It gets
-    /// the least free slot of its kind, and the table grows only where there is none.
+    /// the least free slot of its kind, and the table grows only where there is none. That the
+    /// table is full is reported before memory is taken.
     #[inline(always)]
     pub fn handle_new(&mut self, context: u32, make: Make, target: u8) -> Result<Handle, Fault>
         requires context { context < self.old.machine.numbers.callers }
@@ -56,7 +58,8 @@ impl Host {
         self.make_any(context, make, target)
     }
 
-    // The same, of any kind.
+    // The same, of any kind. Where a slot is offered no block is taken, and the pool has nothing to
+    // note.
     #[inline(always)]
     fn make_any(&mut self, context: u32, make: Make, target: u8) -> Result<Handle, Fault>
         requires context { context < self.old.machine.numbers.callers }
@@ -68,7 +71,43 @@ impl Host {
         ensures contexts { self.new.machine.numbers.callers ≡ self.old.machine.numbers.callers }
     {
         let change = Slots::Takes(make.kind());
+        let Some(free) = offer(&mut self.pool, change) else {
+            return self.make_grown(context, make, target);
+        };
+        match self.store.make_handle(context, make, target, Some(free)) {
+            Ok((slot, grown)) => {
+                self.stamps.make(slot);
+                self.last.set(Some(slot), grown);
+                Ok(self.handle_in(slot))
+            }
+            Err(refusal) => Err(Fault::of(refusal)),
+        }
+    }
+
+    // The same where no slot of the kind is free, so that the table may have to grow. It is out of
+    // line: few calls come here.
+    #[inline(never)]
+    fn make_grown(&mut self, context: u32, make: Make, target: u8) -> Result<Handle, Fault>
+        requires context { context < self.old.machine.numbers.callers }
+        requires make { IsValidMake make }
+        requires local { target < REGISTERS }
+        ensures does { MatchResult result (MakesHandle self.old context make target self.new)
+            (λ fault. FailsBy self.old context None (cmd.HNew 0 make target) fault
+            × IsAsItWas self.old self.new) }
+        ensures contexts { self.new.machine.numbers.callers ≡ self.old.machine.numbers.callers }
+    {
+        let change = Slots::Takes(make.kind());
         let offered = offer(&mut self.pool, change);
+        if let Err(Memory) = make_room(
+            &mut self.store,
+            &mut self.pool,
+            &mut self.stamps,
+            self.limit,
+            change,
+            offered,
+        ) {
+            return Err(Fault::Memory);
+        }
         match self.store.make_handle(context, make, target, offered) {
             Ok((slot, grown)) => {
                 note_slot(&mut self.pool, change, Some(slot), grown);

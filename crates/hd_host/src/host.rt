@@ -33,32 +33,42 @@ pub struct Limits {
 /// command of the machine from the state in which the first handle register of the context has the
 /// slot of the handle; no register has one in between. What a call returns of an object is its
 /// identity, which keeps nothing.
+///
+/// Its table grows as it is used. Contracts see all blocks that it may have: those that it does not
+/// have so far are without a use.
 #[derive(Drop)]
 pub struct Host {
     pub(crate) store: Store,
     pub(crate) pool: Pool,
     pub(crate) stamps: Stamps,
     pub(crate) last: Last,
+    // The blocks that its table may have.
+    pub(crate) limit: u32,
 }
 
 impl Model for Host {
-    ghost use Rattle.hd_host.specs.{View.HostView, View.host_view_code, Inside.IsHost, Handles.stamps_in};
+    ghost use Rattle.hd_store.specs.Growth.{with_blocks};
+    ghost use Rattle.hd_host.specs.{View.HostView, View.host_view_code, Inside.IsGrown, Handles.padded, Handles.stamps_in};
 
     ghost Value = { HostView };
 
     ghost coded = { host_view_code };
 
     ghost view = { λ h. record {
-      machine = h.store;
-      stamps = stamps_in h.stamps;
+      machine = with_blocks h.limit h.store;
+      stamps = stamps_in (padded h.limit h.stamps);
       last = h.last;
     } };
 
-    ghost invariant = { λ h. IsHost h.store h.pool h.stamps };
+    ghost invariant = { λ h. IsGrown h.limit h.store h.pool h.stamps };
 }
 
+// The blocks that a table has at first, where it may have so many.
+const FIRST: u32 = 64;
+
 impl Host {
-    /// A host in which nothing is made.
+    /// A host in which nothing is made. It takes the memory of its contexts and of a table of 64
+    /// blocks, and no more before it is used.
     pub fn open(alloc: Global, limits: Limits) -> Result<Host, Memory>
         requires cells { (3 ≤ limits.cells) × (limits.cells ≤ HOST_HEAP) }
         requires blocks { (1 ≤ limits.blocks) × (limits.blocks ≤ HOST_BLOCKS) }
@@ -73,15 +83,19 @@ impl Host {
         ensures stamps { IfOk result (λ h. h.stamps ≡ replicate (ROWS * (limits.blocks + 1)) 0) }
         ensures last { IfOk result (λ h. h.last ≡ no_change) }
     {
-        let store = Store::open(alloc, limits.cells, limits.blocks, limits.contexts)?;
-        let pool = Pool::open(alloc, limits.blocks)?;
-        let stamps = Stamps::open(alloc, limits.blocks)?;
+        let blocks = limits.blocks.min(FIRST);
+        let store = Store::open(alloc, limits.cells, blocks, limits.contexts)?;
+        // Read for the proof alone: the store is sound.
+        let _sound = store.contents();
+        let pool = Pool::open(alloc, blocks)?;
+        let stamps = Stamps::open(alloc, blocks)?;
         let last = Last::none();
         Ok(Host {
             store,
             pool,
             stamps,
             last,
+            limit: limits.blocks,
         })
     }
 

@@ -1,6 +1,6 @@
 // What the last call did, as a host keeps it.
-ghost use Rattle.std.specs.Prelude.{◌≡◌};
-ghost use Rattle.hd_host.specs.{Changes.change_by, Changes.no_change, Inside.Settled};
+ghost use Rattle.std.specs.Prelude.{◌≡◌, ◌<◌, ◌+◌, ◌^◌};
+ghost use Rattle.hd_host.specs.{Changes.change_by, Changes.no_change, Changes.short_of, Inside.Settled};
 
 use crate::change::Change;
 use crate::fault::Fault;
@@ -11,30 +11,67 @@ use std::marker::Model;
 /// change nothing, and write one word.
 #[derive(Drop)]
 pub struct Last {
-    short: Short,
+    // A change in short, as a word, which is copied by one move.
+    short: u64,
     // The last change of blocks.
     blocks: Change,
 }
 
 /// A change in short.
-#[derive(Clone, Copy)]
 pub(crate) enum Short {
     Nothing,
-    /// A slot was given or freed.
-    Slot(Slot),
     /// Blocks changed, as they last did.
     Blocks,
+    /// A slot was given or freed.
+    Slot(Slot),
+}
+
+// The words of the first two. That of a slot is the slot's number and 2.
+const NOTHING: u64 = 0;
+
+const BLOCKS: u64 = 1;
+
+impl Short {
+    // Its word.
+    #[inline(always)]
+    fn word(self) -> u64
+        ensures { short_of result ≡ self }
+    {
+        match self {
+            Short::Nothing => NOTHING,
+            Short::Blocks => BLOCKS,
+            Short::Slot(slot) => slot.0 as u64 + 2,
+        }
+    }
+
+    // That of a word.
+    #[inline(always)]
+    fn of(word: u64) -> Short
+        requires { word < 2 ^ 32 + 2 }
+        ensures { result ≡ short_of word }
+    {
+        if word == NOTHING {
+            Short::Nothing
+        } else if word == BLOCKS {
+            Short::Blocks
+        } else {
+            Short::Slot(Slot((word - 2) as u32))
+        }
+    }
 }
 
 impl Model for Last {
     ghost use Rattle.hd_host.specs.declared.change.Change.{Change};
-    ghost use Rattle.hd_host.specs.{Changes.change_code, Changes.in_full};
+    ghost use Rattle.std.specs.Prelude.{◌<◌, ◌+◌, ◌^◌};
+    ghost use Rattle.hd_host.specs.{Changes.change_code, Changes.in_full, Changes.short_of};
 
     ghost Value = { Change };
 
     ghost coded = { change_code };
 
-    ghost view = { λ l. in_full l.short l.blocks };
+    ghost view = { λ l. in_full (short_of l.short) l.blocks };
+
+    ghost invariant = { λ l. l.short < 2 ^ 32 + 2 };
 }
 
 impl Last {
@@ -43,7 +80,7 @@ impl Last {
         ensures { result ≡ change }
     {
         Last {
-            short: Short::Blocks,
+            short: Short::Blocks.word(),
             blocks: change,
         }
     }
@@ -53,7 +90,7 @@ impl Last {
         ensures { result ≡ no_change }
     {
         Last {
-            short: Short::Nothing,
+            short: Short::Nothing.word(),
             blocks: Change::by(None, Grown::Zero),
         }
     }
@@ -63,7 +100,7 @@ impl Last {
     pub(crate) fn clear(&mut self)
         ensures { self.new ≡ no_change }
     {
-        self.short = Short::Nothing;
+        self.short = Short::Nothing.word();
     }
 
     /// A call was done that gave or freed a slot, if any, and took or gave back blocks.
@@ -73,7 +110,7 @@ impl Last {
     {
         match (slot, grown) {
             (None, Grown::Zero) => self.clear(),
-            (Some(slot), Grown::Zero) => self.short = Short::Slot(slot),
+            (Some(slot), Grown::Zero) => self.short = Short::Slot(slot).word(),
             (_, Grown::One(_) | Grown::Two(..) | Grown::Back(_)) => self.put_blocks(slot, grown),
         }
     }
@@ -91,7 +128,7 @@ impl Last {
         ensures { self.new ≡ change }
     {
         self.blocks = change;
-        self.short = Short::Blocks;
+        self.short = Short::Blocks.word();
     }
 
     /// The same as another.
@@ -99,10 +136,9 @@ impl Last {
     pub(crate) fn set_as(&mut self, other: &Last)
         ensures { self.new ≡ other.now }
     {
-        match other.short {
-            Short::Nothing => self.clear(),
-            Short::Slot(slot) => self.short = Short::Slot(slot),
-            Short::Blocks => self.put(other.blocks),
+        self.short = other.short;
+        if other.short == BLOCKS {
+            self.blocks = other.blocks;
         }
     }
 
@@ -110,7 +146,7 @@ impl Last {
     pub fn get(&self) -> Change
         ensures { result ≡ self.now }
     {
-        match self.short {
+        match Short::of(self.short) {
             Short::Nothing => Change::by(None, Grown::Zero),
             Short::Slot(slot) => Change::by(Some(slot), Grown::Zero),
             Short::Blocks => self.blocks,

@@ -5,6 +5,7 @@
 mod change;
 mod collecting;
 mod fault;
+mod growing;
 mod handle;
 mod handles;
 mod host;

@@ -46,6 +46,7 @@ impl Host {
     }
 
     // Why a context that has made 2^32 - 1 objects makes no other: the heap is full, or else that.
+    #[cold]
     #[inline(never)]
     pub(crate) fn no_serial_left(&self, context: u32, fields: u8) -> Fault
         requires context { context < self.now.machine.numbers.callers }

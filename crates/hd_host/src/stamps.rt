@@ -1,5 +1,5 @@
 // The stamps of slots: how often the handle in each was freed, each with whether the slot is live.
-ghost use Rattle.std.specs.Prelude.{◌≡◌, ◌≢◌, true, false, Some, IfSome, ◌+◌, ◌*◌, ◌/◌, ◌%◌, ◌<◌, ◌≤◌, ◌^◌, length, replicate, slice_get, slice_index, slice_set, IfOk};
+ghost use Rattle.std.specs.Prelude.{◌≡◌, ◌≢◌, true, false, Some, IfSome, ◌+◌, ◌-◌, ◌*◌, ◌/◌, ◌%◌, ◌<◌, ◌≤◌, ◌^◌, ◌++◌, length, replicate, slice_get, slice_index, slice_set, IfOk, MatchResult};
 ghost use Rattle.hd_host.specs.declared.stamps.TheConstants.{END, FREE};
 
 use crate::handle::Handle;
@@ -16,7 +16,7 @@ pub(crate) const FREE: u64 = (1 << 24) - 1;
 
 /// An entry for each slot of a table: its handle while it is live, and else the stamp that its next
 /// handle gets, above a number that no slot has. So one comparison separates a live handle from any
-/// other number. All memory is taken by `open`.
+/// other number.
 #[derive(Drop)]
 pub(crate) struct Stamps {
     entries: Vec<u64>,
@@ -48,6 +48,23 @@ impl Stamps {
     {
         match vec![in alloc; FREE; (ROWS * (blocks + 1)) as usize] {
             Ok(entries) => Ok(Stamps { entries }),
+            Err(_) => Err(Memory),
+        }
+    }
+
+    /// Those of at least so many blocks: no handle was made in the slots that come.
+    pub(crate) fn reserve(&mut self, blocks: u32) -> Result<(), Memory>
+        requires { blocks ≤ HOST_BLOCKS }
+        ensures { let slots = ROWS * (blocks + 1) in MatchResult result
+            (λ _. self.new ≡ self.old ++ replicate (slots - length self.old) FREE)
+            (λ _. self.new ≡ self.old) }
+    {
+        let slots = (ROWS * (blocks + 1)) as usize;
+        if slots <= self.entries.len() {
+            return Ok(());
+        }
+        match self.entries.resize(slots, FREE) {
+            Ok(()) => Ok(()),
             Err(_) => Err(Memory),
         }
     }

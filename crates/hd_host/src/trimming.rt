@@ -105,6 +105,8 @@ impl Host {
             self.new ≡ record self.old { machine = self.new.machine; last = last } }
     {
         let data = self.store.give_back_pair(kind, block);
+        // Read for the proof alone: the store is sound.
+        let _sound = self.store.contents();
         self.pool.remove_block(block);
         self.last.put(Change {
             slot: None,

@@ -7,17 +7,18 @@ ghost use Rattle.hd_store.specs.Replies.{found_reply, removed_reply};
 ghost use Rattle.hd_host.specs.View.{IsAsItWas};
 
 use crate::fault::Fault;
+use crate::growing::make_room;
 use crate::host::Host;
 use crate::last::settle;
 use hd_model::limits::REGISTERS;
-use hd_model::{Cmd, Kind};
+use hd_model::{Cmd, Kind, Memory};
 use hd_slots::{Change as Slots, note_slot, offer};
 use hd_store::{Lookup, Store};
 
 impl Host {
     /// Adds the entry of a key with a value (ConditionalWeakTable.Add). Where no slot of the weak
     /// table is idle, it gets the least free slot of kind dependent, and the table grows only where
-    /// there is none.
+    /// there is none. That the table is full is reported before memory is taken.
     pub fn table_add(&mut self, context: u32, key: u8, value: u8) -> Result<(), Fault>
         requires context { context < self.old.machine.numbers.callers }
         requires locals { (key < REGISTERS) × (value < REGISTERS) }
@@ -28,6 +29,16 @@ impl Host {
     {
         let change = change_by_entry(&self.store, context, key, value);
         let offered = offer(&mut self.pool, change);
+        if let Err(Memory) = make_room(
+            &mut self.store,
+            &mut self.pool,
+            &mut self.stamps,
+            self.limit,
+            change,
+            offered,
+        ) {
+            return Err(Fault::Memory);
+        }
         match self.store.add_entry(context, key, value, offered) {
             Ok((slot, grown)) => {
                 note_slot(&mut self.pool, change, Some(slot), grown);

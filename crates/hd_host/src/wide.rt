@@ -75,6 +75,7 @@ impl Host {
     /// Makes an object as `object_new` does, with a value and with a field for each of some locals,
     /// which references what the local did before the call; `dst` may be among them. It is refused
     /// as `object_new` is, and then nothing is made.
+    #[inline(always)]
     pub fn object_make(
         &mut self,
         context: u32,

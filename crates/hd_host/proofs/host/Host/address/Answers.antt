@@ -1,5 +1,5 @@
 use Rattle.hd_model.specs.declared.data.Reply.TheVariants as reply
-use Rattle.hd_host.proofs.ValueCalls.{refl, some_context, tried_of}
+use Rattle.hd_host.proofs.GrownCalls.{refl, some_context, tried_of}
 use Rattle.hd_host.proofs.host.Host.address.Goals as goal
 
 pub returns-clause-does : goal.returns-clause-does

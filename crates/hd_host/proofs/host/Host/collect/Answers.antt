@@ -1,6 +1,6 @@
 use Rattle.hd_model.specs.declared.data.Reply.TheVariants as reply
-use Rattle.hd_host.proofs.{CallHost.host_without, OutOfMemory.collect_ran_out, OutOfMemory.out_as_it_was}
-use Rattle.hd_host.proofs.ValueCalls.{called_numbers, callers_by, host_on, refl, replied_on, some_context}
+use Rattle.hd_host.proofs.{GrownParts.wide_out, OutOfMemory.collect_ran_out, OutOfMemory.out_as_it_was}
+use Rattle.hd_host.proofs.GrownCalls.{called_numbers, callers_by, host_on, host_without, refl, replied_on, some_context}
 use Rattle.hd_host.proofs.host.Host.collect.Goals as goal
 
 pub invariant_of-self : goal.invariant_of-self
@@ -13,7 +13,7 @@ returns-in-Ok-clause-does c =
 
 pub returns-in-Ok-clause-contexts : goal.returns-in-Ok-clause-contexts
 returns-in-Ok-clause-contexts c =
-    callers_by c.self.view_is (called_numbers c.in-Ok.ensures)
+    callers_by c.self.invariant c.self.view_is (called_numbers c.in-Ok.ensures)
 
 pub invariant_of-self-in-Err : goal.invariant_of-self-in-Err
 invariant_of-self-in-Err c =
@@ -21,4 +21,5 @@ invariant_of-self-in-Err c =
 
 pub returns-in-Err-clause-does : goal.returns-in-Err-clause-does
 returns-in-Err-clause-does c =
-    (collect_ran_out c.in-Err.ensures c.self.view_is, out_as_it_was c.in-Err.ensures c.self.view_is)
+    let out = wide_out c.self.inside.limit c.in-Err.ensures in
+    (collect_ran_out out c.self.view_is, out_as_it_was out c.self.view_is)

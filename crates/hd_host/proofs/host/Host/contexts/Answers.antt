@@ -7,4 +7,4 @@ returns-clause-value c =
     c.callers.ensures ∙ ap (λ (v : HostView). v.machine.numbers.callers) c.self.view_is
 
 pub returns-clause-some : goal.returns-clause-some
-returns-clause-some c = omega (arith, c.callers.ensures, c.self.invariant.limits.callers.0)
+returns-clause-some c = omega (arith, c.callers.ensures, c.self.invariant.host.limits.callers.0)

@@ -1,5 +1,5 @@
 use Rattle.hd_model.specs.declared.data.Reply.TheVariants as reply
-use Rattle.hd_host.proofs.ValueCalls.{called_numbers, callers_by, host_of, refl, some_context, tried_of}
+use Rattle.hd_host.proofs.GrownCalls.{called_numbers, callers_by, host_of, refl, some_context, tried_of}
 use Rattle.hd_host.specs.Calls.{no_count}
 use Rattle.hd_host.proofs.SameHost.{unchanged}
 use Rattle.hd_host.proofs.host.Host.count_up.Goals as goal
@@ -24,4 +24,4 @@ returns-clause-does c =
 
 pub returns-clause-contexts : goal.returns-clause-contexts
 returns-clause-contexts c =
-    callers_by c.self.view_is (called_numbers c.raise_count-came.ensures.0)
+    callers_by c.self.invariant c.self.view_is (called_numbers c.raise_count-came.ensures.0)

@@ -1,6 +1,6 @@
 use Rattle.hd_model.specs.Command.{load_reply}
 use Rattle.hd_host.proofs.{Refused.not_refused, ReplyForms.loads}
-use Rattle.hd_host.proofs.ValueCalls.{called_numbers, callers_by, host_on, refl, tried}
+use Rattle.hd_host.proofs.GrownCalls.{called_numbers, callers_by, host_on, refl, tried}
 use Rattle.hd_host.proofs.host.Host.field_get.Goals as goal
 
 pub invariant_of-self : goal.invariant_of-self
@@ -14,4 +14,4 @@ returns-clause-does c =
 
 pub returns-clause-contexts : goal.returns-clause-contexts
 returns-clause-contexts c =
-    callers_by c.self.view_is (called_numbers c.get_field-came.ensures)
+    callers_by c.self.invariant c.self.view_is (called_numbers c.get_field-came.ensures)

@@ -1,8 +1,8 @@
 use Rattle.hd_model.specs.Command.{load_reply}
 use Rattle.hd_store.specs.declared.hosted.Loaded.{Loaded}
 use Rattle.hd_host.proofs.{CallHost.known_in, Refused.not_refused, ReplyForms.loads}
-use Rattle.hd_host.proofs.ValueCalls.{called_numbers, callers_by, host_on, refl, tried}
-use Rattle.hd_host.proofs.WideCalls.{known_on, reads_settled}
+use Rattle.hd_host.proofs.GrownCalls.{called_numbers, callers_by, host_on, refl, tried}
+use Rattle.hd_host.proofs.{GrownWide.reads_settled, WideCalls.known_on}
 use Rattle.hd_host.proofs.host.Host.field_load.Goals as goal
 
 pub invariant_of-self : goal.invariant_of-self
@@ -25,4 +25,4 @@ returns-clause-reads c =
 
 pub returns-clause-contexts : goal.returns-clause-contexts
 returns-clause-contexts c =
-    callers_by c.self.view_is (called_numbers c.load_field-came.ensures.got)
+    callers_by c.self.invariant c.self.view_is (called_numbers c.load_field-came.ensures.got)

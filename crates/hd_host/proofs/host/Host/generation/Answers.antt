@@ -1,5 +1,5 @@
 use Rattle.hd_model.specs.declared.data.Reply.TheVariants as reply
-use Rattle.hd_host.proofs.ValueCalls.{refl, tried}
+use Rattle.hd_host.proofs.GrownCalls.{refl, tried}
 use Rattle.hd_host.proofs.host.Host.generation.Goals as goal
 
 pub returns-clause-does : goal.returns-clause-does

@@ -2,7 +2,7 @@ use Rattle.std.proofs.Common.{ap, refl}
 use Rattle.hd_model.specs.{Command.load_reply, State.handle_register_of}
 use Rattle.hd_store.specs.Store.{Machine}
 use Rattle.hd_host.proofs.{Refused.not_refused, ReplyForms.loads}
-use Rattle.hd_host.proofs.ValueCalls.{called_numbers, callers_by, host_of, replied_of}
+use Rattle.hd_host.proofs.GrownCalls.{called_numbers, callers_by, host_of, replied_of}
 use Rattle.hd_host.proofs.host.Host.handle_get.Goals as goal
 
 pub invariant_of-self : goal.invariant_of-self
@@ -26,4 +26,4 @@ returns-clause-does c =
 
 pub returns-clause-contexts : goal.returns-clause-contexts
 returns-clause-contexts c =
-    callers_by c.self.view_is (called_numbers c.load_target-target.ensures.called)
+    callers_by c.self.invariant c.self.view_is (called_numbers c.load_target-target.ensures.called)

@@ -1,7 +1,7 @@
 use Rattle.hd_model.specs.Command.{load_reply}
 use Rattle.hd_host.proofs.{CallHost.known_in, Refused.not_refused, ReplyForms.loads}
-use Rattle.hd_host.proofs.ValueCalls.{called_numbers, callers_by, host_of, refl, replied_of}
-use Rattle.hd_host.proofs.WideCalls.{known_on, reads_by}
+use Rattle.hd_host.proofs.GrownCalls.{called_numbers, callers_by, host_of, refl, replied_of}
+use Rattle.hd_host.proofs.{GrownWide.reads_by, WideCalls.known_on}
 use Rattle.hd_host.proofs.host.Host.handle_load.Goals as goal
 
 pub invariant_of-self : goal.invariant_of-self
@@ -26,4 +26,4 @@ returns-clause-reads c =
 
 pub returns-clause-contexts : goal.returns-clause-contexts
 returns-clause-contexts c =
-    callers_by c.self.view_is (called_numbers c.load_handle-loaded.ensures.got.0)
+    callers_by c.self.invariant c.self.view_is (called_numbers c.load_handle-loaded.ensures.got.0)

@@ -1,5 +1,5 @@
 use Rattle.hd_model.specs.declared.data.Reply.TheVariants as reply
-use Rattle.hd_host.proofs.ValueCalls.{called_numbers, callers_by, host_on, refl, replied_on}
+use Rattle.hd_host.proofs.GrownCalls.{called_numbers, callers_by, host_on, refl, replied_on}
 use Rattle.hd_host.proofs.host.Host.local_copy.Goals as goal
 
 pub invariant_of-self : goal.invariant_of-self
@@ -12,4 +12,4 @@ returns-clause-does c =
 
 pub returns-clause-contexts : goal.returns-clause-contexts
 returns-clause-contexts c =
-    callers_by c.self.view_is (called_numbers c.copy_register.ensures)
+    callers_by c.self.invariant c.self.view_is (called_numbers c.copy_register.ensures)

@@ -1,7 +1,7 @@
 use Rattle.std.proofs.Common.{ap, ◌∙◌}
 use Rattle.hd_model.specs.State.{State, register_of, with_register}
 use Rattle.hd_host.specs.View.{HostView}
-use Rattle.hd_host.proofs.WideCalls.{host_alone, steps_alone}
+use Rattle.hd_host.proofs.GrownWide.{host_alone, steps_alone}
 use Rattle.hd_host.proofs.host.Host.local_pass.Goals as goal
 
 pub invariant_of-self : goal.invariant_of-self

@@ -10,13 +10,13 @@ loop-i-init c = shows-none c.args.self.now c.args.context c.args.out.now
 pub bounds-out-i : goal.bounds-out-i
 bounds-out-i c =
     let long = shows-as-long c.args.self.now c.args.context c.args.out.now
-    (locals-long c.self.invariant c.self.view_is c.args.context c.requires.context) c.loop-i.i c.loop-i.invariant in
+    (locals-long c.self.invariant.host c.self.view_is c.args.context c.requires.context) c.loop-i.i c.loop-i.invariant in
     omega (arith, c.loop-i-test.true, c.requires.room, long)
 
 pub loop-i-preserved : goal.loop-i-preserved
 loop-i-preserved c =
     shows-next c.args.self.now c.args.context c.args.out.now
-    (locals-long c.self.invariant c.self.view_is c.args.context c.requires.context) c.loop-i.i c.loop-i.invariant
+    (locals-long c.self.invariant.host c.self.view_is c.args.context c.requires.context) c.loop-i.i c.loop-i.invariant
     c.id_number.result (omega (arith, c.loop-i-test.true))
     (c.id_number.ensures ∙ ap id_number c.register.ensures
     ∙ ap (λ (v : HostView). id_number (register_of v.machine.state c.args.context c.loop-i.i)) c.self.view_is)
@@ -25,5 +25,5 @@ pub returns : goal.returns
 returns c =
     let all : c.loop-i.i ≡ REGISTERS = omega (arith, c.loop-i-test.false, c.loop-i.auto.i-end) in
     shows-all c.args.self.now c.args.context c.args.out.now
-    (locals-long c.self.invariant c.self.view_is c.args.context c.requires.context) c.loop-i.i c.loop-i.invariant
+    (locals-long c.self.invariant.host c.self.view_is c.args.context c.requires.context) c.loop-i.i c.loop-i.invariant
     c.requires.room all

@@ -1,6 +1,6 @@
 use Rattle.hd_model.specs.State.{State}
 use Rattle.hd_store.specs.Hosted.{with_cleared}
-use Rattle.hd_host.proofs.WideCalls.{host_alone, steps_alone}
+use Rattle.hd_host.proofs.GrownWide.{host_alone, steps_alone}
 use Rattle.hd_host.proofs.host.Host.locals_clear.Goals as goal
 
 pub invariant_of-self : goal.invariant_of-self

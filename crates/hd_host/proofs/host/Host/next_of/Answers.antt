@@ -43,5 +43,5 @@ pub returns-clause-few : goal.returns-clause-few
 returns-clause-few c =
     let at = ap (λ (m : Machine). m.state) c.contents.ensures.value
     ∙ ap (λ (v : HostView). v.machine.state) c.self.view_is in
-    live_small (whole c.self.invariant c.self.view_is) c.in-Some.slot
+    live_small (whole c.self.invariant.host c.self.view_is) c.in-Some.slot
     (ap is_some (sym (ap (λ (s : State). handle_at s c.in-Some.slot) at) ∙ c.in-Some.ensures.is.has.live))

@@ -1,8 +1,8 @@
 use Rattle.std.proofs.Common.{None, arith, subst}
 use Rattle.hd_model.specs.declared.command.Cmd.TheVariants as cmd
 use Rattle.hd_host.specs.Calls.{FailsBy}
-use Rattle.hd_host.proofs.{CallHost.host_without, OutOfMemory.new_ran_out, OutOfMemory.out_as_it_was, SameHost.unchanged, ValueCalls.callers_by}
-use Rattle.hd_host.proofs.WideCalls.{host_makes, makes_numbers, makes_tried}
+use Rattle.hd_host.proofs.{GrownCalls.callers_by, GrownCalls.host_without, GrownParts.wide_out, OutOfMemory.new_ran_out, OutOfMemory.out_as_it_was, SameHost.unchanged}
+use Rattle.hd_host.proofs.GrownWide.{host_makes, makes_numbers, makes_tried}
 use Rattle.hd_host.proofs.host.Host.object_make.Goals as goal
 
 pub no_serial_left-requires-clause-fields : goal.no_serial_left-requires-clause-fields
@@ -30,7 +30,7 @@ returns-in-Ok-clause-does c =
 
 pub returns-in-Ok-clause-contexts : goal.returns-in-Ok-clause-contexts
 returns-in-Ok-clause-contexts c =
-    callers_by c.self.view_is (makes_numbers c.self.invariant c.self.view_is c.requires.context
+    callers_by c.self.invariant c.self.view_is (makes_numbers c.self.invariant c.self.view_is c.requires.context
     c.make_object.new.self c.args.dst c.args.value c.args.fin c.args.src.now c.contents-sound.ensures.sound
     c.in-Ok.came c.in-Ok.ensures)
 
@@ -39,7 +39,8 @@ invariant_of-self-in-Err c =
     host_without c.in-Err.ensures c.self.invariant
 
 pub returns-in-Err-clause-does : goal.returns-in-Err-clause-does
-returns-in-Err-clause-does c = (
-  new_ran_out c.in-Err.ensures c.self.view_is (c.has_made_all.ensures.more c.if-has_made_all.false),
-  out_as_it_was c.in-Err.ensures c.self.view_is,
-)
+returns-in-Err-clause-does c =
+    let out = wide_out c.self.inside.limit c.in-Err.ensures in (
+      new_ran_out out c.self.view_is (c.has_made_all.ensures.more c.if-has_made_all.false),
+      out_as_it_was out c.self.view_is,
+    )

@@ -1,6 +1,6 @@
 use Rattle.hd_model.specs.declared.data.Reply.TheVariants as reply
-use Rattle.hd_host.proofs.{CallHost.host_without, OutOfMemory.new_ran_out, OutOfMemory.out_as_it_was, SameHost.unchanged}
-use Rattle.hd_host.proofs.ValueCalls.{called_numbers, callers_by, host_on, refl, tried}
+use Rattle.hd_host.proofs.{GrownParts.wide_out, OutOfMemory.new_ran_out, OutOfMemory.out_as_it_was, SameHost.unchanged}
+use Rattle.hd_host.proofs.GrownCalls.{called_numbers, callers_by, host_on, host_without, refl, tried}
 use Rattle.hd_host.proofs.host.Host.object_new.Goals as goal
 
 pub returns-then-has_made_all-clause-does : goal.returns-then-has_made_all-clause-does
@@ -18,14 +18,15 @@ returns-in-Ok-clause-does c =
 
 pub returns-in-Ok-clause-contexts : goal.returns-in-Ok-clause-contexts
 returns-in-Ok-clause-contexts c =
-    callers_by c.self.view_is (called_numbers c.in-Ok.ensures)
+    callers_by c.self.invariant c.self.view_is (called_numbers c.in-Ok.ensures)
 
 pub invariant_of-self-in-Err : goal.invariant_of-self-in-Err
 invariant_of-self-in-Err c =
     host_without c.in-Err.ensures c.self.invariant
 
 pub returns-in-Err-clause-does : goal.returns-in-Err-clause-does
-returns-in-Err-clause-does c = (
-  new_ran_out c.in-Err.ensures c.self.view_is (c.has_made_all.ensures.more c.if-has_made_all.false),
-  out_as_it_was c.in-Err.ensures c.self.view_is,
-)
+returns-in-Err-clause-does c =
+    let out = wide_out c.self.inside.limit c.in-Err.ensures in (
+      new_ran_out out c.self.view_is (c.has_made_all.ensures.more c.if-has_made_all.false),
+      out_as_it_was out c.self.view_is,
+    )

@@ -1,6 +1,6 @@
 use Rattle.std.proofs.Common.{refl, sym}
 use Rattle.hd_store.specs.Replies.{root_reply}
-use Rattle.hd_host.proofs.{OutOfMemory.null_root, OutOfMemory.root_ran_out, ReplyForms.not_rooted, ReplyForms.roots, SameHost.unchanged, ValueCalls.tried}
+use Rattle.hd_host.proofs.{GrownParts.wide_out, OutOfMemory.null_root, OutOfMemory.root_ran_out, ReplyForms.not_rooted, ReplyForms.roots, SameHost.unchanged, GrownCalls.tried}
 use Rattle.hd_host.proofs.host.Host.root_of.Goals as goal
 
 pub returns-in_default-clause-does : goal.returns-in_default-clause-does
@@ -16,5 +16,7 @@ returns-in-Ok-clause-does c =
     not_rooted roots _ _ c.settle.ensures
 
 pub returns-in-Err-clause-does : goal.returns-in-Err-clause-does
-returns-in-Err-clause-does c =
-    (root_ran_out c.in-Err.ensures c.self.view_is (sym c.in-Some.ensures), unchanged c.args.self.now)
+returns-in-Err-clause-does c = (
+  root_ran_out (wide_out c.self.inside.limit c.in-Err.ensures) c.self.view_is (sym c.in-Some.ensures),
+  unchanged c.args.self.now,
+)

@@ -1,6 +1,6 @@
 use Rattle.hd_model.specs.Command.{load_reply}
 use Rattle.hd_host.proofs.{Refused.not_refused, ReplyForms.loads}
-use Rattle.hd_host.proofs.ValueCalls.{called_numbers, callers_by, host_of, refl, tried_of}
+use Rattle.hd_host.proofs.GrownCalls.{called_numbers, callers_by, host_of, refl, tried_of}
 use Rattle.hd_host.proofs.host.Host.secondary_get.Goals as goal
 
 pub invariant_of-self : goal.invariant_of-self
@@ -16,4 +16,4 @@ returns-clause-does c =
 
 pub returns-clause-contexts : goal.returns-clause-contexts
 returns-clause-contexts c =
-    callers_by c.self.view_is (called_numbers c.get_secondary-came.ensures.0)
+    callers_by c.self.invariant c.self.view_is (called_numbers c.get_secondary-came.ensures.0)

@@ -1,4 +1,4 @@
-use Rattle.hd_host.proofs.{Trimmed.host_trimmed, Trimmed.may_note, Trimmed.may_offer, Trimmed.trims, ValueCalls.callers_by}
+use Rattle.hd_host.proofs.{GrownCalls.callers_by, GrownFrees.host_trimmed, GrownFrees.may_note_trim, GrownFrees.may_offer, GrownFrees.trims}
 use Rattle.hd_host.proofs.Registers.{called_numbers}
 use Rattle.hd_host.proofs.host.Host.trim.Goals as goal
 
@@ -8,7 +8,7 @@ trim-grown-requires-clause-offer c =
 
 pub note_slot-requires : goal.note_slot-requires
 note_slot-requires c =
-    may_note c.self.invariant c.self.view_is c.args.kind c.offer-offered.new.pool c.offer-offered.result c.offer-offered.ensures c.trim-grown.ensures
+    may_note_trim c.self.invariant c.self.view_is c.args.kind c.offer-offered.new.pool c.offer-offered.result c.offer-offered.ensures c.trim-grown.ensures
 
 pub invariant_of-self : goal.invariant_of-self
 invariant_of-self c =
@@ -20,4 +20,4 @@ returns-clause-does c =
 
 pub returns-clause-contexts : goal.returns-clause-contexts
 returns-clause-contexts c =
-    callers_by c.self.view_is (called_numbers c.trim-grown.ensures)
+    callers_by c.self.invariant c.self.view_is (called_numbers c.trim-grown.ensures)

@@ -1,4 +1,4 @@
-use Rattle.std.proofs.Common.{ap, inl, inr, refl, subst, sym, ◌∙◌}
+use Rattle.std.proofs.Common.{ap, inl, inr, refl, subst}
 use Rattle.hd_model.specs.State.{Numbers}
 use Rattle.hd_store.specs.{Spare.HasNoSpare, Spare.IsLeastSpare, Store.Machine}
 use Rattle.hd_host.specs.View.{HostView}

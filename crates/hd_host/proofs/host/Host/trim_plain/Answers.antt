@@ -1,6 +1,5 @@
-use Rattle.std.proofs.Common.{Bool, arith, subst, sym, ◌≡◌}
-use Rattle.hd_host.specs.Turns.{TrimsBlock, TrimsBy, next_kind, no_kinds, one_more}
-use Rattle.hd_host.specs.View.{HostView}
+use Rattle.std.proofs.Common.{arith, subst}
+use Rattle.hd_host.specs.Turns.{TrimsBlock, next_kind, no_kinds, one_more}
 use Rattle.hd_host.proofs.TrimRows.{block_fewer, plain_block}
 use Rattle.hd_host.proofs.host.Host.trim_plain.Goals as goal
 
