@@ -78,8 +78,8 @@ enum {
     HDT_IS_OPEN = 2,     /* hdt_open, _open_shared: it is open already, or one of them */
     HDT_ARGUMENT = 3,    /* a context, local, kind, generation or limit out of range; more than 61 fields, flags that are none, an
                           * `extra` that the kind does not take, the number of no static */
-    HDT_NO_MEMORY = 4,   /* of hdt_open, _open_shared, _object_new, _object_make, _collect, _root_of, with nothing else wrong: malloc
-                          * failed */
+    HDT_NO_MEMORY = 4,   /* of hdt_open, _open_shared, _object_new, _object_make, _collect, _root_of, and, where no slot is free,
+                          * of _handle_new, _table_add, _table_set: with nothing else wrong, malloc failed */
     HDT_EXHAUSTED = 5,   /* the context has made 2^32 - 1 objects, and another may make as many (hdt_context_left says how many are
                           * left); or the count, or the stamp of the slot, is at its end */
     /* the refusals of the machine, in the order in which they are found */
@@ -148,7 +148,7 @@ typedef struct { uint32_t major, minor, patch; } hdt_version_out;
 /* ---- the host */
 uint32_t hdt_abi(void);
 void hdt_version(hdt_version_out *out);
-hdt_status hdt_open(hdt_host *host, const hdt_limits *limits); /* takes that of table and contexts; objects, collections more */
+hdt_status hdt_open(hdt_host *host, const hdt_limits *limits); /* takes that of contexts and 64 blocks; what is used takes more */
 /* One host with n ends, 1 to 16, each closed before. limits->contexts is n times the number that each has. With any status but
  * HDT_OK no end is opened. Each end may then be moved to its thread. Each call with one, but hdt_last and hdt_close, is a turn:
  * no end waits for another and none has the host between two calls, so who finds it taken may try again at once. */

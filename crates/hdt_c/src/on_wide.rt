@@ -140,6 +140,7 @@ fn handle_load_shared(
 }
 
 // Makes an object with its value and its fields.
+#[inline(always)]
 fn object_make(
     host: &mut Host,
     c: u32,
