@@ -44,6 +44,8 @@ static inline void make_pair(slot dst, slot head, slot tail) {
 }
 static inline void head_of(slot dst, slot pair) { words[dst] = fields_of(words[pair])[0]; }
 static inline void tail_of(slot dst, slot pair) { words[dst] = fields_of(words[pair])[1]; }
+static inline word tail_seen(slot pair) { return fields_of(words[pair])[1]; }
+static inline void second_of(slot dst, slot pair) { words[dst] = fields_of(fields_of(words[pair])[1])[0]; }
 static void make_procedure(slot dst, uint32_t code, slot base, const uint32_t *captured, unsigned count) {
     word *at = taken_words(count + 1);
     at[0] = code;

@@ -2,24 +2,21 @@
  * word for each: an immediate value, and then the local means nothing; or the value of the object that the local references,
  * whose low bits say what it is. Pairs, procedures, strings and symbols never change, so that word stays true; boxes and
  * guardians are asked again. What an object has is immediate in its value as far as it fits there, and else in its fields.
- *
  * A procedure's places are slots of one context, from its base on; where the callee's do not fit beside its caller's they are in
  * the next context. If that was the last one, what the oldest has goes into an object until it is returned to. */
 #include "hdt.h"
 enum { LOCALS = 16, NULL_LOCAL = 15, PLACES = 15 }; /* the last local of a context is null between calls */
 /* Where the parts of an object's value begin, above its tag. */
-enum { AT_HEAD = 3, AT_TAIL = 33, AT_CODE = 3, AT_FIRST = 19, AT_SECOND = 41, SORT = 3, PAYLOAD = 6, AT_BYTES = 31, END = 64 };
+enum { AT_HEAD = 3, AT_TAIL = 31, AT_CODE = 3, AT_FIRST = 19, AT_SECOND = 41, SORT = 3, PAYLOAD = 6, AT_BYTES = 31, END = 64 };
 enum { SPILLED = 0, YOUNG = 5000 }; /* a static; objects until the next collection: what follows is made where they were */
-enum sort { BOX, WRAPPED, GUARDIAN, GUARDED }; /* of OTHER: in the three bits above the tag */
-
+enum sort { BOX, GUARDIAN, GUARDED }; /* of OTHER: in the three bits above the tag */
 /* A constant, or a global variable with its name: its handle is strong. */
 struct cell {
     word now;
     hdt_handle handle;
     const char *name;
 };
-/* What goes with the handle in a slot of the table: a symbol's, which is weak long, so that one that a guardian gives back gets
- * no twin; or from what is guarded to what is finalized in its place, which is dependent. */
+/* What goes with a handle: a symbol's is weak long, so that one that a guardian gives back gets no twin; a guard's is dependent. */
 struct note {
     hdt_handle handle;
     char *name; /* of a symbol */
@@ -41,7 +38,6 @@ static uint32_t newest, lowest; /* that were entered since dead places were clea
 static unsigned kept;     /* locals of the present context that a call is at work with */
 static struct note *notes;
 static uint32_t buckets[1024], symbol_count, left; /* objects until the next collection */
-
 static inline hdt_context context_of(slot at) { return at / LOCALS; }
 static inline hdt_local local_of(slot at) { return at % LOCALS; }
 static inline unsigned live_in(hdt_context c) { return (unsigned)words[c * LOCALS + NULL_LOCAL]; }
@@ -52,10 +48,6 @@ static inline word part_of(word value, unsigned at, unsigned end) {
     return (word)((int64_t)(value << (END - end)) >> (END - end + at));
 }
 static inline word other(enum sort sort, word payload) { return payload << PAYLOAD | (word)sort << SORT | OTHER; }
-static inline bool is_a(word it, enum sort sort) { return (it & ((1 << PAYLOAD) - 1)) == ((word)sort << SORT | OTHER); }
-static inline word payload_of(word value) { return part_of(value, PAYLOAD, END); }
-/* The word of a slot whose local was just loaded with an object of this value. */
-static inline word word_of(uint64_t value) { return is_a(value, WRAPPED) ? payload_of(value) : value; }
 
 /* ---- collections */
 /* Clears the locals of a context that are no references of the program: all from `used` on, and those with an immediate. */
@@ -136,11 +128,10 @@ static void make_room(unsigned refusals) {
 static inline void make_object(slot dst, word value, uint32_t flags, const hdt_local *src, size_t fields) {
     hdt_id id;
     hdt_status status;
+    unsigned refusals = 0;
     if (left-- == 0) make_room(0);
-    for (unsigned refusals = 0;; make_room(refusals++)) {
-        status = hdt_object_make(&host, context_of(dst), local_of(dst), flags, value, src, fields, &id);
-        if (status != HDT_HEAP_FULL) break;
-    }
+    while ((status = hdt_object_make(&host, context_of(dst), local_of(dst), flags, value, src, fields, &id)) == HDT_HEAP_FULL)
+        make_room(refusals++);
     must(status, "an object");
     words[dst] = value;
 }
@@ -148,7 +139,7 @@ static inline void load(slot dst, slot object, uint32_t field) {
     hdt_id id;
     uint64_t value;
     must(hdt_field_load(&host, context_of(dst), local_of(dst), local_of(object), field, &id, &value), "a field");
-    words[dst] = word_of(value);
+    words[dst] = value;
 }
 static inline void copy(slot dst, slot src) {
     words[dst] = words[src];
@@ -161,10 +152,8 @@ static inline void pass(slot dst, slot src) {
     must(hdt_local_pass(&host, context_of(dst), local_of(dst), context_of(src), local_of(src), &id), "a reference passed");
 }
 /* The slot's own local references its immediate, until the call is done. */
-static void wrap(slot at) {
-    word it = words[at];
-    make_object(at, other(WRAPPED, it), 0, none, 0);
-    words[at] = it;
+static __attribute__((noinline)) void wrap(slot at) {
+    make_object(at, words[at], 0, none, 0);
     kept |= 1u << local_of(at);
 }
 /* The part for what a slot has, which is in the next field if it is no immediate that fits. */
@@ -189,8 +178,15 @@ static void make_pair(slot dst, slot head, slot tail) {
     kept = 0;
 }
 static inline void head_of(slot dst, slot pair) { get(dst, pair, part_of(words[pair], AT_HEAD, AT_TAIL), 0); }
+/* The tail without a load: an immediate, or of a reference its tag, and of a pair its head too if that is immediate. */
+static inline word tail_seen(slot pair) { return part_of(words[pair], AT_TAIL, END); }
 static inline void tail_of(slot dst, slot pair) {
-    get(dst, pair, part_of(words[pair], AT_TAIL, END), is_reference(words[pair] >> AT_HEAD));
+    get(dst, pair, tail_seen(pair), is_reference(words[pair] >> AT_HEAD));
+}
+static inline void second_of(slot dst, slot pair) {
+    const word second = part_of(tail_seen(pair), AT_HEAD, AT_TAIL);
+    if (is_reference(second)) tail_of(dst, pair), head_of(dst, dst);
+    else words[dst] = second;
 }
 /* What it captures from the third on is in fields alone. */
 static void make_procedure(slot dst, uint32_t code, slot base, const uint32_t *captured, unsigned count) {
@@ -221,15 +217,12 @@ static void make_box(slot dst, slot src) {
 static inline void box_get(slot dst, slot box) {
     uint64_t value = words[box];
     if (dst != box) must(hdt_value_get(&host, context_of(box), local_of(box), &value), "a variable");
-    get(dst, box, payload_of(value), 0);
+    get(dst, box, part_of(value, PAYLOAD, END), 0);
 }
 static void box_set(slot box, slot src) {
-    uint64_t value;
-    bool is_object = is_reference(words[src]);
-    must(hdt_value_get(&host, context_of(box), local_of(box), &value), "a variable");
+    const hdt_local from = is_reference(words[src]) ? local_of(src) : NULL_LOCAL;
     must(hdt_value_set(&host, context_of(box), local_of(box), other(BOX, words[src])), "a variable");
-    if (is_object || is_reference(payload_of(value)))
-        must(hdt_field_set(&host, context_of(box), local_of(box), 0, is_object ? local_of(src) : NULL_LOCAL), "a variable");
+    must(hdt_field_set(&host, context_of(box), local_of(box), 0, from), "a variable");
 }
 static bool is_same(slot one, slot another) {
     hdt_id first = words[one], second = words[another];
@@ -371,7 +364,7 @@ static void make_symbol(slot dst, const char *name) {
     symbol_count++;
 }
 static void make_guardian(slot dst) { make_object(dst, other(GUARDIAN, 0), 0, none, 1); }
-static bool is_guardian(slot at) { return is_a(words[at], GUARDIAN); }
+static bool is_guardian(slot at) { return (words[at] & ((1 << PAYLOAD) - 1)) == other(GUARDIAN, 0); }
 /* What is finalized when `object` cannot be reached has it and its guardian, and is kept by it alone, over a dependent handle. */
 static void guard(slot guardian, slot object) {
     const hdt_local src[3] = { local_of(object), local_of(guardian), NULL_LOCAL };
@@ -410,7 +403,7 @@ static void memo_get(slot dst, slot key) {
     hdt_status status = hdt_table_find(&host, context_of(dst), local_of(dst), local_of(key), &id);
     if (status != HDT_NONE) must(status, "an entry");
     if (status == HDT_OK) must(hdt_value_get(&host, context_of(dst), local_of(dst), &value), "an entry");
-    words[dst] = word_of(value);
+    words[dst] = value;
 }
 
 /* ---- the whole */

@@ -1,8 +1,6 @@
 /* An interpreter of a small Scheme whose values are objects of a host, but for integers, constants and procedures that capture
  * nothing, which are immediate. It reads a form, makes code of it for a machine with places, and does it; README.md says what of
- * Scheme there is. The memory is host.h, or another one with the same calls (benches/scheme_bdwgc.h). It is C11.
- *
- *   scheme [--cells N] [--blocks N] [--contexts N] [--stress] FILE [NUMBER] */
+ * Scheme there is. The memory is host.h, or another one with the same calls (benches/scheme_bdwgc.h). It is C11. */
 #include <inttypes.h>
 #include <stdbool.h>
 #include <stdint.h>
@@ -50,7 +48,6 @@ typedef const struct datum *form;
 static FILE *input;
 static void **taken;
 static size_t taken_count, taken_room;
-
 static void *take(size_t bytes) {
     if (taken_count == taken_room) taken = (void **)grown(taken, &taken_room, sizeof *taken);
     return taken[taken_count++] = grown(NULL, NULL, bytes);
@@ -79,7 +76,6 @@ static form part(form of, unsigned number) {
 static unsigned length_of(form it) { return it->is == IS_PAIR ? 1 + length_of(it->tail) : 0; }
 static bool is_name(form it, const char *text) { return it->is == IS_NAME && strcmp(it->text, text) == 0; }
 static bool begins(form it, const char *text) { return it->is == IS_PAIR && is_name(it->head, text); }
-
 static int next_letter(void) {
     int c = getc(input);
     for (bool is_comment = false; c != EOF && (is_comment || strchr(" \n\t\r;", c)); c = getc(input))
@@ -155,6 +151,8 @@ DO(is_symbol, IS(tag_of(words[a]) == SYMBOL))
 DO(cons, make_pair(dst, a, b))
 DO(car, need_a(PAIR, a); head_of(dst, a))
 DO(cdr, need_a(PAIR, a); tail_of(dst, a))
+DO(cadr, need_a(PAIR, a); need(tag_of(tail_seen(a)) == PAIR, "no pair"); second_of(dst, a))
+DO(is_last, need_a(PAIR, a); IS(tail_seen(a) == NIL))
 DO(text_of_number, char text[24]; need_a(INTEGER, a); snprintf(text, sizeof text, "%" PRId64, A); make_string(dst, text))
 DO(symbol_of_text, char text[MOST_TEXT]; need_a(STRING, a); bytes_of(a, text); make_symbol(dst, text))
 DO(text_of_symbol, char text[MOST_TEXT]; need_a(SYMBOL, a); strcpy(text, symbol_name(a)); make_string(dst, text))
@@ -170,7 +168,6 @@ DO(count_symbols, words[dst] = integer((int64_t)symbol_count))
 DO(newline, putchar('\n'); words[dst] = NOTHING)
 static int64_t argument;
 DO(argument_or, words[dst] = argument != 0 ? integer(argument) : words[a])
-
 /* What a place of work has; the rest of a list is in its place then, and its elements are one place further. */
 static void print(slot at, unsigned depth) {
     static const char *const constants[] = { "()", "#f", "#t", "#nothing", "#unset" };
@@ -197,16 +194,16 @@ static const struct primitive {
     unsigned operands;
     void (*call)(slot dst, slot a, slot b);
 } primitives[] = {
-    { "+", 2, add }, { "-", 2, subtract }, { "<", 2, is_less }, { "=", 2, is_equal }, { "car", 1, car }, { "cdr", 1, cdr },
-    { "cons", 2, cons }, { "null?", 1, is_null }, { "pair?", 1, is_pair }, { "not", 1, is_not }, { "eq?", 2, is_eq },
-    { "*", 2, multiply }, { ">", 2, is_more }, { "quotient", 2, quotient }, { "remainder", 2, rest_of },
-    { "symbol?", 1, is_symbol }, { "display", 1, display }, { "newline", 0, newline }, { "string-append", 2, join },
-    { "number->string", 1, text_of_number }, { "string->symbol", 1, symbol_of_text }, { "symbol->string", 1, text_of_symbol },
-    { "make-guardian", 0, new_guardian }, { "guard!", 2, keep_guard }, { "guardian-next", 1, next_guarded },
-    { "memo-set!", 2, memo_add }, { "memo-ref", 1, memo_find }, { "collect", 0, collect_all },
-    { "symbol-count", 0, count_symbols }, { "argument", 1, argument_or },
+    { "+", 2, add }, { "-", 2, subtract }, { "<", 2, is_less }, { "=", 2, is_equal }, { "cdr", 1, cdr }, { "cons", 2, cons },
+    { "car", 1, car }, { "null?", 1, is_null }, { "pair?", 1, is_pair }, { "not", 1, is_not }, { "cadr", 1, cadr },
+    { " last?", 1, is_last }, { "eq?", 2, is_eq }, { "*", 2, multiply }, { ">", 2, is_more }, { "quotient", 2, quotient },
+    { "remainder", 2, rest_of }, { "symbol?", 1, is_symbol }, { "display", 1, display }, { "newline", 0, newline },
+    { "string-append", 2, join }, { "number->string", 1, text_of_number }, { "string->symbol", 1, symbol_of_text },
+    { "symbol->string", 1, text_of_symbol }, { "make-guardian", 0, new_guardian }, { "guard!", 2, keep_guard },
+    { "guardian-next", 1, next_guarded }, { "memo-set!", 2, memo_add }, { "memo-ref", 1, memo_find },
+    { "collect", 0, collect_all }, { "symbol-count", 0, count_symbols }, { "argument", 1, argument_or },
 };
-enum { PRIMITIVES = sizeof primitives / sizeof *primitives };
+enum { CDR = 4, CAR = 6, IS_NULL = 7, CADR = 10, IS_LAST = 11, PRIMITIVES = sizeof primitives / sizeof *primitives };
 
 /* ---- code: an operation and three places; or one, and a number */
 enum operation { CONST = PRIMITIVES, CELL, SET_CELL, MOVE, CAPTURED, MAKE_BOX, GET_BOX, SET_BOX, CLOSE, JUMP, JUMP_IF_NOT, CALL,
@@ -296,7 +293,6 @@ static unsigned uses(form it, const char *called, bool is_inside) {
 /* ---- forms, each for the place of its result, with the first place that is free; at the end of a procedure, with its return */
 static void gen(struct scope *s, form it, unsigned dst, unsigned free, bool is_last);
 static void gen_body(struct scope *s, form body, unsigned dst, unsigned free, bool is_last);
-
 /* The place of an operand: where the variable is, or the first free one. */
 static unsigned operand(struct scope *s, form it, unsigned *free) {
     struct variable found;
@@ -367,23 +363,36 @@ static void gen_let(struct scope *s, form it, unsigned dst, unsigned free, bool 
 }
 /* A procedure in the first free place, its arguments behind it; at the end of another one it is made last, in place 0. */
 static void gen_call(struct scope *s, form it, unsigned dst, unsigned free, bool is_last) {
-    const unsigned at = place(s, free++);
+    struct variable found;
+    unsigned first = 1; /* of the arguments that are no variables in their own places already */
+    form one = it->tail;
+    for (; is_last && one->is == IS_PAIR && one->head->is == IS_NAME; one = one->tail, first++)
+        if (find(s, one->head->text, &found) != HERE || found.is_boxed || found.at != first) break;
+    const unsigned at = is_last ? free - first : place(s, free++);
     if (!is_last) gen(s, it->head, at, at, false);
-    for (form one = it->tail; one->is == IS_PAIR; one = one->tail, free++) gen(s, one->head, free, free, false);
+    for (; one->is == IS_PAIR; one = one->tail, free++) gen(s, one->head, free, free, false);
     if (is_last) gen(s, it->head, 0, free, false);
-    emit(s, is_last ? TAIL_CALL : CALL, at, length_of(it) - 1, 0);
+    emit(s, is_last ? TAIL_CALL : CALL, at, length_of(it) - 1, first);
     if (!is_last && dst != at) emit(s, MOVE, dst, at, 0);
 }
-static bool gen_primitive(struct scope *s, form it, unsigned dst, unsigned free, bool is_last) {
+/* The primitive that a form calls, or PRIMITIVES. */
+static unsigned primitive_of(struct scope *s, form it) {
     struct variable found;
-    if (it->head->is != IS_NAME || find(s, it->head->text, &found) != NOWHERE) return false;
+    if (it->is != IS_PAIR || it->head->is != IS_NAME || find(s, it->head->text, &found) != NOWHERE) return PRIMITIVES;
     const word now = cells[cell_called(it->head->text)].now;
-    if (!is_special(now, PRIMITIVE)) return false;
+    return is_special(now, PRIMITIVE) ? number_in(now) : PRIMITIVES;
+}
+static bool gen_primitive(struct scope *s, form it, unsigned dst, unsigned free, bool is_last) {
+    unsigned number = primitive_of(s, it);
+    if (number == PRIMITIVES) return false;
+    if ((number == CAR || number == IS_NULL) && primitive_of(s, part(it, 1)) == CDR) number += CADR - CAR, it = part(it, 1);
     const unsigned count = length_of(it) - 1;
-    if (count != primitives[number_in(now)].operands) fail("a wrong number of operands", it->head->text);
-    unsigned a = count > 0 ? operand(s, part(it, 1), &free) : place(s, free);
-    unsigned b = count > 1 ? operand(s, part(it, 2), &free) : place(s, free);
-    emit(s, number_in(now), dst, a, b);
+    if (count != primitives[number].operands) fail("a wrong number of operands", it->head->text);
+    const bool is_turned = count > 1 && primitive_of(s, part(it, 1)) <= IS_LAST; /* what has no effect is done last */
+    unsigned b = is_turned ? operand(s, part(it, 2), &free) : place(s, free);
+    unsigned a = count > 0 ? operand(s, part(it, 1), &free) : b;
+    if (count > 1 && !is_turned) b = operand(s, part(it, 2), &free);
+    emit(s, number, dst, a, b);
     if (is_last) emit(s, RETURN, 0, 0, 0);
     return true;
 }
@@ -486,7 +495,6 @@ struct frame {
 };
 static struct frame *frames;
 static size_t frame_count, frame_room;
-
 static inline const struct code *code_called(slot at, unsigned count) {
     word it = words[at];
     if (tag_of(it) != PROCEDURE && !is_special(it, CODE)) fail("what is called is no procedure", "");
@@ -500,7 +508,6 @@ static inline bool call_primitive(slot at, unsigned count) {
     if (it->operands != count) fail("a wrong number of operands", it->name);
     return it->call(at, at + 1, at + 2), true;
 }
-
 #define INLINE(number, called) case number: called(base + a, base + b, base + c); break
 static void run(const struct code *code) {
     const uint32_t *next = code->words;
@@ -509,8 +516,8 @@ static void run(const struct code *code) {
         const uint32_t it = *next++;
         const unsigned a = it >> 8 & 0xff, b = it >> 16 & 0xff, c = it >> 24, number = it >> 16;
         switch (it & 0xff) {
-            INLINE(0, add); INLINE(1, subtract); INLINE(2, is_less); INLINE(3, is_equal); INLINE(4, car); INLINE(5, cdr);
-            INLINE(6, cons); INLINE(7, is_null); INLINE(8, is_pair); INLINE(9, is_not);
+            INLINE(0, add); INLINE(1, subtract); INLINE(2, is_less); INLINE(3, is_equal); INLINE(4, cdr); INLINE(5, cons);
+            INLINE(6, car); INLINE(7, is_null); INLINE(8, is_pair); INLINE(9, is_not); INLINE(10, cadr); INLINE(11, is_last);
         default: primitives[it & 0xff].call(base + a, base + b, base + c); break;
         case CELL: if (cells[number].now == UNSET) fail("a variable has no value", cells[number].name); /* fall through */
         case CONST: cell_get(base + a, &cells[number]); break;
@@ -532,7 +539,7 @@ static void run(const struct code *code) {
             next = code->words;
             break;
         case TAIL_CALL:
-            for (unsigned i = 1; i <= b; i++) copy(base + i, base + a + i);
+            for (unsigned i = c; i <= b; i++) copy(base + i, base + a + i);
             if (!call_primitive(base, b)) {
                 code = code_called(base, b);
                 base = enter(base, code->size, b + 1);
