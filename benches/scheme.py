@@ -1,6 +1,6 @@
 #!/usr/bin/env python3
 """scheme.py LIBRARY..: the interpreter of uses/scheme by the C library and over bdwgc, in turn: seconds of the processor that
-three programs take (the least of 7 runs of each), and peak memory. LIBRARY is what it is linked with, in this order: libhdt_c.a
+three programs take (the least of 31 runs of each), and peak memory. LIBRARY is what it is linked with, in this order: libhdt_c.a
 liblibc_c.a. It needs cc and libgc. The status is 1 where a program takes over 1.5 times as long as over bdwgc."""
 import os
 import subprocess
@@ -12,7 +12,7 @@ from trees import run
 HERE = os.path.dirname(os.path.abspath(__file__))
 SCHEME = f"{HERE}/../uses/scheme"
 PROGRAMS = {"fib": "32", "sort": "20000", "closures": "200000"}
-RUNS = 7
+RUNS = 31
 ASKED_RATIO = 1.5
 
 
