@@ -294,7 +294,8 @@ module _ {room : ℕ} {next previous : List ℕ} {lists : List (List ℕ)}
         }))
 
     other_pushed : (j : ℕ) → j ≢ k → j < KINDS
-        → IsPath (set (set next last node) node k) (set (set previous node last) k node) j (get_or lists j []) j
+        → IsPath (set (set next last node) node k) (set (set previous node last) k node) j
+        (get_or lists j []) j
     other_pushed j apart below =
         let ys = get_or lists j [] in
         let away = sources (rings.ring j below) (closed (rings.ring k low)) (kind_out ys low) apart in
@@ -545,7 +546,8 @@ pub record IsAloneBelow (room kind : ℕ) (links : List ℕ) : Type 0 where
   pub size : length links ≡ room + KINDS + 1
   pub self : (k : ℕ) → k < kind → get_or links k 0 ≡ k
 
-pub alone_none : (room : ℕ) (links : List ℕ) → links ≡ replicate (room + KINDS + 1) 0 → IsAloneBelow room 0 links
+pub alone_none : (room : ℕ) (links : List ℕ) → links ≡ replicate (room + KINDS + 1) 0
+    → IsAloneBelow room 0 links
 alone_none room links is = record {
   size = ap length is ∙ length-replicate (room + KINDS + 1) 0;
   self = λ k lt. absurd (omega (arith, lt));
@@ -614,7 +616,10 @@ module _ {room : ℕ} {next previous : List ℕ} (rings : IsRings room next prev
         (chains_in room (set (set next last (b + KINDS)) (b + KINDS) e))
     pushed_rings = made pushed
 
-    pub pushed_view : record { lists = chains_in room (set (set next last (b + KINDS)) (b + KINDS) e); room = room }
+    pub pushed_view : record {
+      lists = chains_in room (set (set next last (b + KINDS)) (b + KINDS) e);
+      room = room;
+    }
         ≡ record u {
           lists = set u.lists (kind_number kind) (get_or u.lists (kind_number kind) [] ++ b ∷ []);
         }
@@ -667,10 +672,12 @@ module _ {room : ℕ} {next previous : List ℕ} (rings : IsRings room next prev
       after_read = get_or_read next (b + KINDS) after node_inside after_is 0
 
       pub before_inside : before < length next
-      before_inside = let inside = left_within rings chained.kind b its_chain in omega (arith, before_read, inside)
+      before_inside =
+          let inside = left_within rings chained.kind b its_chain in omega (arith, before_read, inside)
 
       pub after_inside : after < length previous
-      after_inside = let inside = right_within rings chained.kind b its_chain in omega (arith, after_read, inside)
+      after_inside =
+          let inside = right_within rings chained.kind b its_chain in omega (arith, after_read, inside)
 
       removed : (k : ℕ) → Contains (get_or (chains_in room next) k []) b
           → IsRings room (set next before after) (set previous after before)

@@ -1,5 +1,5 @@
--- The chains of blocks as rings of nodes: the node of a kind, by its number, and then those of the chain's blocks, by
--- theirs and as many more as there are kinds. Each node has the next and the previous one.
+-- The chains of blocks as rings of nodes: the node of a kind, by its number, and then those of the chain's
+-- blocks, by theirs and as many more as there are kinds. Each node has the next and the previous one.
 use Rattle.std.specs.Prelude.{◌≡◌, ℕ, zero, suc, ◌+◌, ◌-◌, ◌<◌, ◌≤◌, List, [], ◌∷◌, cond, length, map, nat_lt, slice_index, slice_index_or, Contains, Option, Some, None, refl}
 use Rattle.std.specs.Coded.{Coded, code_by, coded×, coded_list, coded_ℕ}
 use Rattle.std.specs.List.{range_with_len}

@@ -7,7 +7,8 @@ use Rattle.hd_seg.proofs.chains.Chains.reserve.Goals as goal
 pub invariant_of-self-in_err-lengthen-2 : goal.invariant_of-self-in_err-lengthen-2
 invariant_of-self-in_err-lengthen-2 c =
     let long = long_enough c.self.inside.next.items (c.args.room + KINDS + 1) 0 c.in_ok-lengthen.ensures in
-    more_rings c.self.invariant c.self.view_is c.lengthen.new.items.items c.lengthen-2.new.items.items (omega arith) c.self.invariant.few
+    more_rings c.self.invariant c.self.view_is c.lengthen.new.items.items
+    c.lengthen-2.new.items.items (omega arith) c.self.invariant.few
     (omega (arith, long, c.self.invariant.next_size))
     (omega (arith, ap length c.in_err-lengthen-2.ensures, c.self.invariant.previous_size))
     (λ n. ap (λ xs. get_or xs n 0) c.in_ok-lengthen.ensures
@@ -19,7 +20,8 @@ returns-in_err-lengthen-2 c =
     let long = long_enough c.self.inside.next.items (c.args.room + KINDS + 1) 0 c.in_ok-lengthen.ensures in
     MatchResult-from_err c.from_residual-in_err-lengthen-2.result _ _
     c.from_residual-in_err-lengthen-2.ensures.0 (λ _.
-    same_view c.self.invariant c.self.view_is c.lengthen.new.items.items c.lengthen-2.new.items.items (omega arith) c.self.invariant.few
+    same_view c.self.invariant c.self.view_is c.lengthen.new.items.items
+    c.lengthen-2.new.items.items (omega arith) c.self.invariant.few
     (omega (arith, long, c.self.invariant.next_size))
     (omega (arith, ap length c.in_err-lengthen-2.ensures, c.self.invariant.previous_size))
     (λ n. ap (λ xs. get_or xs n 0) c.in_ok-lengthen.ensures
@@ -28,10 +30,12 @@ returns-in_err-lengthen-2 c =
 
 pub invariant_of-self-2 : goal.invariant_of-self-2
 invariant_of-self-2 c =
-    let next_long = long_enough c.self.inside.next.items (c.args.room + KINDS + 1) 0 c.in_ok-lengthen.ensures in
+    let next_long =
+    long_enough c.self.inside.next.items (c.args.room + KINDS + 1) 0 c.in_ok-lengthen.ensures in
     let back_long =
     long_enough c.self.inside.previous.items (c.args.room + KINDS + 1) 0 c.in_ok-lengthen-2.ensures in
-    more_rings c.self.invariant c.self.view_is c.lengthen.new.items.items c.lengthen-2.new.items.items (omega (arith, c.if-room-self.false)) c.requires
+    more_rings c.self.invariant c.self.view_is c.lengthen.new.items.items
+    c.lengthen-2.new.items.items (omega (arith, c.if-room-self.false)) c.requires
     (omega (arith, next_long)) (omega (arith, back_long))
     (λ n. ap (λ xs. get_or xs n 0) c.in_ok-lengthen.ensures
     ∙ longer_same c.self.inside.next.items (c.args.room + KINDS + 1 - length c.self.inside.next.items) n 0)
@@ -41,10 +45,12 @@ invariant_of-self-2 c =
 
 pub returns : goal.returns
 returns c =
-    let next_long = long_enough c.self.inside.next.items (c.args.room + KINDS + 1) 0 c.in_ok-lengthen.ensures in
+    let next_long =
+    long_enough c.self.inside.next.items (c.args.room + KINDS + 1) 0 c.in_ok-lengthen.ensures in
     let back_long =
     long_enough c.self.inside.previous.items (c.args.room + KINDS + 1) 0 c.in_ok-lengthen-2.ensures in
-    more_view c.self.invariant c.self.view_is c.lengthen.new.items.items c.lengthen-2.new.items.items (omega (arith, c.if-room-self.false)) c.requires
+    more_view c.self.invariant c.self.view_is c.lengthen.new.items.items
+    c.lengthen-2.new.items.items (omega (arith, c.if-room-self.false)) c.requires
     (omega (arith, next_long)) (omega (arith, back_long))
     (λ n. ap (λ xs. get_or xs n 0) c.in_ok-lengthen.ensures
     ∙ longer_same c.self.inside.next.items (c.args.room + KINDS + 1 - length c.self.inside.next.items) n 0)
