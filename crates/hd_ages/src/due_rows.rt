@@ -129,8 +129,13 @@ fn first_due(seg: &Seg, ages: &AgeMap, kind: Kind, n: u8) -> Option<u32>
     ensures of_kind { IfSome result (λ block. get seg.now.uses block ≡ Some (handles_of kind)) }
     ensures table { IsTable seg.now }
 {
-    let first = seg.first(kind);
-    if ages.may_be_due(n) { first } else { None }
+    // The read brings what holds of every table.
+    let _given = seg.given();
+    if ages.may_be_due(n) {
+        seg.first(kind)
+    } else {
+        None
+    }
 }
 
 /// The number of clumps that a walk over the rows of a kind visits. It looks at no row.
