@@ -1,17 +1,17 @@
 -- What each call does to the entries, by their fields and their value.
-use Rattle.hd_cwt.proofs.Basics.{HasIdle, HasKey, HasNoneFrom, Id, IfNone, IfSome, IsEntries, IsIdle, IsLeastFrom, IsLinked, IsSome, List, None, NumberSet, Option, Some, WeakTable, ap, arith, both_ways, bucket_in, bucket_of, by_index, by_index-put, cases_lt, entry_at, exchanged, false≢true, get, get-by_index, get_or, get_or_default_zero, get_or_past, inl, inr, is_some, length, length-set, node_at, refl, set, slots_of, subst, sym, turned, ℕ, ◌+◌, ◌<◌, ◌∙◌, ◌≡◌, ◌≤◌, by_index-clear}
+use Rattle.hd_cwt.proofs.Basics.{HasBucket, HasIdle, HasKey, HasNoneFrom, Id, IfNone, IfSome, IsEntries, IsIdle, IsLeastFrom, IsLinked, IsSome, List, None, NumberSet, Option, Some, WeakTable, ap, arith, both_ways, bucket_in, bucket_of, by_index, by_index-put, cases_lt, entry_at, exchanged, false≢true, get, get-by_index, get_or, get_or_default_zero, get_or_past, inl, inr, is_some, length, length-set, mod_below, node_at, refl, set, slots_of, subst, sym, turned, ℕ, ◌+◌, ◌<◌, ◌∙◌, ◌≡◌, ◌≤◌, by_index-clear}
 use Rattle.std.specs.FinMap as map
 use Rattle.std.specs.FinSet.{insert, remove}
 use Rattle.hd_cwt.proofs.{BucketChange.put_linked, BucketChange.clear_linked, BucketChange.release_linked, IdleSlots.put_idle, IdleSlots.clear_idle, IdleSlots.release_idle, IdleSlots.is_member, IdleSlots.of_member}
 
-no_bucket : (v : Option (Option Id)) → ((k : Id) → v ≡ Some (Some k) → ⊥) → bucket_in v ≡ None
-no_bucket None free = refl
-no_bucket (Some None) free = refl
-no_bucket (Some (Some k)) free = absurd (free k refl)
+no_bucket : (n : ℕ) (v : Option (Option Id)) → ((k : Id) → v ≡ Some (Some k) → ⊥) → bucket_in n v ≡ None
+no_bucket n None free = refl
+no_bucket n (Some None) free = refl
+no_bucket n (Some (Some k)) free = absurd (free k refl)
 
-module _ {blocks : ℕ} {held : List (Option (Option Id))} {next previous : List ℕ} {idle : NumberSet}
-    (is : IsEntries blocks held next previous idle) {t : WeakTable}
-    (view : ◌≡◌ {A = WeakTable} (record { blocks = blocks; held = by_index held }) t) where
+module _ {blocks buckets : ℕ} {held : List (Option (Option Id))} {next previous : List ℕ} {idle : NumberSet}
+    (is : IsEntries blocks buckets held next previous idle) {t : WeakTable}
+    (view : ◌≡◌ {A = WeakTable} (record { blocks = blocks; buckets = buckets; held = by_index held }) t) where
   pub read : (s : ℕ) → get t.held s ≡ entry_at held s
   read s = ap (λ (u : WeakTable). get u.held s) (sym view) ∙ get-by_index held s
 
@@ -30,6 +30,25 @@ module _ {blocks : ℕ} {held : List (Option (Option Id))} {next previous : List
   long =
       let same : blocks ≡ t.blocks = ap (λ (u : WeakTable). u.blocks) view in
       omega (arith, is.size, same)
+
+  pub slot_low : (s : ℕ) → s < slots_of t → s < length held
+  slot_low s low = omega (arith, low, long)
+
+  -- the node of the bucket of a key
+  module _ (key : Id) (end : ℕ) (is_end : end ≡ slots_of t + bucket_of t.buckets key) where
+    bucket_low : bucket_of buckets key < buckets
+    bucket_low = mod_below key.0 buckets is.some
+
+    end_is : end ≡ length held + bucket_of buckets key
+    end_is = is_end ∙ (λ i. sym long i + bucket_of (sym view i).buckets key)
+
+    pub bucket_ring : HasBucket buckets held next end (bucket_of buckets key)
+    bucket_ring =
+        subst (λ e. HasBucket buckets held next e (bucket_of buckets key)) (sym end_is)
+        (is.linked.each (bucket_of buckets key) bucket_low)
+
+    pub bucket_within : (length held ≤ end) × (end < length next)
+    bucket_within = (omega (arith, end_is), omega (arith, end_is, bucket_low, is.linked.nodes))
 
   pub held_low : (s : ℕ) → IsSome (get t.held s) → s < length held
   held_low s some = elim (cases_lt s (length held)) [
@@ -51,43 +70,48 @@ module _ {blocks : ℕ} {held : List (Option (Option Id))} {next previous : List
   pub room_low : (s : ℕ) → s < length held → s < idle.room
   room_low s low = omega (arith, low, is.idle_slots.room)
 
+  abbrev seen : List (Option (Option Id)) → WeakTable
+  seen list = record { blocks = blocks; buckets = buckets; held = by_index list }
+
   pub viewed : (s : ℕ) (v : Option Id) → s < length held
-      → ◌≡◌ {A = WeakTable} (record { blocks = blocks; held = by_index (set held s (Some v)) })
-      (record t { held = map.insert t.held s v })
+      → seen (set held s (Some v)) ≡ record t { held = map.insert t.held s v }
   viewed s v low =
-      let now : ◌≡◌ {A = WeakTable} (record { blocks = blocks; held = by_index (set held s (Some v)) })
-      (record { blocks = blocks; held = map.insert (by_index held) s v }) =
-      λ i. record { blocks = blocks; held = by_index-put held s v low i } in
+      let now : seen (set held s (Some v)) ≡ record (seen held) { held = map.insert (by_index held) s v } =
+      λ i. record { blocks = blocks; buckets = buckets; held = by_index-put held s v low i } in
       now ∙ ap (λ (u : WeakTable). record u { held = map.insert u.held s v }) view
 
   module _ (s : ℕ) (low : s < length held) (next' previous' : List ℕ) {after : NumberSet} where
     pub put_entries : (key : Id) → ((other : Id) → HasKey t other s → ⊥) → (end : ℕ)
-        → end ≡ slots_of t + bucket_of key → next' ≡ exchanged next end s
+        → end ≡ slots_of t + bucket_of t.buckets key → next' ≡ exchanged next end s
         → previous' ≡ turned next previous end s → after ≡ record idle { members = remove idle.members s }
-        → IsEntries blocks (set held s (Some (Some key))) next' previous' after
+        → IsEntries blocks buckets (set held s (Some (Some key))) next' previous' after
     put_entries key free end is_end is_next is_previous is_after =
         let new = set held s (Some (Some key)) in record {
           limit = is.limit;
+          some = is.some;
+          few = is.few;
           size = length-set held s (Some (Some key)) ∙ is.size;
           linked =
-              subst (λ n. IsLinked new n previous') (sym is_next)
-              (subst (IsLinked new (exchanged next end s)) (sym is_previous)
-              (put_linked is.linked s low key
-              (no_bucket (entry_at held s) (λ k e. free k (read s ∙ e)))
-              end (omega (arith, is_end, long))));
+              subst (λ n. IsLinked buckets new n previous') (sym is_next)
+              (subst (IsLinked buckets new (exchanged next end s)) (sym is_previous)
+              (put_linked is.linked s low is.some key
+              (no_bucket buckets (entry_at held s) (λ k e. free k (read s ∙ e)))
+              end (end_is key end is_end)));
           idle_slots = subst (HasIdle new) (sym is_after) (put_idle is.idle_slots s low key);
         }
 
     pub clear_entries : (back : ℕ) → back ≡ get_or previous s back → next' ≡ exchanged next back s
         → previous' ≡ turned next previous back s → after ≡ record idle { members = insert idle.members s }
-        → IsEntries blocks (set held s (Some None)) next' previous' after
+        → IsEntries blocks buckets (set held s (Some None)) next' previous' after
     clear_entries back is_back is_next is_previous is_after =
         let new = set held s (Some None) in record {
           limit = is.limit;
+          some = is.some;
+          few = is.few;
           size = length-set held s (Some None) ∙ is.size;
           linked =
-              subst (λ n. IsLinked new n previous') (sym is_next)
-              (subst (IsLinked new (exchanged next back s)) (sym is_previous)
+              subst (λ n. IsLinked buckets new n previous') (sym is_next)
+              (subst (IsLinked buckets new (exchanged next back s)) (sym is_previous)
               (clear_linked is.linked s low back
               (is_back ∙ get_or_default_zero previous s back (back_low s low))));
           idle_slots = subst (HasIdle new) (sym is_after) (clear_idle is.idle_slots s low);
@@ -98,18 +122,18 @@ module _ {blocks : ℕ} {held : List (Option (Option Id))} {next previous : List
     idle_low : s < length held
     idle_low = held_low s (ap is_some idles)
 
-    pub released : ◌≡◌ {A = WeakTable} (record { blocks = blocks; held = by_index (set held s None) })
-        (record t { held = map.remove t.held s })
+    pub released : seen (set held s None) ≡ record t { held = map.remove t.held s }
     released =
-        let now : ◌≡◌ {A = WeakTable} (record { blocks = blocks; held = by_index (set held s None) })
-        (record { blocks = blocks; held = map.remove (by_index held) s }) =
-        λ i. record { blocks = blocks; held = by_index-clear held s i } in
+        let now : seen (set held s None) ≡ record (seen held) { held = map.remove (by_index held) s } =
+        λ i. record { blocks = blocks; buckets = buckets; held = by_index-clear held s i } in
         now ∙ ap (λ (u : WeakTable). record u { held = map.remove u.held s }) view
 
     pub release_entries : {after : NumberSet} → after ≡ record idle { members = remove idle.members s }
-        → IsEntries blocks (set held s None) next previous after
+        → IsEntries blocks buckets (set held s None) next previous after
     release_entries is_after = record {
       limit = is.limit;
+      some = is.some;
+      few = is.few;
       size = length-set held s None ∙ is.size;
       linked = release_linked is.linked s idle_low (sym (read s) ∙ idles);
       idle_slots = subst (HasIdle (set held s None)) (sym is_after) (release_idle is.idle_slots s idle_low);

@@ -70,6 +70,9 @@ module _ {t : WeakTable} {count : ℕ} {slots indexes : List ℕ} {capacity : �
   pub held_low : (s : ℕ) → IsSome (get t.held s) → s < length indexes
   held_low s had = let inside = is.table.within s had in omega (arith, is.size, inside)
 
+  pub slot_within : (i : ℕ) → i < length slots → node_at slots i < slots_of t
+  slot_within i low = is.table.within (node_at slots i) (slot_held i low)
+
   pub slot_low : (i : ℕ) → i < length slots → node_at slots i < length indexes
   slot_low i low = held_low (node_at slots i) (slot_held i low)
 
@@ -85,8 +88,8 @@ module _ {t : WeakTable} {count : ℕ} {slots indexes : List ℕ} {capacity : �
     beside : (v : Option Id) (q : ℕ) → q ≢ s → keyed_in (get (insert t.held s v) q) ≡ keyed_in (get t.held q)
     beside v q apart = ap keyed_in (get_beside t.held s v q apart)
 
-    -- a held slot loses its key, if it has one
-    module _ (had : IsSome (get t.held s)) where
+    -- a slot has no key from now on, and is held
+    module _ (low : s < slots_of t) (fits : len (insert t.held s None) ≤ room_of t) where
       key_before : (key : Id) (a : ℕ) → HasKey (with_entry t s None) key a → HasKey t key a
       key_before key a =
           insert_cases t.held s (λ q o. o ≡ Some (Some key) → HasKey t key q) None a
@@ -96,16 +99,16 @@ module _ {t : WeakTable} {count : ℕ} {slots indexes : List ℕ} {capacity : �
       clear_table = record {
         limit = is.table.limit;
         apart = λ key a b ha hb. is.table.apart key a b (key_before key a ha) (key_before key b hb);
-        within = some_cases t.held s (λ q. q < slots_of t) None (is.table.within s had) is.table.within;
-        fits = omega (arith, is.table.fits, len_again t.held s None had);
+        within = some_cases t.held s (λ q. q < slots_of t) None low is.table.within;
+        fits = fits;
       }
 
       -- where it had none, the list is as it was
-      pub clear_idle : keyed_in (get t.held s) ≡ false
-          → IsListed (with_entry t s None) count slots indexes capacity
-      clear_idle none = record {
+      unkeyed_listed : keyed_in (get t.held s) ≡ false → (now : ℕ) → now ≡ len (insert t.held s None)
+          → IsListed (with_entry t s None) now slots indexes capacity
+      unkeyed_listed none now counts = record {
         table = clear_table;
-        counted = is.counted ∙ sym (len_again t.held s None had);
+        counted = counts;
         room = is.room;
         size = is.size;
         into = λ q. insert_cases t.held s (λ x o. keyed_in o ≡ true → IsListedAt slots indexes x) None q
@@ -115,6 +118,23 @@ module _ {t : WeakTable} {count : ℕ} {slots indexes : List ℕ} {capacity : �
             ∙ is.from i low;
         placed = is.placed;
       }
+
+    -- a held slot has one as many
+    again : IsSome (get t.held s) → len (insert t.held s None) ≤ room_of t
+    again had = omega (arith, is.table.fits, len_again t.held s None had)
+
+    pub clear_idle : IsSome (get t.held s) → keyed_in (get t.held s) ≡ false
+        → IsListed (with_entry t s None) count slots indexes capacity
+    clear_idle had none = unkeyed_listed (is.table.within s had) (again had) none count
+        (is.counted ∙ sym (len_again t.held s None had))
+
+    -- and one that was not held is one more
+    pub hold_listed : s < slots_of t → get t.held s ≡ None → len t.held < room_of t
+        → IsListed (with_entry t s None) (count + 1) slots indexes capacity
+    hold_listed low free room =
+        let more = len_new t.held s None free in
+        unkeyed_listed low (omega (arith, room, more)) (ap keyed_in free) (count + 1)
+        (omega (arith, is.counted, more))
 
     -- a slot with a key loses it, and is listed no more
     module _ (keyed : keyed_in (get t.held s) ≡ true) {new_slots new_indexes : List ℕ}
@@ -183,7 +203,7 @@ module _ {t : WeakTable} {count : ℕ} {slots indexes : List ℕ} {capacity : �
       pub clear_listed : IsListed (with_entry t s None) count new_slots new_indexes capacity
       clear_listed =
           let had : IsSome (get t.held s) = held_of (get t.held s) keyed in record {
-            table = clear_table had;
+            table = clear_table (is.table.within s had) (again had);
             counted = is.counted ∙ sym (len_again t.held s None had);
             room = is.room;
             size = omega (arith, is.size, ap length off.replaced, length-set indexes last at);
@@ -363,10 +383,10 @@ relisted {t} {u} {count} {a} {b} {c} {d} {m} {n} is table slots indexes capacity
     (subst (λ x. IsListed x count a c m) (sym table) is)))
 
 -- a table of which no slot is held
-pub none_listed : (blocks capacity : ℕ) (indexes : List ℕ) → blocks ≤ HOST_BLOCKS
+pub none_listed : (blocks buckets capacity : ℕ) (indexes : List ℕ) → blocks ≤ HOST_BLOCKS
     → ROWS * (blocks / 2) ≤ capacity → length indexes ≡ ROWS * (blocks + 1)
-    → IsListed (record { blocks = blocks; held = empty }) 0 [] indexes capacity
-none_listed blocks capacity indexes limit room size = record {
+    → IsListed (record { blocks = blocks; buckets = buckets; held = empty }) 0 [] indexes capacity
+none_listed blocks buckets capacity indexes limit room size = record {
   table = record {
     limit = limit;
     apart = λ key a b has _. absurd (none-some (Some key) (sym (get-empty nat_cmp a) ∙ has));
@@ -415,6 +435,7 @@ pub record IsAhead (indexes : List ℕ) (left : ℕ) (old now : WeakTable) (s : 
 -- all slots are swept but those at the first of the list
 pub record IsSwept (seg : Table) (indexes : List ℕ) (left : ℕ) (old now : WeakTable) : Type 0 where
   pub blocks : now.blocks ≡ old.blocks
+  pub buckets : now.buckets ≡ old.buckets
   pub each : (s : ℕ) → (get now.held s ≡ option_map (kept_key seg s) (get old.held s))
       ⊎ IsAhead indexes left old now s
 
@@ -422,6 +443,7 @@ pub none_swept : (seg : Table) {old : WeakTable} {count : ℕ} {slots indexes : 
     → IsListed old count slots indexes capacity → IsSwept seg indexes (length slots) old old
 none_swept seg {old} {count} {slots} {indexes} listed = record {
   blocks = refl;
+  buckets = refl;
   each = λ s. by s (keyed_in (get old.held s)) refl;
 }
   where
@@ -440,7 +462,7 @@ module _ {seg : Table} {count : ℕ} {slots indexes : List ℕ} {capacity i : �
       (λ swept. sym (mapped_some (kept_key seg s) (get old.held s)) ∙ sym (ap is_some swept) ∙ some)
       (λ ahead. sym (ap is_some ahead.same) ∙ some) (is.each s)
 
-  slot_keyed : keyed_in (get now.held slot) ≡ true
+  pub slot_keyed : keyed_in (get now.held slot) ≡ true
   slot_keyed = ap (λ s. keyed_in (get now.held s)) at ∙ listed.from i low
 
   -- what is ahead is the slot, or before it
@@ -454,6 +476,7 @@ module _ {seg : Table} {count : ℕ} {slots indexes : List ℕ} {capacity i : �
   pub sweep_left : is_none (live_at seg slot).target ≡ false → IsSwept seg indexes i old now
   sweep_left target = record {
     blocks = is.blocks;
+    buckets = is.buckets;
     each = λ s. ⊎_elim (λ swept. inl swept) (λ ahead. ⊎_elim
         (λ e. inl (ahead.same ∙ other_kept seg s (get old.held s)
         (ap (λ q. is_none (live_at seg q).target) e ∙ target)))
@@ -481,6 +504,7 @@ module _ {seg : Table} {count : ℕ} {slots indexes : List ℕ} {capacity i : �
     swept_entry : IsSwept seg new_indexes i old (with_entry now slot None)
     swept_entry = record {
       blocks = is.blocks;
+      buckets = is.buckets;
       each = λ s. elim (cases_eq s slot) [
         | inl e ↦ inl (ap (get (insert now.held slot None)) e ∙ get_inserted now.held slot None
             ∙ null_kept seg slot (get old.held slot) taken.null

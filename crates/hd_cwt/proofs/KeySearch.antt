@@ -8,11 +8,11 @@ use Rattle.hd_model.proofs.Members.{mapped_from, pairs_mapped}
 use Rattle.hd_model.proofs.{MapEntries.below, MapEntries.both, MapEntries.entry_of, MapEntries.get_entry, PropertyCounts.fewer}
 
 -- the key of a slot in a bucket
-pub key_of : (v : Option (Option Id)) (b : ℕ) → bucket_in v ≡ Some b
-    → (k : Id) × ((v ≡ Some (Some k)) × (bucket_of k ≡ b))
-key_of None b e = absurd (none-some b e)
-key_of (Some None) b e = absurd (none-some b e)
-key_of (Some (Some k)) b e = (k, (refl, same_Some (bucket_of k) b e))
+pub key_of : (n : ℕ) (v : Option (Option Id)) (b : ℕ) → bucket_in n v ≡ Some b
+    → (k : Id) × ((v ≡ Some (Some k)) × (bucket_of n k ≡ b))
+key_of n None b e = absurd (none-some b e)
+key_of n (Some None) b e = absurd (none-some b e)
+key_of n (Some (Some k)) b e = (k, (refl, same_Some (bucket_of n k) b e))
 
 -- the keys of a sorted list are apart
 entries_apart : (es : List (ℕ × Option Id)) → T (is_sorted nat_cmp es) → AllPairs (λ e f. e.0 ≢ f.0) es
@@ -24,35 +24,35 @@ entries_apart (f ∷ es) h =
     (entries_apart es parts.1)
 
 -- an entry that is in a bucket has a key there
-in_bucket : (b : ℕ) (v : Option Id) → is_in_bucket b v ≡ true → bucket_in (Some v) ≡ Some b
-in_bucket b None is = absurd (false≢true is)
-in_bucket b (Some k) is = elim (cases_eq (bucket_of k) b) [
+in_bucket : (n b : ℕ) (v : Option Id) → is_in_bucket n b v ≡ true → bucket_in n (Some v) ≡ Some b
+in_bucket n b None is = absurd (false≢true is)
+in_bucket n b (Some k) is = elim (cases_eq (bucket_of n k) b) [
   | inl same ↦ ap Some same
-  | inr apart ↦ absurd (false≢true (sym (ne_eqb (bucket_of k) b apart) ∙ is))
+  | inr apart ↦ absurd (false≢true (sym (ne_eqb (bucket_of n k) b apart) ∙ is))
 ]
 
-module _ (held : List (Option (Option Id))) (next : List ℕ) (end b : ℕ) (l : List ℕ)
-    (is : IsBucket held next end b l) where
+module _ (n : ℕ) (held : List (Option (Option Id))) (next : List ℕ) (end b : ℕ) (l : List ℕ)
+    (is : IsBucket n held next end b l) where
   -- a bucket's ring is not longer than the number of its entries
-  ring_short : length l ≤ entries_in (by_index held) b
+  ring_short : length l ≤ entries_in n (by_index held) b
   ring_short =
-      let test : ℕ × Option Id → Bool = λ (e : ℕ × Option Id). is_in_bucket b e.1 in
+      let test : ℕ × Option Id → Bool = λ (e : ℕ × Option Id). is_in_bucket n b e.1 in
       let found : List (ℕ × Option Id) = filter test (entries (by_index held)) in
       let few : length l ≤ length (map (λ (e : ℕ × Option Id). e.0) found) =
       fewer l (map (λ (e : ℕ × Option Id). e.0) found) is.once (λ z h.
-      let (k, of_key) = key_of (entry_at held z) b (is.from z h) in
+      let (k, of_key) = key_of n (entry_at held z) b (is.from z h) in
       mapped_in (λ (e : ℕ × Option Id). e.0) found (z, Some k)
       (passing_in test (entries (by_index held)) (z, Some k)
       (entry_of (by_index held) z (Some k) (get-by_index held z ∙ of_key.0))
-      (eq-eqb (bucket_of k) b of_key.1))) in
+      (eq-eqb (bucket_of n k) b of_key.1))) in
       let long : length (map (λ (e : ℕ × Option Id). e.0) found) ≡ length found =
       length-map found (λ (e : ℕ × Option Id). e.0) in
       omega arith
 
   -- and it has each of them
-  ring_long : entries_in (by_index held) b ≤ length l
+  ring_long : entries_in n (by_index held) b ≤ length l
   ring_long =
-      let test : ℕ × Option Id → Bool = λ (e : ℕ × Option Id). is_in_bucket b e.1 in
+      let test : ℕ × Option Id → Bool = λ (e : ℕ × Option Id). is_in_bucket n b e.1 in
       let all : List (ℕ × Option Id) = entries (by_index held) in
       let found : List (ℕ × Option Id) = filter test all in
       let apart : AllPairs (λ x y. x ≢ y) (map (λ (e : ℕ × Option Id). e.0) found) =
@@ -63,13 +63,13 @@ module _ (held : List (Option (Option Id))) (next : List ℕ) (end b : ℕ) (l :
       let (e, at) = mapped_from (λ (g : ℕ × Option Id). g.0) found z h in
       let (among, passes) = passing_from test all e at.0 in
       subst (Contains l) at.1 (is.into e.0
-      (ap bucket_in (sym (get-by_index held e.0) ∙ get_entry (by_index held) e.0 e.1 among)
-      ∙ in_bucket b e.1 passes))) in
+      (ap (bucket_in n) (sym (get-by_index held e.0) ∙ get_entry (by_index held) e.0 e.1 among)
+      ∙ in_bucket n b e.1 passes))) in
       let long : length (map (λ (e : ℕ × Option Id). e.0) found) ≡ length found =
       length-map found (λ (e : ℕ × Option Id). e.0) in
       omega arith
 
-  pub ring_size : length l ≡ entries_in (by_index held) b
+  pub ring_size : length l ≡ entries_in n (by_index held) b
   ring_size = omega (arith, ring_short, ring_long)
 
 -- the nodes from one on are those of a list, and then an end
@@ -83,14 +83,14 @@ ahead_of next x [] end w = w
 ahead_of next x (s ∷ ss) end w = w
 
 -- the slot with the key, if there is one, is ahead
-pub record IsSearching (held : List (Option (Option Id))) (next : List ℕ) (end : ℕ) (key : Id)
+pub record IsSearching (n : ℕ) (held : List (Option (Option Id))) (next : List ℕ) (end : ℕ) (key : Id)
     (at old now : ℕ) : Type 0 where
   pub left : List ℕ
   pub ahead : IsAhead next at left end
   pub slots : (z : ℕ) → Contains left z → z < length held
   pub has : (z : ℕ) → entry_at held z ≡ Some (Some key) → Contains left z
   pub counted : old ≤ now
-  pub bound : now + length left ≡ old + entries_in (by_index held) (bucket_of key)
+  pub bound : now + length left ≡ old + entries_in n (by_index held) (bucket_of n key)
 
 -- a slot is the first node of a list that is ahead
 record IsNext (next : List ℕ) (at : ℕ) (l : List ℕ) (end : ℕ) : Type 0 where
@@ -111,27 +111,27 @@ next_of next at (s ∷ ss) end ahead apart = record {
   walk = ahead.1;
 }
 
-pub in_held : (held : List (Option (Option Id))) (z b : ℕ) → bucket_in (entry_at held z) ≡ Some b
+pub in_held : (n : ℕ) (held : List (Option (Option Id))) (z b : ℕ) → bucket_in n (entry_at held z) ≡ Some b
     → z < length held
-in_held held z b e = elim (cases_lt z (length held)) [
+in_held n held z b e = elim (cases_lt z (length held)) [
   | inl low ↦ low
-  | inr past ↦ absurd (none-some b (sym (ap bucket_in (get_or_past held z None past)) ∙ e))
+  | inr past ↦ absurd (none-some b (sym (ap (bucket_in n) (get_or_past held z None past)) ∙ e))
 ]
 
-module _ {held : List (Option (Option Id))} {next : List ℕ} {end : ℕ} {key : Id} where
-  pub start : HasBucket held next end (bucket_of key) → (at old : ℕ) → at ≡ node_at next end
-      → IsSearching held next end key at old old
+module _ {n : ℕ} {held : List (Option (Option Id))} {next : List ℕ} {end : ℕ} {key : Id} where
+  pub start : HasBucket n held next end (bucket_of n key) → (at old : ℕ) → at ≡ node_at next end
+      → IsSearching n held next end key at old old
   start bucket at old e = record {
     left = bucket.list;
     ahead = subst (λ x. IsAhead next x bucket.list end) (sym e)
         (ahead_of next end bucket.list end bucket.is.walk);
-    slots = λ z h. in_held held z (bucket_of key) (bucket.is.from z h);
-    has = λ z h. bucket.is.into z (ap bucket_in h);
+    slots = λ z h. in_held n held z (bucket_of n key) (bucket.is.from z h);
+    has = λ z h. bucket.is.into z (ap (bucket_in n) h);
     counted = omega arith;
-    bound = omega (arith, ring_size held next end (bucket_of key) bucket.list bucket.is);
+    bound = omega (arith, ring_size n held next end (bucket_of n key) bucket.list bucket.is);
   }
 
-  module _ {at old now : ℕ} (is : IsSearching held next end key at old now) where
+  module _ {at old now : ℕ} (is : IsSearching n held next end key at old now) where
     -- the node that is looked at is a slot, and a step is left
     pub low : at ≢ end → at < length held
     low apart =
@@ -139,14 +139,14 @@ module _ {held : List (Option (Option Id))} {next : List ℕ} {end : ℕ} {key :
         is.slots at (subst (λ l. Contains l at) (sym first.list_is)
         (subst (Contains (first.slot ∷ first.rest)) (sym first.at_is) (first_in first.slot first.rest)))
 
-    pub more : at ≢ end → now < old + entries_in (by_index held) (bucket_of key)
+    pub more : at ≢ end → now < old + entries_in n (by_index held) (bucket_of n key)
     more apart =
         let first : IsNext next at is.left end = next_of next at is.left end is.ahead apart in
         let long : length is.left ≡ suc (length first.rest) = ap length first.list_is in
         omega (arith, is.bound, long)
 
     pub onward : at ≢ end → entry_at held at ≢ Some (Some key) → (after count : ℕ) → after ≡ node_at next at
-        → count ≡ now + 1 → IsSearching held next end key after old count
+        → count ≡ now + 1 → IsSearching n held next end key after old count
     onward apart missed after count e step =
         let first : IsNext next at is.left end = next_of next at is.left end is.ahead apart in
         let long : length is.left ≡ suc (length first.rest) = ap length first.list_is in record {
@@ -164,17 +164,17 @@ module _ {held : List (Option (Option Id))} {next : List ℕ} {end : ℕ} {key :
 
     -- the entry that was looked at last is the one, or none was left
     pub looked_found : at ≢ end → (slot after : ℕ) → after ≡ now + 1
-        → LooksAt (Some slot) (entries_in (by_index held) (bucket_of key)) old after
+        → LooksAt (Some slot) (entries_in n (by_index held) (bucket_of n key)) old after
     looked_found apart slot after step =
         let low = more apart in (omega (arith, is.counted, step), omega (arith, low, step))
 
     pub looked_all : at ≡ end → length held ≤ end
-        → LooksAt {A = ℕ} None (entries_in (by_index held) (bucket_of key)) old now
+        → LooksAt {A = ℕ} None (entries_in n (by_index held) (bucket_of n key)) old now
     looked_all over high = by is.left is.ahead is.slots is.bound
       where
         by : (l : List ℕ) → IsAhead next at l end → ((y : ℕ) → Contains l y → y < length held)
-            → now + length l ≡ old + entries_in (by_index held) (bucket_of key)
-            → now ≡ old + entries_in (by_index held) (bucket_of key)
+            → now + length l ≡ old + entries_in n (by_index held) (bucket_of n key)
+            → now ≡ old + entries_in n (by_index held) (bucket_of n key)
         by [] ahead slots bound = omega (arith, bound)
         by (s ∷ ss) ahead slots bound =
             let below : s < length held = slots s (first_in s ss) in

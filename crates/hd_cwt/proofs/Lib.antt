@@ -8,5 +8,4 @@ pub mod EntryCalls
 pub mod EntryOpen
 pub mod KeyChanges
 pub mod IdleCount
-pub mod MoreSlots
-pub mod SpreadRings
+pub mod Copies

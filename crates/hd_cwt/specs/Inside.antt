@@ -1,9 +1,8 @@
 -- What private clauses alone cite.
-use Rattle.std.specs.Prelude.{◌≡◌, ℕ, ◌<◌, List, [], ◌∷◌, length, slice_index_or, slice_set, ◌≢◌, ◌+◌, ◌-◌, ◌*◌, ◌≤◌, true, false, Bool, cond, nat_le, is_none, Option, Some, None, Contains, AllPairs}
+use Rattle.std.specs.Prelude.{◌≡◌, ℕ, ◌<◌, List, [], ◌∷◌, length, slice_index_or, slice_set, ◌≢◌, ◌+◌, ◌-◌, ◌*◌, ◌≤◌, true, false, Bool, is_none, Option, Some, None, Contains, AllPairs, ◌^◌}
 use Rattle.std.specs.FinMap.{get, insert, len}
 use Rattle.std.specs.FinSet.{contains}
 use Rattle.hd_model.specs.{declared.data.Id.Id, declared.limits.TheConstants.HOST_BLOCKS, declared.limits.TheConstants.ROWS, Table.Table, Table.live_at}
-use Rattle.hd_cwt.specs.declared.entries.TheConstants.{BUCKETS}
 use Rattle.hd_tiers.specs.Sets.{NumberSet}
 use Rattle.hd_cwt.specs.WeakTable.{WeakTable, bucket_of, room_of, slots_of, IsWeakTable}
 
@@ -33,17 +32,6 @@ pub record IsRings (next previous : List ℕ) : Type 0 where
   pub ahead : (x : ℕ) → x < length next → node_at previous (node_at next x) ≡ x
   pub behind : (x : ℕ) → x < length next → node_at next (node_at previous x) ≡ x
 
--- the number of a node, once more nodes come after the first ones
-abbrev pub shifted : (first more : ℕ) → ℕ → ℕ
-shifted first more x = cond (nat_le first x) (x + more) x
-
--- a list of nodes with more nodes after the first ones, which are alone: of the old nodes, those up to a number
--- have theirs
-pub record IsSpread (first more upto : ℕ) (old new : List ℕ) : Type 0 where
-  pub size : length new ≡ length old + more
-  pub moved : (x : ℕ) → x < upto → node_at new (shifted first more x) ≡ shifted first more (node_at old x)
-  pub alone : (x : ℕ) → first ≤ x → x < first + more → node_at new x ≡ x
-
 -- ---- what is always true of the fields of a weak table
 
 -- whether a slot is held, and its key
@@ -51,10 +39,10 @@ abbrev pub entry_at : List (Option (Option Id)) → ℕ → Option (Option Id)
 entry_at held slot = slice_index_or held slot None
 
 -- the bucket of a slot's key
-abbrev pub bucket_in : Option (Option Id) → Option ℕ
-bucket_in None = None
-bucket_in (Some None) = None
-bucket_in (Some (Some key)) = Some (bucket_of key)
+abbrev pub bucket_in : (buckets : ℕ) → Option (Option Id) → Option ℕ
+bucket_in buckets None = None
+bucket_in buckets (Some None) = None
+bucket_in buckets (Some (Some key)) = Some (bucket_of buckets key)
 
 -- whether a slot is held and has no key
 abbrev pub idle_in : Option (Option Id) → Bool
@@ -63,25 +51,26 @@ idle_in (Some None) = true
 idle_in (Some (Some key)) = false
 
 -- the slots of a bucket's keys, each once, along the ring of the node `end`
-pub record IsBucket (held : List (Option (Option Id))) (next : List ℕ) (end bucket : ℕ) (list : List ℕ)
-    : Type 0 where
+pub record IsBucket (buckets : ℕ) (held : List (Option (Option Id))) (next : List ℕ) (end bucket : ℕ)
+    (list : List ℕ) : Type 0 where
   pub walk : IsWalk next end list end
   pub once : AllPairs (λ x y. x ≢ y) list
-  pub into : (s : ℕ) → bucket_in (entry_at held s) ≡ Some bucket → Contains list s
-  pub from : (s : ℕ) → Contains list s → bucket_in (entry_at held s) ≡ Some bucket
+  pub into : (s : ℕ) → bucket_in buckets (entry_at held s) ≡ Some bucket → Contains list s
+  pub from : (s : ℕ) → Contains list s → bucket_in buckets (entry_at held s) ≡ Some bucket
 
 -- some list of slots is the ring of a bucket
-pub record HasBucket (held : List (Option (Option Id))) (next : List ℕ) (end bucket : ℕ) : Type 0 where
+pub record HasBucket (buckets : ℕ) (held : List (Option (Option Id))) (next : List ℕ) (end bucket : ℕ)
+    : Type 0 where
   pub list : List ℕ
-  pub is : IsBucket held next end bucket list
+  pub is : IsBucket buckets held next end bucket list
 
 -- the nodes are the slots, and then one for each bucket, whose ring is the bucket; a slot without a key is
 -- alone
-pub record IsLinked (held : List (Option (Option Id))) (next previous : List ℕ) : Type 0 where
+pub record IsLinked (buckets : ℕ) (held : List (Option (Option Id))) (next previous : List ℕ) : Type 0 where
   pub rings : IsRings next previous
-  pub nodes : length next ≡ length held + BUCKETS
-  pub buckets : (b : ℕ) → b < BUCKETS → HasBucket held next (length held + b) b
-  pub alone : (s : ℕ) → s < length held → bucket_in (entry_at held s) ≡ None → node_at next s ≡ s
+  pub nodes : length next ≡ length held + buckets
+  pub each : (b : ℕ) → b < buckets → HasBucket buckets held next (length held + b) b
+  pub alone : (s : ℕ) → s < length held → bucket_in buckets (entry_at held s) ≡ None → node_at next s ≡ s
 
 -- a set has exactly the idle slots, and room for each slot
 pub record HasIdle (held : List (Option (Option Id))) (idle : NumberSet) : Type 0 where
@@ -89,11 +78,13 @@ pub record HasIdle (held : List (Option (Option Id))) (idle : NumberSet) : Type 
   pub each : (s : ℕ) → contains idle.members s ≡ idle_in (entry_at held s)
 
 -- what is always true of the entries
-pub record IsEntries (blocks : ℕ) (held : List (Option (Option Id))) (next previous : List ℕ)
+pub record IsEntries (blocks buckets : ℕ) (held : List (Option (Option Id))) (next previous : List ℕ)
     (idle : NumberSet) : Type 0 where
   pub limit : blocks ≤ HOST_BLOCKS
+  pub some : 0 < buckets
+  pub few : buckets < 2 ^ 31
   pub size : length held ≡ ROWS * (blocks + 1)
-  pub linked : IsLinked held next previous
+  pub linked : IsLinked buckets held next previous
   pub idle_slots : HasIdle held idle
 
 -- whether a slot is held and has a key
@@ -126,6 +117,11 @@ pub record IsUnlisted (slots indexes new_slots new_indexes : List ℕ) (slot : �
   pub kept :
       (i : ℕ) → i ≢ node_at indexes slot → i + 1 < length slots → node_at new_slots i ≡ node_at slots i
   pub replaced : new_indexes ≡ slice_set indexes (node_at slots (length slots - 1)) (node_at indexes slot)
+
+-- a table with what a slot has in another, if anything
+abbrev pub copied : WeakTable → ℕ → Option (Option Id) → WeakTable
+copied t slot None = t
+copied t slot (Some entry) = record t { held = insert t.held slot entry }
 
 -- a slot with a key is swept: where its row has no target, its key is taken and it is listed no more
 pub record IsTaken (seg : Table) (slot : ℕ) (old new : WeakTable)

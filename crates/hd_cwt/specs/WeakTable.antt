@@ -8,15 +8,19 @@ use Rattle.std.specs.Ordering.{nat_cmp}
 use Rattle.hd_model.specs.{declared.data.Id.Id, declared.data.Slot.Slot, declared.limits.TheConstants.HOST_BLOCKS, declared.limits.TheConstants.ROWS, Code.id_code, Table.Table, Table.live_at}
 use Rattle.hd_cwt.specs.declared.entries.TheConstants.{BUCKETS}
 
--- the number of blocks that there may be, and for each held slot, by its number, its key or none
+-- the number of blocks that there may be, that of the buckets of keys, and for each held slot, by its number,
+-- its key or none
 pub record WeakTable : Type 0 where
   pub blocks : ℕ
+  pub buckets : ℕ
   pub held : FinMap nat_cmp (Option Id)
 
 abbrev pub weak_table_code : Coded WeakTable
 weak_table_code =
-    code_by (ℕ × FinMap nat_cmp (Option Id)) (coded× coded_ℕ (map.code coded_ℕ (coded_option id_code)))
-    (λ t. (t.blocks, t.held)) (λ p. record { blocks = p.0; held = p.1 }) (λ _. refl)
+    code_by (ℕ × (ℕ × FinMap nat_cmp (Option Id)))
+    (coded× coded_ℕ (coded× coded_ℕ (map.code coded_ℕ (coded_option id_code))))
+    (λ t. (t.blocks, (t.buckets, t.held)))
+    (λ p. record { blocks = p.0; buckets = p.1.0; held = p.1.1 }) (λ _. refl)
 
 -- the slots that the blocks have, and how many of them may be held: those of one block of each pair
 abbrev pub slots_of : WeakTable → ℕ
@@ -53,17 +57,18 @@ pub record IsWeakTable (t : WeakTable) : Type 0 where
   pub within : (slot : ℕ) → IsSome (get t.held slot) → slot < slots_of t
   pub fits : len t.held ≤ room_of t
 
--- the bucket of a key, and whether an entry is in a bucket
-abbrev pub bucket_of : Id → ℕ
-bucket_of key = key.0 % BUCKETS
+-- the bucket of a key, of so many, and whether an entry is in a bucket
+abbrev pub bucket_of : (buckets : ℕ) → Id → ℕ
+bucket_of buckets key = key.0 % buckets
 
-abbrev pub is_in_bucket : ℕ → Option Id → Bool
-is_in_bucket bucket None = false
-is_in_bucket bucket (Some key) = bucket_of key == bucket
+abbrev pub is_in_bucket : (buckets bucket : ℕ) → Option Id → Bool
+is_in_bucket buckets bucket None = false
+is_in_bucket buckets bucket (Some key) = bucket_of buckets key == bucket
 
 -- the number of entries in a bucket
-abbrev pub entries_in : FinMap nat_cmp (Option Id) → ℕ → ℕ
-entries_in held bucket = length (filter (λ (e : ℕ × Option Id). is_in_bucket bucket e.1) (entries held))
+abbrev pub entries_in : (buckets : ℕ) → FinMap nat_cmp (Option Id) → (bucket : ℕ) → ℕ
+entries_in buckets held bucket =
+    length (filter (λ (e : ℕ × Option Id). is_in_bucket buckets bucket e.1) (entries held))
 
 -- a search of a bucket looks at each of its entries where the key is in none, and else at one at least and at
 -- no more than these
@@ -71,7 +76,7 @@ abbrev pub LooksAt : {A : Type 0} → Option A → (many before after : ℕ) →
 LooksAt None many before after = after ≡ before + many
 LooksAt (Some found) many before after = (before + 1 ≤ after) × (after ≤ before + many)
 
--- keys are divided into 4,096 buckets
+-- the keys of a table that is opened without a number of buckets are divided into 4,096
 abbrev pub BucketsAreThese : Type 0
 BucketsAreThese = BUCKETS ≡ 4096
 

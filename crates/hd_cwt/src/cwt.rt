@@ -1,14 +1,14 @@
-ghost use Rattle.std.specs.Prelude.{◌≡◌, ℕ, ◌+◌, ◌<◌, ◌≤◌, ◌↔◌, Some, None, option_map};
-ghost use Rattle.std.specs.Prelude.{◌⊎◌, ◌-◌, MatchResult, max, IfOk, IfSome, IsSome, IsNone, length, vec_capacity};
+ghost use Rattle.std.specs.Prelude.{◌≡◌, ℕ, ◌+◌, ◌^◌, ◌<◌, ◌≤◌, ◌↔◌, Some, None, option_map};
+ghost use Rattle.std.specs.Prelude.{◌⊎◌, ◌-◌, IfOk, IfSome, IsSome, IsNone, length, vec_capacity};
 ghost use Rattle.std.specs.FinMap as map;
 ghost use Rattle.std.specs.FinMap.{get, len, contains_key};
 ghost use Rattle.hd_model.specs.{Counting.Counts, Table.live_at};
 ghost use Rattle.hd_cwt.specs.WeakTable.{CanTake, HasKey, IsIdle, IsIn, IsLeastIdle, IsWeakTable, LooksAt};
-ghost use Rattle.hd_cwt.specs.WeakTable.{bucket_of, entries_in, kept_key, slots_of};
-ghost use Rattle.hd_cwt.specs.Inside.{node_at};
+ghost use Rattle.hd_cwt.specs.WeakTable.{bucket_of, entries_in, kept_key, room_of, slots_of};
+ghost use Rattle.hd_cwt.specs.Inside.{copied, node_at};
 ghost use Rattle.hd_cwt.specs.Inside.{IsTaken, IsLeft};
 
-use crate::entries::Entries;
+use crate::entries::{BUCKETS, Entries};
 use crate::keyed::Keyed;
 use hd_model::limits::{HOST_BLOCKS, ROWS};
 use hd_model::{Addr, Id, Memory, Slot, Steps};
@@ -20,14 +20,24 @@ use std::sync::ledger::{Blank, Ledger};
 /// The weak table: the slots that it holds, and the key in each, if it has one.
 ///
 /// A held slot stays held until it is idle and released. It may lose its key and get another. Values
-/// are not here: they are the secondaries of the slots' rows. All memory is taken by `open` and
-/// `reserve`.
-#[derive(Drop)]
+/// are not here: they are the secondaries of the slots' rows. All memory is taken by `open`,
+/// `open_with` and `larger`.
 pub struct Cwt {
     entries: Entries,
     // The number of held slots, and those of them with a key.
     count: u32,
     keyed: Keyed,
+}
+
+// Not derived: what a derived one does is proved again wherever a table is dropped.
+impl Drop for Cwt {
+    fn drop(self) {
+        let Cwt {
+            entries: _entries,
+            count: _,
+            keyed: _keyed,
+        } = self;
+    }
 }
 
 impl Model for Cwt {
@@ -49,9 +59,20 @@ impl Cwt {
     /// is held.
     pub fn open(alloc: Global, blocks: u32) -> Result<Cwt, Memory>
         requires { blocks ≤ HOST_BLOCKS }
-        ensures { IfOk result (λ t. t ≡ record { blocks = blocks; held = map.empty }) }
+        ensures { IfOk result (λ t.
+            t ≡ record { blocks = blocks; buckets = BUCKETS; held = map.empty }) }
     {
-        let entries = Entries::open(alloc, blocks)?;
+        Cwt::open_with(alloc, blocks, BUCKETS)
+    }
+
+    /// The same, with so many buckets of keys.
+    pub fn open_with(alloc: Global, blocks: u32, buckets: u32) -> Result<Cwt, Memory>
+        requires blocks { blocks ≤ HOST_BLOCKS }
+        requires buckets { (0 < buckets) × (buckets < 2 ^ 31) }
+        ensures { IfOk result (λ t.
+            t ≡ record { blocks = blocks; buckets = buckets; held = map.empty }) }
+    {
+        let entries = Entries::open(alloc, blocks, buckets)?;
         let keyed = Keyed::open(alloc, ROWS * (blocks + 1), ROWS * (blocks / 2))?;
         Ok(Cwt {
             entries,
@@ -60,17 +81,47 @@ impl Cwt {
         })
     }
 
-    /// Makes it a table for the slots of at least `blocks` blocks. No slot that comes is held. It
-    /// looks at each slot, so a caller that takes one more again and again doubles.
-    pub fn reserve(&mut self, blocks: u32) -> Result<(), Memory>
-        requires { blocks ≤ HOST_BLOCKS }
-        ensures { MatchResult result
-            (λ _. self.new ≡ record self.old { blocks = max self.old.blocks blocks })
-            (λ _. self.new ≡ self.old) }
+    /// A table for the slots of as many blocks or more, with so many buckets, which has the same
+    /// keys in the same slots. It looks at each slot, so a caller that takes one more again and
+    /// again doubles.
+    pub fn larger(&self, alloc: Global, blocks: u32, buckets: u32) -> Result<Cwt, Memory>
+        requires blocks { (self.now.blocks ≤ blocks) × (blocks ≤ HOST_BLOCKS) }
+        requires buckets { (0 < buckets) × (buckets < 2 ^ 31) }
+        ensures { IfOk result (λ t.
+            t ≡ record self.now { blocks = blocks; buckets = buckets }) }
     {
-        self.keyed
-            .reserve(ROWS * (blocks + 1), ROWS * (blocks / 2))?;
-        self.entries.reserve(blocks)
+        let mut larger = Cwt::open_with(alloc, blocks, buckets)?;
+        for slot in 0..self.entries.slots() {
+            larger.copy(slot, self.entries.get(slot));
+        }
+        Ok(larger)
+    }
+
+    // Has in a slot that is not held what another table has there.
+    fn copy(&mut self, slot: u32, entry: Option<Option<Id>>)
+        requires within { slot < slots_of self.old }
+        requires free { get self.old.held slot ≡ None }
+        requires room { IsSome entry → len self.old.held < room_of self.old }
+        requires new { (key : Id) → entry ≡ Some (Some key) →
+            (other : ℕ) → ¬ (HasKey self.old key other) }
+        ensures { self.new ≡ copied self.old slot entry }
+    {
+        match entry {
+            Some(Some(key)) => self.add(key, Slot(slot)),
+            Some(None) => self.hold(slot),
+            None => {}
+        }
+    }
+
+    // Holds a slot that is not held, without a key.
+    fn hold(&mut self, slot: u32)
+        requires within { slot < slots_of self.old }
+        requires free { get self.old.held slot ≡ None }
+        requires room { len self.old.held < room_of self.old }
+        ensures { self.new ≡ record self.old { held = map.insert self.old.held slot None } }
+    {
+        self.entries.clear(slot);
+        self.count += 1;
     }
 
     /// Whether a slot, which may be any number, is held.
@@ -110,7 +161,8 @@ impl Cwt {
     pub fn find<L: Ledger>(&self, key: Id, steps: &mut Steps<L>) -> Option<Slot>
         ensures found { IfSome result (λ slot. HasKey self.now key slot.0) }
         ensures none { IsNone result ↔ ((slot : ℕ) → ¬ (HasKey self.now key slot)) }
-        ensures steps { let many = entries_in self.now.held (bucket_of key) in
+        ensures steps { let n = self.now.buckets in
+            let many = entries_in n self.now.held (bucket_of n key) in
             LooksAt result many steps.old steps.new }
         ensures table { IsWeakTable self.now }
     {
@@ -181,6 +233,7 @@ impl Cwt {
     /// each slot with a key once, and at no other. A slot that is not live has no target.
     pub fn sweep(&mut self, seg: &Seg)
         ensures blocks { self.new.blocks ≡ self.old.blocks }
+        ensures buckets { self.new.buckets ≡ self.old.buckets }
         ensures each { (slot : ℕ) → get self.new.held slot ≡
             option_map (kept_key seg.now slot) (get self.old.held slot) }
     {
@@ -196,7 +249,7 @@ impl Cwt {
 
 // Takes out the key in a slot that has one, where its row has a null target.
 fn sweep_slot(entries: &mut Entries, keyed: &mut Keyed, seg: &Seg, slot: u32)
-    requires held { IsSome (get entries.old.held slot) }
+    requires held { slot < slots_of entries.old }
     requires within { slot < length keyed.old.indexes.items }
     requires listed { node_at keyed.old.indexes.items slot < length keyed.old.slots.items }
     requires last { let slots = keyed.old.slots.items in

@@ -1,10 +1,8 @@
 // The slots with a key, in no order, and for each of them where it is listed.
 ghost use Rattle.std.specs.Prelude.{◌≡◌, ◌+◌, ◌-◌, ◌<◌, ◌≤◌, ◌^◌, [], ◌∷◌, ◌++◌, length, slice_set, vec_capacity, IfOk};
-ghost use Rattle.std.specs.Prelude.{MatchResult, OnOk, replicate};
 ghost use Rattle.hd_cwt.specs.Inside.{node_at};
 ghost use Rattle.hd_cwt.specs.Inside.{IsUnlisted};
 
-use crate::lists::lengthen;
 use hd_model::{Memory, filled};
 use std::alloc::Global;
 
@@ -27,22 +25,6 @@ impl Keyed {
             Ok(slots) => Ok(Keyed { slots, indexes }),
             Err(_) => Err(Memory),
         }
-    }
-
-    /// Room for `room` of `count` slots at least.
-    pub(crate) fn reserve(&mut self, count: u32, room: u32) -> Result<(), Memory>
-        ensures slots { self.new.slots.items ≡ self.old.slots.items }
-        ensures indexes { let indexes = self.old.indexes.items in MatchResult result
-            (λ _. self.new.indexes.items ≡ indexes ++ replicate (count - length indexes) 0)
-            (λ _. self.new.indexes.items ≡ indexes) }
-        ensures room { OnOk result (room ≤ vec_capacity self.new.slots) }
-        ensures capacity { vec_capacity self.old.slots ≤ vec_capacity self.new.slots }
-    {
-        let more = (room as usize).saturating_sub(self.slots.len());
-        let Ok(()) = self.slots.reserve(more) else {
-            return Err(Memory);
-        };
-        lengthen(&mut self.indexes, 0, count)
     }
 
     /// Lists a slot, as the last one.

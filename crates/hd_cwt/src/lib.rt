@@ -6,7 +6,6 @@ mod cwt;
 mod entries;
 mod keyed;
 mod laws;
-mod lists;
 mod rings;
 
 pub use cwt::Cwt;

@@ -2,6 +2,11 @@ use Rattle.hd_cwt.proofs.Basics.{IsSome, WeakTable, get, refl, subst, sym, ◌�
 use Rattle.hd_cwt.proofs.KeyChanges.{clear_idle, clear_listed, held_low, keyed_index, last_low, relisted}
 use Rattle.hd_cwt.proofs.cwt.Cwt.clear.Goals as goal
 
+pub clear-requires : goal.clear-requires
+clear-requires c =
+    c.self.invariant.table.within c.args.slot.0
+    (subst (λ (t : WeakTable). IsSome (get t.held c.args.slot.0)) (sym c.self.view_is) c.requires)
+
 pub remove-requires-clause-within : goal.remove-requires-clause-within
 remove-requires-clause-within c =
     held_low c.self.invariant c.args.slot.0

@@ -2,6 +2,11 @@ use Rattle.hd_cwt.proofs.Basics.{HasKey, ap, is_some, keyed_in, refl, rules}
 use Rattle.hd_cwt.proofs.KeyChanges.{clear_listed, held_low, keyed_index, last_low, relisted}
 use Rattle.hd_cwt.proofs.cwt.Cwt.remove_on.Goals as goal
 
+pub clear-requires : goal.clear-requires
+clear-requires g c =
+    let has : HasKey c.self.inside.entries c.args.key c.unwrap-slot.result = search rules in
+    c.self.invariant.table.within c.unwrap-slot.result (ap is_some has)
+
 pub remove-requires-clause-within : goal.remove-requires-clause-within
 remove-requires-clause-within g c =
     let has : HasKey c.self.inside.entries c.args.key c.unwrap-slot.result = search rules in

@@ -1,5 +1,5 @@
 use Rattle.hd_cwt.proofs.Basics.{WeakTable, arith, get_or_default_zero, length, node_at, refl, subst, sym, ℕ, ⊎_elim, ◌+◌, ◌-◌, ◌<◌, ◌≤◌, ◌∙◌, ◌≡◌}
-use Rattle.hd_cwt.proofs.KeyChanges.{IsSwept, all_swept, none_swept, relisted, sweep_left, sweep_taken, taken_listed}
+use Rattle.hd_cwt.proofs.KeyChanges.{IsSwept, all_swept, none_swept, relisted, slot_within, sweep_left, sweep_taken, taken_listed}
 use Rattle.hd_cwt.proofs.cwt.Cwt.sweep.Goals as goal
 
 pub loop-left-init : goal.loop-left-init
@@ -43,6 +43,16 @@ loop-left-preserved c =
       relisted listed left.entries left.slots_are left.indexes_are c.sweep_slot.ensures.capacity,
       subst (λ xs. i ≤ length xs) (sym left.slots_are) (omega (arith, low)),
     )) c.sweep_slot.ensures.swept
+
+pub sweep_slot-requires-clause-held : goal.sweep_slot-requires-clause-held
+sweep_slot-requires-clause-held c =
+    let keyed = c.loop-left.self-inside.keyed in
+    let i : ℕ = c.loop-left.left - 1 in
+    let low : i < length keyed.slots.items = omega (arith, c.loop-left.invariant.2) in
+    let slot : ℕ = c.index-slot.result.now in
+    let at : slot ≡ node_at keyed.slots.items i =
+    c.index-slot.ensures ∙ get_or_default_zero keyed.slots.items i slot low in
+    omega (arith, at, slot_within c.loop-left.invariant.1 i low)
 
 pub returns-clause-each : goal.returns-clause-each
 returns-clause-each c = all_swept c.loop-left.invariant.0 (omega arith)

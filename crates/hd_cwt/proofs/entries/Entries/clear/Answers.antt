@@ -1,5 +1,5 @@
-use Rattle.hd_cwt.proofs.Basics.{None, ap, arith, length, ◌<◌, ◌∙◌}
-use Rattle.hd_cwt.proofs.EntryCalls.{held_low, node_low, back_low, before_low, room_low, clear_entries, viewed}
+use Rattle.hd_cwt.proofs.Basics.{None, ap, arith, ◌∙◌}
+use Rattle.hd_cwt.proofs.EntryCalls.{slot_low, node_low, back_low, before_low, room_low, clear_entries, viewed}
 use Rattle.std.specs.FinSet.{insert}
 use Rattle.hd_cwt.proofs.entries.Entries.clear.Goals as goal
 
@@ -7,35 +7,34 @@ pub index-before-requires : goal.index-before-requires
 index-before-requires c =
     let known =
     back_low c.self.invariant c.self.view_is c.args.slot
-    (held_low c.self.invariant c.self.view_is c.args.slot c.requires) in
+    (slot_low c.self.invariant c.self.view_is c.args.slot c.requires) in
     omega (arith, c.self.inside.rings.previous.ok.0, known)
 
 pub index_mut-requires : goal.index_mut-requires
 index_mut-requires c =
-    omega (arith, c.self.inside.held.ok.0, held_low c.self.invariant c.self.view_is c.args.slot c.requires)
+    omega (arith, c.self.inside.held.ok.0, slot_low c.self.invariant c.self.view_is c.args.slot c.requires)
 
 pub exchange-requires-clause-a : goal.exchange-requires-clause-a
 exchange-requires-clause-a c =
-    let low : c.args.slot < length c.self.inside.held.items =
-    held_low c.self.invariant c.self.view_is c.args.slot c.requires in
-    before_low c.self.invariant c.self.view_is c.args.slot low c.index-before.result.now
+    before_low c.self.invariant c.self.view_is c.args.slot
+    (slot_low c.self.invariant c.self.view_is c.args.slot c.requires) c.index-before.result.now
     c.index-before.ensures
 
 pub exchange-requires-clause-b : goal.exchange-requires-clause-b
 exchange-requires-clause-b c =
     node_low c.self.invariant c.self.view_is c.args.slot
-    (held_low c.self.invariant c.self.view_is c.args.slot c.requires)
+    (slot_low c.self.invariant c.self.view_is c.args.slot c.requires)
 
 pub insert-requires : goal.insert-requires
 insert-requires c =
     let low = room_low c.self.invariant c.self.view_is c.args.slot
-    (held_low c.self.invariant c.self.view_is c.args.slot c.requires) in
+    (slot_low c.self.invariant c.self.view_is c.args.slot c.requires) in
     omega (arith, low)
 
 pub invariant_of-self : goal.invariant_of-self
 invariant_of-self c =
     clear_entries c.self.invariant c.self.view_is c.args.slot
-    (held_low c.self.invariant c.self.view_is c.args.slot c.requires)
+    (slot_low c.self.invariant c.self.view_is c.args.slot c.requires)
     c.exchange.new.self.next.items c.exchange.new.self.previous.items c.index-before.result.now
     c.index-before.ensures c.exchange.ensures.next c.exchange.ensures.previous
     (c.insert.ensures
@@ -44,4 +43,4 @@ invariant_of-self c =
 pub returns : goal.returns
 returns c =
     viewed c.self.invariant c.self.view_is c.args.slot None
-    (held_low c.self.invariant c.self.view_is c.args.slot c.requires)
+    (slot_low c.self.invariant c.self.view_is c.args.slot c.requires)
