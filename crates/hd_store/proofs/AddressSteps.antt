@@ -1,5 +1,5 @@
 -- What each command does with the pinned addresses.
-use Rattle.hd_store.proofs.StoreWords.{Addr, RepliesAddress, Bool, Cmd, CollectedSteps, Done, Entry, Err, FinMap, GrowsFor, Handle, HasCollected, HasNames, HasAddress, HasRun, Id, IsOffer, IsOutcome, IsPlainStep, IsValid, KeepsNames, KeepsPinned, LeavesHeap, Machine, MatchResult, MayReturn, MayOffer, MayRun, Moves, None, Ok, Option, Outcome, Refusal, Reply, Report, Result, Slot, Some, State, Step, StepOf, TakesSteps, Zero, aged_by, reply_address, reply_with, ap, asks_of, class_of, cond, done_of, empty, entry_by, false, get, get_inserted, handle_at, handle_register_of, if◌then◌else◌, insert, is_collect, kept_pinned, key_register, name_in, nat_cmp, no_room, nothing_at, option_and_then, option_map_or, pinned_by, pinned_in, pinned_target, pins, refl, refuses, register_of, same_Some, subst, sym, touched_by, true, true≢false, with_address, with_pinned, ℕ, ◌<◌, ◌∙◌, ◌≡◌, ◌≤◌}
+use Rattle.hd_store.proofs.StoreWords.{Addr, RepliesAddress, Bool, Cmd, CollectedSteps, Done, Entry, Err, FinMap, GrowsFor, Handle, HasCollected, HasNames, HasAddress, HasRun, Id, IsOffer, IsOutcome, IsPlainStep, IsValid, KeepsNames, KeepsPinned, LeavesHeap, Machine, MatchResult, MayReturn, MayOffer, MayRun, Moves, None, Ok, Option, Outcome, Refusal, Reply, Report, Result, Slot, Some, State, Step, StepOf, TakesStepsIn, Zero, aged_by, reply_address, reply_with, ap, asks_of, class_of, cond, done_of, empty, entry_by, false, get, get_inserted, handle_at, handle_register_of, if◌then◌else◌, insert, is_collect, kept_pinned, key_register, name_in, nat_cmp, no_room, nothing_at, option_and_then, option_map_or, pinned_by, pinned_in, pinned_target, pins, refl, refuses, register_of, same_Some, subst, sym, touched_by, true, true≢false, with_address, with_pinned, ℕ, ◌<◌, ◌∙◌, ◌≡◌, ◌≤◌}
 use Rattle.hd_model.specs.Aging.{is_refused}
 use Rattle.hd_model.specs.Command.{reply_root}
 use Rattle.hd_model.specs.Anchors.{ReturnsRoot}
@@ -27,7 +27,7 @@ module _ (e : Entry) (f : Cmd → Bool) (is : f e.cmd ≡ false) (each : (n : �
   }
 
   pub others-steps : (m : Machine) (steps : ℕ) → key_register (class_of e.cmd) ≡ None
-      → TakesSteps m.state m.ages e steps steps
+      → TakesStepsIn m.numbers m.state m.ages e steps steps
   others-steps m steps no_key = record {
     others = λ _ _. refl;
     searches = λ key is. absurd
@@ -196,7 +196,8 @@ module _ (m : Machine) (caller h : ℕ) (known : caller < m.numbers.callers) (lo
 -- the steps of a collection
 pub collect-steps : (m : Machine) (n : ℕ) (report : Report) (caller before after : ℕ)
     → CollectedSteps m.state m.ages n before after
-    → TakesSteps m.state m.ages (entry_with caller (cmd.Collect n) (reply.Report report)) before after
+    → TakesStepsIn m.numbers m.state m.ages (entry_with caller (cmd.Collect n) (reply.Report report)) before
+    after
 collect-steps m n report caller before after steps = record {
   others = λ not _. absurd (true≢false not);
   searches = λ key is. absurd (no_some key (sym is));
@@ -210,7 +211,8 @@ pub collect-returns : {E : Type 0} (m k : Machine) (n caller : ℕ) → caller <
     → MatchResult r (λ report. HasCollected m k n report × CollectedSteps m.state m.ages n before after)
     (λ _. (k ≡ m) × (after ≡ before))
     → MatchResult r (λ report. let e = entry_with caller (cmd.Collect n) (reply.Report report) in
-    KeepsPinned m e k × TakesSteps m.state m.ages e before after) (λ _. (k ≡ m) × (after ≡ before))
+    KeepsPinned m e k × TakesStepsIn m.numbers m.state m.ages e before after)
+    (λ _. (k ≡ m) × (after ≡ before))
 collect-returns m k n caller known low before after (Ok report) is =
     (collect-moves m k n report caller known low is.0, collect-steps m n report caller before after is.1)
 collect-returns m k n caller known low before after (Err memory) is = is
@@ -218,7 +220,7 @@ collect-returns m k n caller known low before after (Err memory) is = is
 -- a command was done with any pinned addresses, and took so many steps
 abbrev pub Ran : Machine → Machine → ℕ → Cmd → Option Slot → Entry → (before after : ℕ) → Type 0
 Ran m k caller c offer e before after =
-    HasRun m caller c offer e (KeepsPinned m e k) × TakesSteps m.state m.ages e before after
+    HasRun m caller c offer e (KeepsPinned m e k) × TakesStepsIn m.numbers m.state m.ages e before after
 
 -- what was done without a use of pinned addresses was done with any
 pub plain-kept : (m k : Machine) (caller : ℕ) (c : Cmd) (offer : Option Slot) → MayRun m caller c offer
@@ -293,7 +295,7 @@ as-asked m k caller given c offer came r before after is same may ran =
 pub others-run : (m k : Machine) (caller : ℕ) (c : Cmd) (offer : Option Slot) (r : Result Done Refusal)
     (before after : ℕ) → asks_of m.state caller c ≡ no_room
     → KeepsPinned m (entry_by caller c (done_of r)) k
-    → TakesSteps m.state m.ages (entry_by caller c (done_of r)) before after
+    → TakesStepsIn m.numbers m.state m.ages (entry_by caller c (done_of r)) before after
     → MayRun m caller c offer → Ran m k caller c offer (entry_by caller c (done_of r)) before after
 others-run m k caller c offer r before after none keeps steps may = (
   record {
@@ -361,7 +363,7 @@ module _ (m : Machine) (caller r : ℕ) where
 pub looked-run : (m k : Machine) (caller : ℕ) (c : Cmd) (offer : Option Slot) (r : Result Done Refusal)
     (before after : ℕ) → asks_of m.state caller c ≡ no_room
     → IsPlainStep m c k (entry_by caller c (done_of r))
-    → TakesSteps m.state m.ages (entry_by caller c (done_of r)) before after
+    → TakesStepsIn m.numbers m.state m.ages (entry_by caller c (done_of r)) before after
     → MayRun m caller c offer → Ran m k caller c offer (entry_by caller c (done_of r)) before after
 looked-run m k caller c offer r before after none did steps may =
     others-run m k caller c offer r before after none

@@ -1,5 +1,5 @@
 -- What a search of the weak table of a store finds is what the machine finds in its state.
-use Rattle.hd_store.proofs.StoreWords.{Addr, Bool, FinMap, Handle, HasKey, Heap, Id, IfSome, IsIdle, IsLeastIdle, IsNamed, IsNone, IsSome, IsStored, IsTied, IsWeakTable, List, LooksAt, Machine, None, Option, Parts, Row, SearchSteps, Slot, Some, WeakEntry, [], ap, arith, bucket_of, cond, entries, entries_beside, entries_in, entry_named, entry_value, extra_of, false, filter, get, id_at, idle_found, idle_slot, is_idle, is_in_bucket, is_some, key_found, key_none, length, machine_of, map, named_in, nat_cmp, option_and_then, option_map, refl, same_Some, secondary_of, slot_of_key, subst, suc, sym, true, true≢false, value_at, weak_by_id, where_least, where_none, ℕ, ◌↔◌, ◌∙◌, ◌∷◌, ◌≡◌}
+use Rattle.hd_store.proofs.StoreWords.{Addr, Bool, FinMap, Handle, HasKey, Heap, Id, IfSome, IsIdle, IsLeastIdle, IsNamed, IsNone, IsSome, IsStored, IsTied, IsWeakTable, List, LooksAt, Machine, None, Option, Parts, Row, SearchSteps, Slot, Some, WeakEntry, [], ap, arith, bucket_of, cond, entries, entries_beside, entries_in, entry_named, entry_value, extra_of, false, filter, get, id_at, idle_found, idle_slot, is_idle, is_in_bucket, is_some, key_found, key_none, length, machine_of, map, named_in, nat_cmp, option_and_then, option_map, refl, same_Some, secondary_of, slot_of_key, subst, suc, sym, true, true≢false, value_at, weak_by_id, where_least, where_none, ℕ, ◌↔◌, ◌∙◌, ◌∷◌, ◌≡◌, buckets_of, state_of}
 use Rattle.hd_model.specs.declared.handle.Extra.TheVariants.{Secondary}
 use Rattle.hd_seg.specs.Row.{row_of}
 use Rattle.hd_model.proofs.StepWrites.{same_slot}
@@ -151,15 +151,15 @@ not-there f m view key none other has =
     key_none m.state key none other _ (read_of f m view other (Some (Some key)) has) refl
 
 -- as many entries are in a bucket
-module _ (name : Addr → Id) (rows : FinMap nat_cmp (Handle Addr)) (bucket : ℕ) where
+module _ (name : Addr → Id) (rows : FinMap nat_cmp (Handle Addr)) (buckets bucket : ℕ) where
   abbrev among : ℕ × Option (WeakEntry Id) → Bool
-  among e = is_in_bucket bucket (option_map (λ (x : WeakEntry Id). x.key) e.1)
+  among e = is_in_bucket buckets bucket (option_map (λ (x : WeakEntry Id). x.key) e.1)
 
   abbrev read : List (ℕ × Option Id) → List (ℕ × Option (WeakEntry Id))
   read es = map (λ e. (e.0, entry_named name (get rows e.0) e.1)) es
 
   same_test : (slot : ℕ) (key : Option Id) → among (slot, entry_named name (get rows slot) key)
-      ≡ is_in_bucket bucket key
+      ≡ is_in_bucket buckets bucket key
   same_test slot None = refl
   same_test slot (Some key) = refl
 
@@ -169,11 +169,11 @@ module _ (name : Addr → Id) (rows : FinMap nat_cmp (Handle Addr)) (bucket : �
   counted false x y xs ys e = e
 
   as-many : (es : List (ℕ × Option Id))
-      → length (filter (λ e. is_in_bucket bucket e.1) es) ≡ length (filter (λ e. among e) (read es))
+      → length (filter (λ e. is_in_bucket buckets bucket e.1) es) ≡ length (filter (λ e. among e) (read es))
   as-many [] = refl
   as-many (e ∷ es) =
-      counted (is_in_bucket bucket e.1) e (e.0, entry_named name (get rows e.0) e.1)
-      (filter (λ e. is_in_bucket bucket e.1) es) (filter (λ e. among e) (read es)) (as-many es)
+      counted (is_in_bucket buckets bucket e.1) e (e.0, entry_named name (get rows e.0) e.1)
+      (filter (λ e. is_in_bucket buckets bucket e.1) es) (filter (λ e. among e) (read es)) (as-many es)
       ∙ (λ i. length (cond (sym (same_test e.0 e.1) i)
       ((e.0, entry_named name (get rows e.0) e.1) ∷ filter (λ e. among e) (read es))
       (filter (λ e. among e) (read es))))
@@ -185,15 +185,18 @@ unfolding weak_by_id
 entries_weak h rows held = entries-mapped (λ s. entry_named (id_at h) (get rows s)) held
 
 -- the steps of a search, in the words of the machine
-pub search-steps : (f : Parts) (m : Machine) → machine_of f ≡ m → (key : Id) (before after : ℕ)
+pub search-steps : (f : Parts) (m : Machine) → machine_of f ≡ m → IsStored f → (key : Id) (before after : ℕ)
     → (r : Option Slot) → r ≡ slot_of_key m.state key
-    → LooksAt r (entries_in f.weak.held (bucket_of key)) before after
-    → SearchSteps m.state key before after
-search-steps f m view key before after r is looks =
-    let many : entries_in f.weak.held (bucket_of key) ≡ entries_beside m.state key =
-    as-many (id_at f.heap) f.table.rows (bucket_of key) (entries f.weak.held)
-    ∙ ap (λ es. length (filter (λ e. among (id_at f.heap) f.table.rows (bucket_of key) e) es))
+    → LooksAt r (entries_in f.weak.buckets f.weak.held (bucket_of f.weak.buckets key)) before after
+    → SearchSteps (buckets_of m.numbers.blocks m.numbers.callers) m.state key before after
+search-steps f m view stored key before after r is looks =
+    let n : ℕ = f.weak.buckets in
+    let many : entries_in n f.weak.held (bucket_of n key)
+    ≡ entries_beside (buckets_of m.numbers.blocks m.numbers.callers) m.state key =
+    as-many (id_at f.heap) f.table.rows n (bucket_of n key) (entries f.weak.held)
+    ∙ ap (λ es. length (filter (λ e. among (id_at f.heap) f.table.rows n (bucket_of n key) e) es))
     (sym (entries_weak f.heap f.table.rows f.weak.held))
-    ∙ ap (λ (n : Machine). entries_beside n.state key) view in
-    subst (λ n. LooksAt (slot_of_key m.state key) n before after) many
-    (subst (λ o. LooksAt o (entries_in f.weak.held (bucket_of key)) before after) is looks)
+    ∙ ap (λ buckets. entries_beside buckets (state_of f) key) stored.weak_buckets
+    ∙ ap (λ (v : Machine). entries_beside (buckets_of v.numbers.blocks v.numbers.callers) v.state key) view in
+    subst (λ found. LooksAt (slot_of_key m.state key) found before after) many
+    (subst (λ o. LooksAt o (entries_in n f.weak.held (bucket_of n key)) before after) is looks)

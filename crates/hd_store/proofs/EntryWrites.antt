@@ -61,7 +61,7 @@ module _ (f : Parts) (m : Machine) (view : machine_of f ≡ m) (stored : IsStore
   stored-attached =
       stored-entries f (with_row f.table slot.0 row) f.ages
       (record f.weak { held = insert f.weak.held slot.0 key })
-      stored refl stored.uses refl (storable-put f slot.0 row stored may) refl tied
+      stored refl stored.uses refl (storable-put f slot.0 row stored may) refl refl tied
 
   weak_attached : weak_by_id f.heap (insert f.table.rows slot.0 row) (insert f.weak.held slot.0 key)
       ≡ insert (weak_by_id f.heap f.table.rows f.weak.held) slot.0 (entry_named (id_at f.heap) (Some row) key)

@@ -1,61 +1,49 @@
--- A table of more blocks, and a weak table that has room for more than the table has.
-use Rattle.hd_store.proofs.StoreWords.{Addr, Err, Handle, IsStored, IsTable, IsWellFormed, List, Machine, MatchResult, Ok, Parts, Result, Some, WeakTable, age_of, ap, arith, clump_of, get, is_some, length, length-append, length-replicate, max, replicate, subst, sym, take, ℕ, ◌*◌, ◌++◌, ◌-◌, ◌/◌, ◌<◌, ◌∙◌, ◌≡◌, ◌≤◌}
+-- A table of more blocks, and a weak table that has its blocks and buckets.
+use Rattle.hd_store.proofs.StoreWords.{Addr, Err, Handle, IsStored, IsTable, IsWellFormed, List, Machine, MatchResult, Ok, Parts, Result, Some, WeakTable, age_of, ap, arith, buckets_of, callers_of, clump_of, get, is_some, length, length-append, length-replicate, max, refl, replicate, subst, sym, take, ℕ, ◌*◌, ◌++◌, ◌-◌, ◌/◌, ◌<◌, ◌∙◌, ◌≡◌, ◌≤◌, Table, machine_of}
 use Rattle.std.proofs.lemmas.List.{get_or_append_left, take-append-le, take_all}
 use Rattle.hd_model.specs.declared.limits.TheConstants.{CLUMPS, HOST_BLOCKS, OLDEST, ROWS}
 use Rattle.hd_store.specs.{Calls.IsSound, Growth.with_blocks}
 
 module _ {f : Parts} (stored : IsStored f) (most : ℕ) where
-  -- the weak table alone
-  pub stored_wider : {w : WeakTable} → w ≡ record f.weak { blocks = max f.weak.blocks most }
-      → IsStored (record f { weak = w })
-  stored_wider {w} is =
-      subst (λ (v : WeakTable). IsStored (record f { weak = v })) (sym is)
-      (record {
-        whole = stored.whole;
-        identities = stored.identities;
-        ages = stored.ages;
-        cards = stored.cards;
-        full = stored.full;
-        room = stored.room;
-        within = stored.within;
-        limit = stored.limit;
-        roots = stored.roots;
-        serials = stored.serials;
-        clumps = stored.clumps;
-        blocks = stored.blocks;
-        uses = stored.uses;
-        tied = stored.tied;
-        weak_blocks = omega (arith, stored.weak_blocks);
-      })
-
-  -- the ages that come, counted by the table
-  pub ages_more : {ages : List ℕ} → ages ≡ f.ages ++ replicate (CLUMPS * most - length f.ages) OLDEST
-      → ages ≡ f.ages ++ replicate (CLUMPS * max f.table.blocks most - length f.ages) OLDEST
-  ages_more is =
-      let count : CLUMPS * most - length f.ages ≡ CLUMPS * max f.table.blocks most - length f.ages =
-      omega (arith, stored.clumps) in
-      is ∙ ap (λ n. f.ages ++ replicate n OLDEST) count
-
-  -- and those that go again
+  -- the ages that come go again
   pub ages_back : (before : ℕ) (came : List ℕ) → length f.ages ≡ CLUMPS * before
       → take (CLUMPS * before) (f.ages ++ came) ≡ f.ages
   ages_back before came long =
       take-append-le (CLUMPS * before) f.ages came (omega (arith, long))
       ∙ take_all (CLUMPS * before) f.ages (omega (arith, long))
 
-  -- the table too
-  module _ (few : most ≤ HOST_BLOCKS) where
-    abbrev more : ℕ
-    more = max f.table.blocks most
+  -- the most of what is asked for and of what there is, by the ages
+  module _ (asked before : ℕ) (is : most ≡ max asked before) (long : length f.ages ≡ CLUMPS * before) where
+    pub up : f.table.blocks ≤ most
+    up = omega (arith, is, long, stored.clumps)
 
+    pub most_is : most ≡ max f.table.blocks asked
+    most_is = omega (arith, is, long, stored.clumps)
+
+    pub table_is : {t : Table} → t ≡ record f.table { blocks = max f.table.blocks most }
+        → t ≡ record f.table { blocks = most }
+    table_is same =
+        let number : max f.table.blocks most ≡ most = omega (arith, up) in
+        same ∙ ap (λ n. record f.table { blocks = n }) number
+
+  pub weak_is : {m : Machine} {w : WeakTable} {buckets callers : ℕ} → machine_of f ≡ m
+      → w ≡ record f.weak { blocks = most; buckets = buckets } → buckets ≡ buckets_of most callers
+      → callers ≡ m.numbers.callers
+      → w ≡ record f.weak { blocks = most; buckets = buckets_of most (callers_of f) }
+  weak_is view same number callers =
+      same
+      ∙ ap (λ n. record f.weak { blocks = most; buckets = n })
+      (number ∙ ap (buckets_of most) (callers ∙ ap (λ (n : Machine). n.numbers.callers) (sym view)))
+
+  module _ (up : f.table.blocks ≤ most) (few : most ≤ HOST_BLOCKS) where
     abbrev came : List ℕ
-    came = replicate (CLUMPS * more - length f.ages) OLDEST
+    came = replicate (CLUMPS * most - length f.ages) OLDEST
 
     abbrev pub larger : Parts
     larger = record f {
-      table = record f.table { blocks = more };
+      table = record f.table { blocks = most };
       ages = f.ages ++ came;
-      weak = record f.weak { blocks = max f.weak.blocks most };
+      weak = record f.weak { blocks = most; buckets = buckets_of most (callers_of f) };
     }
 
     -- the age of a row
@@ -93,15 +81,17 @@ module _ {f : Parts} (stored : IsStored f) (most : ℕ) where
         arith,
         stored.clumps,
         length-append f.ages came,
-        length-replicate (CLUMPS * more - length f.ages) OLDEST,
+        length-replicate (CLUMPS * most - length f.ages) OLDEST,
+        up,
       );
-      blocks = omega (arith, stored.blocks, few);
+      blocks = few;
       uses = record {
-        within = λ block is. let was = stored.uses.within block is in (was.0, omega (arith, was.1));
+        within = λ block is. let was = stored.uses.within block is in (was.0, omega (arith, was.1, up));
         extras = stored.uses.extras;
       };
       tied = stored.tied;
-      weak_blocks = omega (arith, stored.weak_blocks);
+      weak_blocks = refl;
+      weak_buckets = refl;
     }
 
 -- ---- a store

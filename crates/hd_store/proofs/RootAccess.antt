@@ -39,6 +39,7 @@ stored-named f roots q stored long named queue room = record {
   tied = λ slot key is. tied-agrees f (record f { roots = roots; queue = q }) slot key
       (stored.tied slot key is) refl (λ x e. refl);
   weak_blocks = stored.weak_blocks;
+  weak_buckets = stored.weak_buckets;
 }
 
 module _ (f : Parts) (m : Machine) (view : machine_of f ≡ m) (stored : IsStored f) where

@@ -69,7 +69,7 @@ module _ (f : Parts) (m : Machine) (view : machine_of f ≡ m) (stored : IsStore
       stored-entries f (without_row f.table slot) f.ages
       (record f.weak { held = remove f.weak.held slot }) stored refl stored.uses refl
       (λ s r. remove_cases f.table.rows slot (λ j o. o ≡ Some r → IsStorable f j r) s
-      (λ none. absurd (no_some r (sym none))) (λ apart is. storable f stored s r is)) refl tied_left
+      (λ none. absurd (no_some r (sym none))) (λ apart is. storable f stored s r is)) refl refl tied_left
 
   handles_left : unheld (remove f.table.rows slot) (remove f.weak.held slot)
       ≡ unheld f.table.rows f.weak.held

@@ -85,6 +85,6 @@ pub use Rattle.hd_store.specs.StateHeap.{IsCompactStore, IsOfHeap, IsOfTable, Is
 pub use Rattle.hd_store.specs.Store.{IsOverHeap, Machine, machine_of, seen_by, without_free}
 pub use Rattle.hd_store.specs.StoreParts.{parts}
 pub use Rattle.hd_store.specs.{Inside.HasUses, Inside.IsStored, Inside.IsTied, Inside.one_extra, Inside.one_paired, Inside.scene_of_parts, Stored.Parts, Stored.callers_of, Stored.numbers_of, Stored.state_of}
-pub use Rattle.hd_store.specs.Visited.{CollectedSteps, SearchSteps, TakesSteps, blocks_of, due_in, entries_beside, has_kind, key_register, looked_up, steps_by}
+pub use Rattle.hd_store.specs.Visited.{CollectedSteps, SearchSteps, TakesSteps, TakesStepsBy, TakesStepsIn, blocks_of, buckets_of, due_in, entries_beside, has_kind, key_register, looked_up, steps_by}
 pub use Rattle.hd_commands.specs.declared.done.Done.{Done}
 pub use Rattle.hd_store.specs.declared.contents.Contents.TheInside.{Inside}

@@ -21,6 +21,7 @@ use Rattle.hd_heap.specs.{declared.fault.NewFault.NewFault, declared.fault.NewFa
 use Rattle.hd_store.specs.{Stored.Parts, Stored.callers_of, Store.Machine, Store.seen_by, StateHeap.IsCompactStore, PinnedAddresses.AreAddresses}
 use Rattle.hd_store.specs.Reading.{name_in, named_in, IsNamed}
 use Rattle.hd_store.specs.Offers.{IsOffer, GrowsUnoffered, Takes}
+use Rattle.hd_store.specs.Visited.{buckets_of}
 use Rattle.hd_model.specs.declared.command.Cmd.TheVariants as cmd
 
 -- the least unused block, and for a kind with extra data the next one too
@@ -90,7 +91,7 @@ pub record HasUses (uses : FinMap nat_cmp BlockUse) (blocks : ℕ) : Type 0 wher
 -- what a store keeps, which is also what a collection asks for: every reference is to an object, no two
 -- objects have one identity, ages and cards are sound, each region in use has an object, the queue has room
 -- for all objects, the objects take no more cells than the limit, the blocks have their uses, each slot of the
--- weak table has the row of its entry, and that table has the blocks of the table at least
+-- weak table has the row of its entry, and that table has the blocks of the table and its number of buckets
 pub record IsStored (f : Parts) : Type 0 where
   pub whole : IsWhole (scene_of_parts f)
   pub identities : HasIdentities f.heap
@@ -107,7 +108,8 @@ pub record IsStored (f : Parts) : Type 0 where
   pub uses : HasUses f.table.uses f.table.blocks
   pub tied : (slot : ℕ) (key : Option Id) → get f.weak.held slot ≡ Some key
       → IsTied f.heap f.table.rows slot key
-  pub weak_blocks : f.table.blocks ≤ f.weak.blocks
+  pub weak_blocks : f.weak.blocks ≡ f.table.blocks
+  pub weak_buckets : f.weak.buckets ≡ buckets_of f.table.blocks (callers_of f)
 
 -- a machine with these numbers in which nothing is made yet
 pub record IsFirst (n : Numbers) (m : Machine) : Type 0 where

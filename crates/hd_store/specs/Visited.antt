@@ -1,12 +1,13 @@
 -- What a collection of a store costs, and a search of the weak table, in the words of the machine.
-use Rattle.std.specs.Prelude.{◌≡◌, ℕ, ◌+◌, ◌*◌, Bool, false, List, length, filter, sum_by, Option, Some, None, option_map, option_and_then}
+use Rattle.std.specs.Prelude.{◌≡◌, ℕ, ◌+◌, ◌*◌, ◌-◌, Bool, false, cond, nat_le, List, length, filter, sum_by, Option, Some, None, option_map, option_and_then}
 use Rattle.std.specs.FinMap.{get, keys, entries}
 use Rattle.hd_model.specs.{declared.data.Id.Id, declared.data.Entry.Entry, declared.data.Report.Report, declared.data.Kind.Kind, Kinds.all_kinds, Kinds.is_kind, Ages.visits, declared.class.Class.Class, declared.command.Cmd.Cmd, Class.class_of, Text.is_collect, Command.slot_of_key}
 use Rattle.hd_model.specs.declared.data.Reply.TheVariants as reply
 use Rattle.hd_model.specs.declared.command.Cmd.TheVariants as cmd
 use Rattle.hd_model.specs.declared.data.Kind.TheVariants as kind
 use Rattle.hd_model.specs.declared.class.Class.TheVariants as class
-use Rattle.hd_model.specs.State.{State, WeakEntry, BlockUse, handles_of, extra_data, register_of}
+use Rattle.hd_model.specs.declared.limits.TheConstants.{BLOCKS, CALLERS}
+use Rattle.hd_model.specs.State.{Numbers, State, WeakEntry, BlockUse, handles_of, extra_data, register_of}
 use Rattle.hd_cwt.specs.WeakTable.{LooksAt, bucket_of, is_in_bucket}
 use Rattle.hd_scan.specs.Tasks.{task_kind, root_tasks, short_tasks, long_tasks}
 
@@ -57,22 +58,39 @@ key_register class.Plain = None
 abbrev pub looked_up : State → ℕ → Cmd → Option Id
 looked_up s caller c = option_and_then (register_of s caller) (key_register (class_of c))
 
+-- the number of buckets of the weak table: 4,096 within the limits of a script, and else the odd number
+-- below 16 for each block, of 256 at least, since serials of many callers are alike in their low bits
+abbrev pub buckets_of : (blocks callers : ℕ) → ℕ
+buckets_of blocks callers =
+    cond (nat_le blocks BLOCKS) (cond (nat_le callers CALLERS) 4096 (16 * BLOCKS - 1)) (16 * blocks - 1)
+
 -- the number of entries in the bucket of a key
-abbrev pub entries_beside : State → Id → ℕ
-entries_beside s key =
+abbrev pub entries_beside : (buckets : ℕ) → State → Id → ℕ
+entries_beside buckets s key =
     length (filter (λ (e : ℕ × Option (WeakEntry Id)).
-    is_in_bucket (bucket_of key) (option_map (λ (x : WeakEntry Id). x.key) e.1)) (entries s.weak))
+    is_in_bucket buckets (bucket_of buckets key) (option_map (λ (x : WeakEntry Id). x.key) e.1))
+    (entries s.weak))
 
 -- the steps of a search for a key: each entry of its bucket where the key has none, and else one at least and
 -- at most these
-abbrev pub SearchSteps : State → Id → (before after : ℕ) → Type 0
-SearchSteps s key before after = LooksAt (slot_of_key s key) (entries_beside s key) before after
+abbrev pub SearchSteps : (buckets : ℕ) → State → Id → (before after : ℕ) → Type 0
+SearchSteps buckets s key before after =
+    LooksAt (slot_of_key s key) (entries_beside buckets s key) before after
 
 -- the steps of an entry, from the state and the ages before it: a collection takes those of its
--- generation, a command that looks a key up those of one search, and no other command takes any
-pub record TakesSteps (s : State) (ages : List ℕ) (e : Entry) (before after : ℕ) : Type 0 where
+-- generation, a command that looks a key up those of one search among so many buckets, and no other command
+-- takes any
+pub record TakesStepsBy (buckets : ℕ) (s : State) (ages : List ℕ) (e : Entry) (before after : ℕ)
+    : Type 0 where
   pub others : is_collect e.cmd ≡ false → looked_up s e.caller e.cmd ≡ None → after ≡ before
-  pub searches : (key : Id) → looked_up s e.caller e.cmd ≡ Some key → SearchSteps s key before after
+  pub searches : (key : Id) → looked_up s e.caller e.cmd ≡ Some key → SearchSteps buckets s key before after
   pub collects :
       (n : ℕ) (report : Report) → e.cmd ≡ cmd.Collect n → e.reply ≡ reply.Report report
       → CollectedSteps s ages n before after
+
+-- so it is in a script, and in a store by its numbers
+abbrev pub TakesSteps : State → List ℕ → Entry → (before after : ℕ) → Type 0
+TakesSteps s ages e before after = TakesStepsBy 4096 s ages e before after
+
+abbrev pub TakesStepsIn : Numbers → State → List ℕ → Entry → (before after : ℕ) → Type 0
+TakesStepsIn n s ages e before after = TakesStepsBy (buckets_of n.blocks n.callers) s ages e before after

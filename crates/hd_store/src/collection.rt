@@ -5,7 +5,7 @@ ghost use Rattle.hd_cwt.specs.WeakTable.{kept_key};
 ghost use Rattle.hd_model.specs.declared.command.Cmd.TheVariants as cmds;
 ghost use Rattle.hd_model.specs.declared.data.Reply.TheVariants as reply;
 ghost use Rattle.hd_commands.specs.Done.{entry_by, replied};
-ghost use Rattle.hd_store.specs.{Inside.HasCollected, PinnedAddresses.KeepsPinned, Visited.CollectedSteps, Visited.TakesSteps};
+ghost use Rattle.hd_store.specs.{Inside.HasCollected, PinnedAddresses.KeepsPinned, Visited.CollectedSteps, Visited.TakesStepsIn};
 
 use crate::contents::Contents;
 use hd_cwt::Cwt;
@@ -53,6 +53,7 @@ fn sweep_lost(weak: &mut Cwt, table: &Seg, cleared: u32)
     requires { cleared ≡ 0 → (slot : ℕ) → get weak.old.held slot ≡
         option_map (kept_key table.now slot) (get weak.old.held slot) }
     ensures blocks { weak.new.blocks ≡ weak.old.blocks }
+    ensures buckets { weak.new.buckets ≡ weak.old.buckets }
     ensures each { (slot : ℕ) → get weak.new.held slot ≡
         option_map (kept_key table.now slot) (get weak.old.held slot) }
 {
@@ -74,7 +75,7 @@ pub(crate) fn collect_up_to<L: Ledger>(
     ensures { let c = cmds.Collect n in MatchResult result
         (λ report. let e = entry_by caller c (replied (reply.Report report)) in
         KeepsPinned store.old e store.new
-        × TakesSteps store.old.state store.old.ages e steps.old steps.new)
+        × TakesStepsIn store.old.numbers store.old.state store.old.ages e steps.old steps.new)
         (λ _. (store.new ≡ store.old) × (steps.new ≡ steps.old)) }
 {
     store.collect(n, steps)

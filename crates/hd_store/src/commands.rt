@@ -2,7 +2,7 @@
 ghost use Rattle.std.specs.Prelude.{◌≡◌, MatchResult};
 ghost use Rattle.hd_commands.specs.Done.{done_of, entry_by};
 ghost use Rattle.hd_store.specs.Inside.{MayRun, HasRun};
-ghost use Rattle.hd_store.specs.{PinnedAddresses.KeepsPinned, Visited.TakesSteps, Offers.RanOut};
+ghost use Rattle.hd_store.specs.{PinnedAddresses.KeepsPinned, Visited.TakesStepsIn, Offers.RanOut};
 
 use crate::contents::Contents;
 use crate::replies::{finding, removing, rooting, trimming};
@@ -26,7 +26,7 @@ pub(crate) fn carry_out<L: Ledger>(
     ensures { let m = store.old in let k = store.new in
         MatchResult result (λ came. let e = entry_by caller cmd (done_of came) in
         HasRun m caller cmd offer e (KeepsPinned m e k)
-        × TakesSteps m.state m.ages e steps.old steps.new)
+        × TakesStepsIn m.numbers m.state m.ages e steps.old steps.new)
         (λ _. RanOut m.numbers m.state cmd m k × (steps.new ≡ steps.old)) }
 {
     match cmd {

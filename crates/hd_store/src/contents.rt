@@ -1,4 +1,4 @@
-ghost use Rattle.std.specs.Prelude.{◌≡◌, ◌+◌, ◌*◌, ◌<◌, ◌≤◌, [], length, replicate, true, None, IfOk, IfSome, MatchOption};
+ghost use Rattle.std.specs.Prelude.{◌≡◌, ◌+◌, ◌*◌, ◌^◌, ◌<◌, ◌≤◌, [], length, replicate, true, None, IfOk, IfSome, MatchOption};
 ghost use Rattle.std.specs.FinMap.{len, empty};
 ghost use Rattle.hd_model.specs.State.{Numbers, given_of, last_serial, total_size};
 ghost use Rattle.hd_model.specs.Heap.{has_object, object_at};
@@ -7,13 +7,15 @@ ghost use Rattle.hd_heap.specs.Calls.{empty_heap};
 ghost use Rattle.hd_model.specs.{Scene.IsField, declared.data.Addr.Addr};
 ghost use Rattle.hd_plan.specs.Plan.{HasNoEmptyRegion};
 ghost use Rattle.hd_seg.specs.Given.{HasNoneGiven, IsNextGiven};
-ghost use Rattle.hd_store.specs.{Inside.IsFirst, Store.IsOverHeap, Store.without_free};
+ghost use Rattle.hd_store.specs.{Inside.IsFirst, Store.IsOverHeap, Store.without_free, Visited.buckets_of};
 
 use hd_ages::AgeMap;
 use hd_cwt::Cwt;
 use hd_final::Final;
 use hd_heap::Heap;
-use hd_model::limits::{CLUMPS, HOST_BLOCKS, HOST_CONTEXTS, HOST_HEAP, OLDEST, REGISTERS};
+use hd_model::limits::{
+    BLOCKS, CALLERS, CLUMPS, HOST_BLOCKS, HOST_CONTEXTS, HOST_HEAP, OLDEST, REGISTERS,
+};
 use hd_model::{Addr, Memory, Slot, filled};
 use hd_seg::Seg;
 use std::alloc::Global;
@@ -82,16 +84,33 @@ fn open_objects(alloc: Global, limit: u32) -> Result<(Heap, Final), Memory>
 
 // The parts whose size goes by the blocks: the table, the ages of its clumps and the weak table.
 #[inline(always)]
-fn open_tables(alloc: Global, blocks: u32) -> Result<(Seg, AgeMap, Cwt), Memory>
+fn open_tables(alloc: Global, blocks: u32, callers: u32) -> Result<(Seg, AgeMap, Cwt), Memory>
     requires { blocks ≤ HOST_BLOCKS }
-    ensures { IfOk result (λ made. (made.0 ≡ empty_table blocks)
+    ensures { let buckets = buckets_of blocks callers in
+        IfOk result (λ made. (made.0 ≡ empty_table blocks)
         × (made.1 ≡ replicate (CLUMPS * blocks) OLDEST)
-        × (made.2 ≡ record { blocks = blocks; held = empty })) }
+        × (made.2 ≡ record { blocks = blocks; buckets = buckets; held = empty })) }
 {
     let ages = AgeMap::open(alloc, blocks)?;
     let table = Seg::open(alloc, blocks)?;
-    let weak = Cwt::open(alloc, blocks)?;
+    let weak = Cwt::open_with(alloc, blocks, buckets_for(blocks, callers))?;
     Ok((table, ages, weak))
+}
+
+/// The number of buckets of the weak table.
+pub(crate) fn buckets_for(blocks: u32, callers: u32) -> u32
+    requires { blocks ≤ HOST_BLOCKS }
+    ensures value { result ≡ buckets_of blocks callers }
+    ensures some { 0 < result }
+    ensures few { result < 2 ^ 31 }
+{
+    if blocks > BLOCKS {
+        16 * blocks - 1
+    } else if callers > CALLERS {
+        16 * BLOCKS - 1
+    } else {
+        16 * BLOCKS
+    }
 }
 
 // The parts whose size goes by the callers: what the object registers and statics reference, the
@@ -128,7 +147,7 @@ impl Contents {
     {
         let (roots, handle_registers, serials) = open_registers(alloc, callers)?;
         let (heap, queue) = open_objects(alloc, heap)?;
-        let (table, ages, weak) = open_tables(alloc, blocks)?;
+        let (table, ages, weak) = open_tables(alloc, blocks, callers)?;
         Ok(Contents {
             alloc,
             heap,

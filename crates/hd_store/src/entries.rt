@@ -6,7 +6,7 @@ ghost use Rattle.hd_model.specs.State.{with_weak, block_of, IsFree};
 ghost use Rattle.hd_model.specs.Command.{slot_of_key, idle_slot, value_at};
 ghost use Rattle.hd_store.specs.Reading.{name_in, named_in, IsNamed};
 ghost use Rattle.hd_store.specs.Inside.{entry_at, MayHaveEntry, HasNoEntry};
-ghost use Rattle.hd_store.specs.{Info.entry_seen, Visited.SearchSteps};
+ghost use Rattle.hd_store.specs.{Info.entry_seen, Visited.SearchSteps, Visited.buckets_of};
 
 use crate::contents::Contents;
 use crate::info::EntryInfo;
@@ -23,7 +23,8 @@ impl Contents {
         ensures value { result ≡ slot_of_key self.now.state (name_in self.now.names key) }
         ensures held { IfSome result (λ slot. IsSome (get self.now.state.weak slot.0)) }
         ensures steps { let id = name_in self.now.names key in
-            SearchSteps self.now.state id steps.old steps.new }
+            let n = self.now.numbers in
+            SearchSteps (buckets_of n.blocks n.callers) self.now.state id steps.old steps.new }
     {
         self.weak.find(self.id(key), steps)
     }

@@ -5,7 +5,7 @@ ghost use Rattle.hd_model.specs.{WellFormed.HasHandles, WellFormed.HasWeakTable,
 ghost use Rattle.hd_model.specs.State.{register_of};
 ghost use Rattle.hd_commands.specs.Done.{done_making, done_of, done_with, entry_by};
 ghost use Rattle.hd_store.specs.Inside.{HasNoEntry, HasRun, IsPlainStep};
-ghost use Rattle.hd_store.specs.{Reading.name_in, Replies.found_reply, Replies.removed_reply, Visited.TakesSteps, Offers.IsOffer, Offers.needs_slot};
+ghost use Rattle.hd_store.specs.{Reading.name_in, Replies.found_reply, Replies.removed_reply, Visited.TakesStepsIn, Offers.IsOffer, Offers.needs_slot};
 ghost use Rattle.std.specs.FinMap.{get};
 
 use crate::contents::Contents;
@@ -73,7 +73,8 @@ pub(crate) fn add_entry<L: Ledger>(
         let e = entry_by caller c (done_of (done_making result)) in
         HasRun store.old caller c offer e (IsPlainStep store.old c store.new e) }
     ensures steps { let e = entry_by caller (cmds.CAdd k v) (done_of (done_making result)) in
-        TakesSteps store.old.state store.old.ages e steps.old steps.new }
+        let m = store.old in
+        TakesStepsIn m.numbers m.state m.ages e steps.old steps.new }
 {
     let key = object_in(store, caller, k)?;
     if store.slot_of_key(key, steps).is_some() {
@@ -96,7 +97,8 @@ pub(crate) fn find_entry<L: Ledger>(
     ensures done { let c = cmds.CFind d k in
         IsPlainStep store.old c store.new (entry_by caller c (done_of (done_with found_reply result))) }
     ensures steps { let e = entry_by caller (cmds.CFind d k) (done_of (done_with found_reply result)) in
-        TakesSteps store.old.state store.old.ages e steps.old steps.new }
+        let m = store.old in
+        TakesStepsIn m.numbers m.state m.ages e steps.old steps.new }
 {
     let at = object_in(store, caller, k)?;
     match store.slot_of_key(at, steps) {
@@ -124,7 +126,8 @@ pub(crate) fn remove_entry<L: Ledger>(
     ensures done { let c = cmds.CRemove k in
         IsPlainStep store.old c store.new (entry_by caller c (done_of (done_with removed_reply result))) }
     ensures steps { let e = entry_by caller (cmds.CRemove k) (done_of (done_with removed_reply result)) in
-        TakesSteps store.old.state store.old.ages e steps.old steps.new }
+        let m = store.old in
+        TakesStepsIn m.numbers m.state m.ages e steps.old steps.new }
 {
     let at = object_in(store, caller, k)?;
     match store.slot_of_key(at, steps) {

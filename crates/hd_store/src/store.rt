@@ -5,7 +5,7 @@ ghost use Rattle.hd_model.specs.Handles.{handle_of};
 ghost use Rattle.hd_model.specs.State.{Handle as Held, Numbers, start_of, handle_at, register_of, handle_register_of, static_of, board_of, with_register};
 ghost use Rattle.hd_model.specs.{Valid.IsValid, Valid.takes_memory};
 ghost use Rattle.hd_model.specs.declared.data.{Id.Id};
-ghost use Rattle.hd_store.specs.{Visited.TakesSteps, Store.IsOverHeap};
+ghost use Rattle.hd_store.specs.{Visited.TakesStepsIn, Store.IsOverHeap};
 ghost use Rattle.hd_store.specs.Calls.{HasCalled, IsSound, StaysWithin, load_entry, pointed};
 ghost use Rattle.hd_store.specs.Offers.{IsOffer, needs_slot, FitsHeap};
 
@@ -80,7 +80,7 @@ impl Store {
         // A collection takes a step for each visit of a due clump, a search of the weak table one
         // for each entry that it looks at; no other command takes one.
         ensures steps { let s = self.old.state in let ages = self.old.ages in
-            IfOk result (λ e. TakesSteps s ages e steps.old steps.new) }
+            IfOk result (λ e. TakesStepsIn self.old.numbers s ages e steps.old steps.new) }
         ensures unstepped { OnErr result (steps.new ≡ steps.old) }
     {
         // Read for the proof alone: the state is one over the heap.

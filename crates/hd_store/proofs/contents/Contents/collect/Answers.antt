@@ -71,6 +71,7 @@ swept g c = record {
       c.in_ok-report.report c.args.steps.now c.collect.new.steps) c.deref_mut.ensures.value
       c.in_ok-report.ensures.collected;
   blocks = c.sweep_lost.ensures.blocks;
+  buckets = c.sweep_lost.ensures.buckets;
   each = c.sweep_lost.ensures.each;
 }
 

@@ -1,4 +1,4 @@
-use Rattle.hd_store.proofs.StoreWords.{SearchSteps, ap, name_in, parts, slot_of_key, subst, ◌∙◌}
+use Rattle.hd_store.proofs.StoreWords.{SearchSteps, ap, buckets_of, name_in, parts, slot_of_key, subst, ◌∙◌}
 use Rattle.hd_store.proofs.{EntrySearch.found-is, EntrySearch.search-steps, HeldRoom.found-held}
 use Rattle.hd_store.proofs.contents.Contents.slot_of_key.Goals as goal
 
@@ -15,8 +15,11 @@ returns-clause-held g c =
 
 pub returns-clause-steps : goal.returns-clause-steps
 returns-clause-steps g c =
-    subst (λ k. SearchSteps c.args.self.now.state k c.args.steps.now c.find.new.steps) c.id.ensures
-    (search-steps (parts c.self.inside) c.args.self.now c.self.view_is c.id.result c.args.steps.now
-    c.find.new.steps c.find.result (found-is (parts c.self.inside) c.args.self.now c.self.view_is
-    c.find.ensures.table c.id.result c.find.result c.find.ensures.found c.find.ensures.none)
+    let n = c.args.self.now.numbers in
+    subst
+    (λ k. SearchSteps (buckets_of n.blocks n.callers) c.args.self.now.state k c.args.steps.now
+    c.find.new.steps) c.id.ensures
+    (search-steps (parts c.self.inside) c.args.self.now c.self.view_is c.self.invariant c.id.result
+    c.args.steps.now c.find.new.steps c.find.result (found-is (parts c.self.inside) c.args.self.now
+    c.self.view_is c.find.ensures.table c.id.result c.find.result c.find.ensures.found c.find.ensures.none)
     c.find.ensures.steps)

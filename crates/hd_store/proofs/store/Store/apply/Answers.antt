@@ -1,4 +1,4 @@
-use Rattle.hd_store.proofs.StoreWords.{Err, IsOffer, Machine, Ok, OnErr, Result, TakesSteps, done_of, entry_by, subst, sym, ◌<◌, ◌∙◌, ◌≡◌}
+use Rattle.hd_store.proofs.StoreWords.{Err, IsOffer, Machine, Ok, OnErr, Result, TakesStepsIn, done_of, entry_by, subst, sym, ◌<◌, ◌∙◌, ◌≡◌}
 use Rattle.hd_store.specs.Calls.{HasCalled, IsSound, StaysWithin}
 use Rattle.hd_store.proofs.{SoundCalls.may-run, SoundCalls.sound-after, ValueCalls.kept-called}
 use Rattle.hd_store.proofs.store.Store.apply.Goals as goal
@@ -42,8 +42,9 @@ returns-clause-done g c =
 
 pub returns-clause-steps : goal.returns-clause-steps
 returns-clause-steps g c =
-    subst (λ (m : Machine). TakesSteps m.state m.ages c.entry_of.result c.args.steps.now
+    subst (λ (m : Machine). TakesStepsIn m.numbers m.state m.ages c.entry_of.result c.args.steps.now
     c.carry_out.new.steps)
     c.self.view_is
-    (subst (λ e. TakesSteps c.self.inside.contents.state c.self.inside.contents.ages e c.args.steps.now
+    (subst (λ e. TakesStepsIn c.self.inside.contents.numbers c.self.inside.contents.state
+    c.self.inside.contents.ages e c.args.steps.now
     c.carry_out.new.steps) (sym c.entry_of.ensures) c.in_ok-came.ensures.1)
