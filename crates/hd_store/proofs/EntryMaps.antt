@@ -1,5 +1,5 @@
 -- Maps by number that are made from the entries of another: with the same keys, and with new ones.
-use Rattle.hd_store.proofs.StoreWords.{Bool, Contains, FinMap, List, None, Some, T, [], ap, cases_eq, cond, entries, entries-from_sorted, entries_sorted, find, find-where_key, first_in, found_first, found_later, from_entries, from_sorted, get, get-entries, get-from_entries, get-from_sorted, get-retain_keys, get_entry, inl, inr, is_some, is_sorted-where_key, later_in, map, member_cases, nat_cmp, nat_cmp-IsAntisymmetric, nat_cmp_total, not_in_none, option_map, refl, retain_keys, same_Some, same_map, subst, sym, where_key, ℕ, ⊎_elim, ◌∙◌, ◌∷◌, ◌≡◌}
+use Rattle.hd_store.proofs.StoreWords.{Bool, Contains, FinMap, List, None, Some, T, [], ap, cases_eq, cond, entries, entries-from_sorted, entries_sorted, find, find-where_key, first_in, found_first, found_later, from_entries, from_sorted, get, get-entries, get-from_entries, get-from_sorted, get-retain_keys, get_entry, inl, inr, is_some, is_sorted-where_key, later_in, map, member_cases, nat_cmp, nat_cmp-IsAntisymmetric, nat_cmp_total, not_in_none, option_map, refl, retain_keys, same_Some, same_map, subst, sym, where_key, ℕ, ⊎_elim, ◌∙◌, ◌∷◌, ◌≡◌, arith, empty, len-empty, len-entries, length}
 use Rattle.std.specs.declared.cmp.Ordering.TheVariants.{Equal}
 use Rattle.hd_model.proofs.MapEntries.{entry_of}
 
@@ -135,3 +135,12 @@ module _ {X Y : Type 0} (key : X → ℕ) (f : ℕ → X → Y) (m : FinMap nat_
       let same : u.at ≡ a = apart u.at a u.value p u.is_stored is u.keyed in
       let value : u.value ≡ p = same_Some u.value p (sym u.is_stored ∙ ap (get m) same ∙ is) in
       it ∙ ap Some (u.is ∙ ap (λ j. f j u.value) same ∙ ap (f a) value)
+
+-- a map of nothing has no entry
+pub no_entries : {A : Type 0} → entries (empty {X = A} {R = nat_cmp}) ≡ []
+no_entries {A} = by (entries (empty {X = A} {R = nat_cmp}))
+    (sym (len-entries (empty {X = A} {R = nat_cmp})) ∙ len-empty nat_cmp A)
+  where
+    by : (es : List (ℕ × A)) → length es ≡ 0 → es ≡ []
+    by [] none = refl
+    by (e ∷ es) none = absurd (omega (arith, none))

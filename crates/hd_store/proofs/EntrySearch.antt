@@ -1,10 +1,10 @@
 -- What a search of the weak table of a store finds is what the machine finds in its state.
-use Rattle.hd_store.proofs.StoreWords.{Addr, Bool, FinMap, Handle, HasKey, Heap, Id, IfSome, IsIdle, IsLeastIdle, IsNamed, IsNone, IsSome, IsStored, IsTied, IsWeakTable, List, LooksAt, Machine, None, Option, Parts, Row, SearchSteps, Slot, Some, WeakEntry, [], ap, arith, bucket_of, cond, entries, entries_beside, entries_in, entry_named, entry_value, extra_of, false, filter, get, id_at, idle_found, idle_slot, is_idle, is_in_bucket, is_some, key_found, key_none, length, machine_of, map, named_in, nat_cmp, option_and_then, option_map, refl, same_Some, secondary_of, slot_of_key, subst, suc, sym, true, true≢false, value_at, weak_by_id, where_least, where_none, ℕ, ◌↔◌, ◌∙◌, ◌∷◌, ◌≡◌, buckets_of, state_of}
+use Rattle.hd_store.proofs.StoreWords.{Addr, Bool, FinMap, Handle, HasKey, Heap, Id, IfSome, IsIdle, IsLeastIdle, IsNamed, IsNone, IsSome, IsStored, IsTied, IsWeakTable, List, LooksAt, Machine, None, Option, Parts, Row, SearchSteps, Slot, Some, WeakEntry, [], ap, arith, bucket_of, cond, entries, entries_beside, entries_in, entry_named, entry_value, extra_of, false, filter, get, id_at, idle_found, idle_slot, is_idle, is_in_bucket, is_some, key_found, key_none, length, machine_of, map, named_in, nat_cmp, option_and_then, option_map, refl, same_Some, secondary_of, slot_of_key, subst, suc, sym, true, true≢false, value_at, weak_by_id, where_least, where_none, ℕ, ◌↔◌, ◌∙◌, ◌∷◌, ◌≡◌, buckets_of, state_of, callers_of, empty, get-empty, ⊎_elim}
 use Rattle.hd_model.specs.declared.handle.Extra.TheVariants.{Secondary}
 use Rattle.hd_seg.specs.Row.{row_of}
 use Rattle.hd_model.proofs.StepWrites.{same_slot}
 use Rattle.hd_store.proofs.IdentityReadings.{no_some, is_some-map, named-is}
-use Rattle.hd_store.proofs.{HeapCallReadings.objects_named, EntryReadings.weak-get, RootIdentities.entries-mapped}
+use Rattle.hd_store.proofs.{EntryMaps.no_entries, EntryMaps.same_numbers, HeapCallReadings.objects_named, EntryReadings.weak-get, RootIdentities.entries-mapped}
 
 module _ (f : Parts) (m : Machine) (view : machine_of f ≡ m) where
   pub weak-read : (slot : ℕ) → get m.state.weak slot ≡ option_map
@@ -184,6 +184,15 @@ entries_weak : (h : Heap) (rows : FinMap nat_cmp (Handle Addr)) (held : FinMap n
 unfolding weak_by_id
 entries_weak h rows held = entries-mapped (λ s. entry_named (id_at h) (get rows s)) held
 
+-- a table without a slot has no entry in any bucket
+no-entries : (held : FinMap nat_cmp (Option Id)) → ((slot : ℕ) → get held slot ≡ None) → (n k b c : ℕ)
+    → entries_in n held b ≡ entries_in k held c
+no-entries held none n k b c =
+    let nothing : held ≡ empty = same_numbers held empty (λ s. none s ∙ sym (get-empty nat_cmp s)) in
+    let no_list : entries held ≡ [] = ap entries nothing ∙ no_entries in
+    ap (λ (es : List (ℕ × Option Id)). length (filter (λ e. is_in_bucket n b e.1) es)) no_list
+    ∙ sym (ap (λ (es : List (ℕ × Option Id)). length (filter (λ e. is_in_bucket k c e.1) es)) no_list)
+
 -- the steps of a search, in the words of the machine
 pub search-steps : (f : Parts) (m : Machine) → machine_of f ≡ m → IsStored f → (key : Id) (before after : ℕ)
     → (r : Option Slot) → r ≡ slot_of_key m.state key
@@ -191,12 +200,19 @@ pub search-steps : (f : Parts) (m : Machine) → machine_of f ≡ m → IsStored
     → SearchSteps (buckets_of m.numbers.blocks m.numbers.callers) m.state key before after
 search-steps f m view stored key before after r is looks =
     let n : ℕ = f.weak.buckets in
+    let beside : (n : ℕ) → entries_in n f.weak.held (bucket_of n key) ≡ entries_beside n (state_of f) key =
+    λ n. as-many (id_at f.heap) f.table.rows n (bucket_of n key) (entries f.weak.held)
+    ∙ ap (λ es. length (filter (λ e. among (id_at f.heap) f.table.rows n (bucket_of n key) e) es))
+    (sym (entries_weak f.heap f.table.rows f.weak.held)) in
+    let number : ℕ = buckets_of f.table.blocks (callers_of f) in
+    let same : entries_in n f.weak.held (bucket_of n key)
+    ≡ entries_in number f.weak.held (bucket_of number key) =
+    ⊎_elim (λ wide. ap (λ b. entries_in b f.weak.held (bucket_of b key)) wide.buckets_are)
+    (λ unused. no-entries f.weak.held unused.1 n number (bucket_of n key) (bucket_of number key))
+    stored.weak_room in
     let many : entries_in n f.weak.held (bucket_of n key)
     ≡ entries_beside (buckets_of m.numbers.blocks m.numbers.callers) m.state key =
-    as-many (id_at f.heap) f.table.rows n (bucket_of n key) (entries f.weak.held)
-    ∙ ap (λ es. length (filter (λ e. among (id_at f.heap) f.table.rows n (bucket_of n key) e) es))
-    (sym (entries_weak f.heap f.table.rows f.weak.held))
-    ∙ ap (λ buckets. entries_beside buckets (state_of f) key) stored.weak_buckets
+    same ∙ beside number
     ∙ ap (λ (v : Machine). entries_beside (buckets_of v.numbers.blocks v.numbers.callers) v.state key) view in
     subst (λ found. LooksAt (slot_of_key m.state key) found before after) many
     (subst (λ o. LooksAt o (entries_in n f.weak.held (bucket_of n key)) before after) is looks)

@@ -1,6 +1,7 @@
 -- An entry of the weak table that is put, or taken: what the machine sees, and that the store keeps what it
 -- keeps.
-use Rattle.hd_store.proofs.StoreWords.{Addr, Dependent, FinMap, Handle, Id, IsSome, IsStored, Machine, MayHaveEntry, None, Option, Parts, Slot, Some, T, Table, WeakEntry, WeakTable, age_of, ap, arith, cond, entry_at, entry_named, get, get_beside, get_inserted, id_at, insert, is_none, is_object, is_some, live_at, machine_of, name_in, nat_cmp, object_at, option_map, refl, rows_by_id, same_Some, state_of, subst, sym, true, unheld, weak_by_id, with_row, with_weak, ℕ, ◌∙◌, ◌≡◌, insert_cases, IsTied}
+use Rattle.hd_store.proofs.StoreWords.{Addr, Dependent, FinMap, Handle, Id, IsSome, IsStored, Machine, MayHaveEntry, None, Option, Parts, Slot, Some, T, Table, WeakEntry, WeakTable, age_of, ap, arith, cond, entry_at, entry_named, get, get_beside, get_inserted, id_at, insert, is_none, is_object, is_some, live_at, machine_of, name_in, nat_cmp, object_at, option_map, refl, rows_by_id, same_Some, state_of, subst, sym, true, unheld, weak_by_id, with_row, with_weak, ℕ, ◌∙◌, ◌≡◌, insert_cases, IsTied, callers_of, inl}
+use Rattle.hd_store.specs.Inside.{IsWide}
 use Rattle.hd_store.proofs.{EntryMaps.same_numbers, IdentityReadings.no_some, IdentityReadings.names-are, EntrySweep.attaching, EntrySweep.row-known, EntrySearch.held-some}
 use Rattle.hd_store.proofs.EntryReadings.{none_kept, unheld-get, weak-get, tied-agrees}
 use Rattle.hd_store.proofs.StoreRows.{IsStorable, AreTied, storable-put, stored-entries, object, held-live}
@@ -35,7 +36,8 @@ HasPut f m slot e t w = IsStored (record f { table = t; weak = w })
 module _ (f : Parts) (m : Machine) (view : machine_of f ≡ m) (stored : IsStored f) (slot : Slot)
     (target value : Option Addr) (key : Option Id) (key_is : option_map (id_at f.heap) target ≡ key)
     (vacant : get (unheld f.table.rows f.weak.held) slot.0 ≡ None)
-    (may : IsStorable f slot.0 (attaching target value)) where
+    (may : IsStorable f slot.0 (attaching target value))
+    (wide : IsWide f.table.blocks (callers_of f) f.weak) where
   abbrev row : Handle Addr
   row = attaching target value
 
@@ -61,7 +63,8 @@ module _ (f : Parts) (m : Machine) (view : machine_of f ≡ m) (stored : IsStore
   stored-attached =
       stored-entries f (with_row f.table slot.0 row) f.ages
       (record f.weak { held = insert f.weak.held slot.0 key })
-      stored refl stored.uses refl (storable-put f slot.0 row stored may) refl refl tied
+      stored refl stored.uses refl (storable-put f slot.0 row stored may)
+      (inl (record { blocks_are = wide.blocks_are; buckets_are = wide.buckets_are })) tied
 
   weak_attached : weak_by_id f.heap (insert f.table.rows slot.0 row) (insert f.weak.held slot.0 key)
       ≡ insert (weak_by_id f.heap f.table.rows f.weak.held) slot.0 (entry_named (id_at f.heap) (Some row) key)
@@ -126,7 +129,8 @@ may-clear f slot = record {
   second_age = λ x e. absurd (no_some x (sym e));
 }
 
-module _ (f : Parts) (m : Machine) (view : machine_of f ≡ m) (stored : IsStored f) (slot : Slot) where
+module _ (f : Parts) (m : Machine) (view : machine_of f ≡ m) (stored : IsStored f) (slot : Slot)
+    (wide : IsWide f.table.blocks (callers_of f) f.weak) where
   -- an entry of a key is put into a vacant slot
   pub put-entry : (key : Addr) (value : Option Addr) (id : Id) → MayHaveEntry m slot key value
       → id ≡ name_in m.names key → get (unheld f.table.rows f.weak.held) slot.0 ≡ None
@@ -141,7 +145,7 @@ module _ (f : Parts) (m : Machine) (view : machine_of f ≡ m) (stored : IsStore
       (may-attach f slot.0 (Some key) value (ap (λ (n : Machine). age_of n.ages slot.0) view ∙ may.young)
       (λ x e. object f m view stored (Some key) x may.known e)
       (λ x e. object f m view stored value x may.named e) (λ e. absurd (no_some key e)))
-      t w (Some (entry_at m.names key value)) table weak
+      wide t w (Some (entry_at m.names key value)) table weak
       (ap (λ x. Some (record { key = x; value = option_map (id_at f.heap) value })) (sym same)
       ∙ ap (λ g. Some (record { key = g key; value = option_map g value })) (sym named))
 
@@ -150,8 +154,10 @@ module _ (f : Parts) (m : Machine) (view : machine_of f ≡ m) (stored : IsStore
       → (t : Table) (w : WeakTable) → t ≡ with_row f.table slot.0 (attaching None None)
       → w ≡ record f.weak { held = insert f.weak.held slot.0 None } → HasPut f m slot None t w
   end-entry vacant t w table weak =
-      attached f m view stored slot None None None refl vacant (may-clear f slot.0) t w None table weak refl
+      attached f m view stored slot None None None refl vacant (may-clear f slot.0) wide t w None table weak
+      refl
 
+module _ (f : Parts) (m : Machine) (view : machine_of f ≡ m) (stored : IsStored f) (slot : Slot) where
   module _ (e : Option (WeakEntry Id)) (is : get m.state.weak slot.0 ≡ Some e) where
     held : IsSome (get f.weak.held slot.0)
     held = held-some f m view stored slot.0 (ap is_some is)

@@ -105,7 +105,7 @@ module _ (f : Parts) (stored : IsStored f) (table : IsTable f.table) where
       )
 
   pub room-held : (slot : ℕ) → get f.weak.held slot ≡ None → IsDependent slot
-      → len f.weak.held < ROWS * (f.weak.blocks / 2)
+      → len f.weak.held < ROWS * (f.table.blocks / 2)
   room-held slot free here =
       let more = insert f.weak.held slot None in
       let all = few_slots more (λ s. insert_cases f.weak.held slot (λ k o. IsSome o → IsDependent k) None s
@@ -113,7 +113,7 @@ module _ (f : Parts) (stored : IsStored f) (table : IsTable f.table) where
       let one : len more ≡ len f.weak.held + 1 =
       len-insert nat_cmp_total f.weak.held slot None
       ∙ ap (λ o. cond (is_some o) (len f.weak.held) (len f.weak.held + 1)) free in
-      omega (arith, all, one, stored.weak_blocks)
+      omega (arith, all, one)
 
   -- an idle slot is in a block of the table
   pub idle-within : (m : Machine) → machine_of f ≡ m → (o : Option Slot) → o ≡ idle_slot m.state

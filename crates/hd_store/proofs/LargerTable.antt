@@ -1,8 +1,8 @@
 -- A table of more blocks, and a weak table that has its blocks and buckets.
-use Rattle.hd_store.proofs.StoreWords.{Addr, Err, Handle, IsStored, IsTable, IsWellFormed, List, Machine, MatchResult, Ok, Parts, Result, Some, WeakTable, age_of, ap, arith, buckets_of, callers_of, clump_of, get, is_some, length, length-append, length-replicate, max, refl, replicate, subst, sym, take, ℕ, ◌*◌, ◌++◌, ◌-◌, ◌/◌, ◌<◌, ◌∙◌, ◌≡◌, ◌≤◌, Table, machine_of}
+use Rattle.hd_store.proofs.StoreWords.{Addr, Err, Handle, IsStored, IsTable, IsWellFormed, List, Machine, MatchResult, Ok, Parts, Result, Some, WeakTable, age_of, ap, arith, callers_of, clump_of, get, is_some, length, length-append, length-replicate, max, replicate, subst, sym, take, ℕ, ◌*◌, ◌++◌, ◌-◌, ◌/◌, ◌<◌, ◌∙◌, ◌≡◌, ◌≤◌, Table, FinMap, Id, Option, nat_cmp}
 use Rattle.std.proofs.lemmas.List.{get_or_append_left, take-append-le, take_all}
 use Rattle.hd_model.specs.declared.limits.TheConstants.{CLUMPS, HOST_BLOCKS, OLDEST, ROWS}
-use Rattle.hd_store.specs.{Calls.IsSound, Growth.with_blocks}
+use Rattle.hd_store.specs.{Calls.IsSound, Growth.with_blocks, Inside.HasWeakRoom}
 
 module _ {f : Parts} (stored : IsStored f) (most : ℕ) where
   -- the ages that come go again
@@ -26,16 +26,8 @@ module _ {f : Parts} (stored : IsStored f) (most : ℕ) where
         let number : max f.table.blocks most ≡ most = omega (arith, up) in
         same ∙ ap (λ n. record f.table { blocks = n }) number
 
-  pub weak_is : {m : Machine} {w : WeakTable} {buckets callers : ℕ} → machine_of f ≡ m
-      → w ≡ record f.weak { blocks = most; buckets = buckets } → buckets ≡ buckets_of most callers
-      → callers ≡ m.numbers.callers
-      → w ≡ record f.weak { blocks = most; buckets = buckets_of most (callers_of f) }
-  weak_is view same number callers =
-      same
-      ∙ ap (λ n. record f.weak { blocks = most; buckets = n })
-      (number ∙ ap (buckets_of most) (callers ∙ ap (λ (n : Machine). n.numbers.callers) (sym view)))
-
-  module _ (up : f.table.blocks ≤ most) (few : most ≤ HOST_BLOCKS) where
+  module _ (up : f.table.blocks ≤ most) (few : most ≤ HOST_BLOCKS) (w : WeakTable)
+      (same : w.held ≡ f.weak.held) (weak_room : HasWeakRoom most (callers_of f) w) where
     abbrev came : List ℕ
     came = replicate (CLUMPS * most - length f.ages) OLDEST
 
@@ -43,7 +35,7 @@ module _ {f : Parts} (stored : IsStored f) (most : ℕ) where
     larger = record f {
       table = record f.table { blocks = most };
       ages = f.ages ++ came;
-      weak = record f.weak { blocks = most; buckets = buckets_of most (callers_of f) };
+      weak = w;
     }
 
     -- the age of a row
@@ -89,9 +81,9 @@ module _ {f : Parts} (stored : IsStored f) (most : ℕ) where
         within = λ block is. let was = stored.uses.within block is in (was.0, omega (arith, was.1, up));
         extras = stored.uses.extras;
       };
-      tied = stored.tied;
-      weak_blocks = refl;
-      weak_buckets = refl;
+      tied = λ slot key is. stored.tied slot key
+          (ap (λ (held : FinMap nat_cmp (Option Id)). get held slot) (sym same) ∙ is);
+      weak_room = weak_room;
     }
 
 -- ---- a store

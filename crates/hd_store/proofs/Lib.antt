@@ -29,6 +29,7 @@ mod AddressSteps
 pub mod StateHeap
 pub mod RootIdentities
 mod EntrySearch
+mod WeakRoom
 mod HeldRoom
 pub mod SoundCalls
 pub mod OfferAddresses

@@ -38,8 +38,7 @@ stored-named f roots q stored long named queue room = record {
   uses = stored.uses;
   tied = λ slot key is. tied-agrees f (record f { roots = roots; queue = q }) slot key
       (stored.tied slot key is) refl (λ x e. refl);
-  weak_blocks = stored.weak_blocks;
-  weak_buckets = stored.weak_buckets;
+  weak_room = stored.weak_room;
 }
 
 module _ (f : Parts) (m : Machine) (view : machine_of f ≡ m) (stored : IsStored f) where

@@ -1,5 +1,6 @@
 -- Blocks that are given back with their data blocks, and slots that the weak table holds no more.
-use Rattle.hd_store.proofs.StoreWords.{Addr, BlockUse, Dependent, FinMap, Handle, Id, IsSome, IsStored, IsTied, IsWellFormed, Kind, Machine, None, Numbers, Option, Parts, Slot, Some, State, Table, WeakEntry, WeakTable, ap, arith, cases_eq, cond, empty, entry_named, eq-eqb, extra_data, false, get, get-retain_keys, get_left, get_removed, handle_at, handles_of, id_at, inl, inr, is_none, is_some, kind_in_use, kind_number, live_at, machine_of, nat_cmp, nat_cmp-IsAntisymmetric, ne_eqb, not, option_map, refl, remove, remove_cases, rename_handle, rows_by_id, same_Some, state_of, subst, sym, true≢false, unheld, use_of, weak_by_id, with_pinned, without_row, some_value, ℕ, ◌*◌, ◌+◌, ◌/◌, ◌<◌, ◌∙◌, ◌≡◌, ◌≢◌, ◌≤◌, ◌⊎◌}
+use Rattle.hd_store.proofs.StoreWords.{Addr, BlockUse, Dependent, FinMap, Handle, Id, IsSome, IsStored, IsTied, IsWellFormed, Kind, Machine, None, Numbers, Option, Parts, Slot, Some, State, Table, WeakEntry, WeakTable, ap, arith, cases_eq, cond, empty, entry_named, eq-eqb, extra_data, false, get, get-retain_keys, get_left, get_removed, handle_at, handles_of, id_at, inl, inr, is_none, is_some, kind_in_use, kind_number, live_at, machine_of, nat_cmp, nat_cmp-IsAntisymmetric, ne_eqb, not, option_map, refl, remove, remove_cases, rename_handle, rows_by_id, same_Some, state_of, subst, sym, true≢false, unheld, use_of, weak_by_id, with_pinned, without_row, some_value, ℕ, ◌*◌, ◌+◌, ◌/◌, ◌<◌, ◌∙◌, ◌≡◌, ◌≢◌, ◌≤◌, ◌⊎◌, callers_of}
+use Rattle.hd_store.specs.Inside.{IsWide}
 use Rattle.std.proofs.Common.{◌==◌}
 use Rattle.std.proofs.lemmas.Bool.{cases_lt}
 use Rattle.hd_model.proofs.{KindTests.same_number, WellFormedWrites.without_use_keeps}
@@ -50,6 +51,7 @@ module _ (f : Parts) (m : Machine) (view : machine_of f ≡ m) (slot : ℕ) wher
       ∙ ap (option_map (entry_named (id_at f.heap) (get f.table.rows slot))) none)))
 
 module _ (f : Parts) (m : Machine) (view : machine_of f ≡ m) (stored : IsStored f) (slot : ℕ)
+    (wide : IsWide f.table.blocks (callers_of f) f.weak)
     (vacant : get (unheld f.table.rows f.weak.held) slot ≡ None) where
   abbrev pub released : Parts
   released = record f {
@@ -69,7 +71,8 @@ module _ (f : Parts) (m : Machine) (view : machine_of f ≡ m) (stored : IsStore
       stored-entries f (without_row f.table slot) f.ages
       (record f.weak { held = remove f.weak.held slot }) stored refl stored.uses refl
       (λ s r. remove_cases f.table.rows slot (λ j o. o ≡ Some r → IsStorable f j r) s
-      (λ none. absurd (no_some r (sym none))) (λ apart is. storable f stored s r is)) refl refl tied_left
+      (λ none. absurd (no_some r (sym none))) (λ apart is. storable f stored s r is))
+      (inl (record { blocks_are = wide.blocks_are; buckets_are = wide.buckets_are })) tied_left
 
   handles_left : unheld (remove f.table.rows slot) (remove f.weak.held slot)
       ≡ unheld f.table.rows f.weak.held

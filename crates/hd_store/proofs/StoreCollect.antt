@@ -1,5 +1,6 @@
 -- A collection of a store's parts is one of its state, and leaves a store.
-use Rattle.hd_store.proofs.StoreWords.{Addr, AreAddresses, BlockUse, Bool, Collected, Collects, CollectsState, FinMap, Handle, HasCollected, Heap, Id, IsCompactStore, IsPinned, IsSome, IsStored, IsTied, List, Machine, None, Option, Parts, Placed, Report, Scene, Some, Table, WeakTable, [], ap, arith, callers_of, cleared, cond, counts_named, drop, entry_named, false, get, get-retain_keys, has_object, id_at, id_in, is_none, is_pinned, is_some, kept_key, kept_pinned, length, live_at, not, length-map, machine_of, map, names_of, nat_cmp, nat_cmp-IsAntisymmetric, objects_by_id, one_extra, one_paired, option_map, pinned_decides, pins, pins_renamed, refl, rename_handle, rest_of, row_at, rows_by_id, rows_of, same_Some, scene_of, state_of, subst, sum_by, swept, sym, take, true, true≢false, values, weak_by_id, with_pinned, ℕ, ◌++◌, ◌∙◌, ◌∷◌, ◌≡◌, buckets_of}
+use Rattle.hd_store.proofs.StoreWords.{Addr, AreAddresses, BlockUse, Bool, Collected, Collects, CollectsState, FinMap, Handle, HasCollected, Heap, Id, IsCompactStore, IsPinned, IsSome, IsStored, IsTied, List, Machine, None, Option, Parts, Placed, Report, Scene, Some, Table, WeakTable, [], ap, arith, callers_of, cleared, cond, counts_named, drop, entry_named, false, get, get-retain_keys, has_object, id_at, id_in, is_none, is_pinned, is_some, kept_key, kept_pinned, length, live_at, not, length-map, machine_of, map, names_of, nat_cmp, nat_cmp-IsAntisymmetric, objects_by_id, one_extra, one_paired, option_map, pinned_decides, pins, pins_renamed, refl, rename_handle, rest_of, row_at, rows_by_id, rows_of, same_Some, scene_of, state_of, subst, sum_by, swept, sym, take, true, true≢false, values, weak_by_id, with_pinned, ℕ, ◌++◌, ◌∙◌, ◌∷◌, ◌≡◌, inl, inr, ⊎_elim}
+use Rattle.hd_store.specs.Inside.{HasWeakRoom}
 use Rattle.hd_model.specs.Compact.{IsCompact}
 use Rattle.hd_gc.specs.Ready.{parts, Parts as Lent}
 use Rattle.hd_store.proofs.EntryReadings.{handles-get, handle-get, handle-row, weak-get, tied-agrees}
@@ -275,9 +276,14 @@ module _ {f : Parts} {l : Lent} {w : WeakTable} {n : ℕ} {report : Report} {bef
           (sym s.done.table.uses) s.stored.uses.extras;
     };
     tied = left_tied;
-    weak_blocks = omega (arith, s.blocks, s.stored.weak_blocks, s.done.table.blocks);
-    weak_buckets = s.buckets ∙ s.stored.weak_buckets
-        ∙ ap (λ n. buckets_of n (callers_of f)) (sym s.done.table.blocks);
+    weak_room = subst (λ n. HasWeakRoom n (callers_of f) w) (sym s.done.table.blocks)
+        (⊎_elim (λ wide. inl (record {
+          blocks_are = s.blocks ∙ wide.blocks_are;
+          buckets_are = s.buckets ∙ wide.buckets_are;
+        })) (λ unused. inr (
+          unused.0,
+          λ slot. s.each slot ∙ ap (option_map (kept_key l.table slot)) (unused.1 slot),
+        )) s.stored.weak_room);
   }
 
   handles_left : (slot : ℕ) → get (state_of (left_parts f l w)).handles slot
@@ -413,8 +419,7 @@ module _ (f : Parts) (free : List ℕ) where
     uses = stored.uses;
     tied = λ slot key is. tied-agrees f (record f { heap = record f.heap { free = free } }) slot key
         (stored.tied slot key is) refl (λ x e. refl);
-    weak_blocks = stored.weak_blocks;
-    weak_buckets = stored.weak_buckets;
+    weak_room = stored.weak_room;
   }
 
   machine-free : machine_of (record f { heap = record f.heap { free = free } }) ≡ machine_of f

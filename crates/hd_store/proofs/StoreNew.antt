@@ -192,8 +192,7 @@ module _ (f : Parts) (k : Heap) (at : Addr) (id : Id) (count : ℕ) (fin : Bool)
         tied-agrees f (made_parts serials q) slot key t refl (λ x e.
         id-add f.heap k at.0 (new_object id count fin) adds x
         (placed f.heap x (stored.whole.targets slot _ x t.row e)));
-    weak_blocks = stored.weak_blocks;
-    weak_buckets = stored.weak_buckets;
+    weak_room = stored.weak_room;
   }
 
   read_new : read_object k at.0 (new_object id count fin) ≡ fresh_object count fin

@@ -1,30 +1,22 @@
 -- A store at first: nothing is made, and each register, static and entry of the board is null or empty.
-use Rattle.hd_store.proofs.StoreWords.{Addr, Contains, Handle, Id, IsSome, IsStored, List, None, Object, Option, Parts, Placed, Region, Some, T, [], ap, arith, callers_of, cells_of, empty, empty_heap, empty_table, entries, entry_named, fields_in, from_entries, get, get-empty, id_at, is_in_use, is_none, is_some, len-empty, len-entries, length, length-replicate, machine_of, map, names_of, nat_cmp, not_in_none, numbers_of, object_at, object_in, objects_by_id, one_extra, one_paired, option_map, read_object, refl, region_generation, region_of, rename_handle, replicate, rest_of, rows_by_id, rows_of, start_of, state_of, subst, sum_by, sym, true, unheld, values, weak_by_id, ℕ, ◌*◌, ◌+◌, ◌∙◌, ◌∷◌, ◌≡◌, ◌≤◌, buckets_of}
-use Rattle.hd_store.proofs.{EntryMaps.same_numbers, EntryReadings.none_kept, EntryReadings.unheld-get, IdentityReadings.no_some, StoreNew.no_names, StoreNew.nothing_mapped, RegisterRoots.rows-first, RegisterRoots.rest-first}
-use Rattle.hd_store.specs.Inside.{IsFirst}
+use Rattle.hd_store.proofs.StoreWords.{Addr, Contains, Handle, Id, IsSome, IsStored, List, None, Object, Option, Parts, Placed, Region, Some, T, [], ap, arith, callers_of, cells_of, empty, empty_heap, empty_table, entry_named, fields_in, from_entries, get, get-empty, id_at, is_in_use, is_none, is_some, len-empty, length-replicate, machine_of, map, names_of, nat_cmp, not_in_none, numbers_of, object_at, object_in, objects_by_id, one_extra, one_paired, option_map, read_object, refl, region_generation, region_of, rename_handle, replicate, rest_of, rows_by_id, rows_of, start_of, state_of, subst, sum_by, sym, true, unheld, values, weak_by_id, ℕ, ◌*◌, ◌+◌, ◌∙◌, ◌≡◌, ◌≤◌}
+use Rattle.hd_store.proofs.{EntryMaps.no_entries, EntryMaps.same_numbers, EntryReadings.none_kept, EntryReadings.unheld-get, IdentityReadings.no_some, StoreNew.no_names, StoreNew.nothing_mapped, RegisterRoots.rows-first, RegisterRoots.rest-first}
+use Rattle.hd_store.specs.Inside.{HasWeakRoom, IsFirst}
 use Rattle.hd_model.specs.declared.limits.TheConstants.{HOST_BLOCKS, HOST_HEAP, REGISTERS}
 
 nothing_at : {A : Type 0} (q : ℕ) (x : A) → get (empty {X = A} {R = nat_cmp}) q ≡ Some x → ⊥
 nothing_at q x e = no_some x (sym e ∙ get-empty nat_cmp q)
 
-no_entries : {A : Type 0} → entries (empty {X = A} {R = nat_cmp}) ≡ []
-no_entries {A} = by (entries (empty {X = A} {R = nat_cmp}))
-    (sym (len-entries (empty {X = A} {R = nat_cmp})) ∙ len-empty nat_cmp A)
-  where
-    by : (es : List (ℕ × A)) → length es ≡ 0 → es ≡ []
-    by [] none = refl
-    by (e ∷ es) none = absurd (omega (arith, none))
-
 no_sum : {A : Type 0} (f : A → ℕ) → sum_by f (values (empty {X = A} {R = nat_cmp})) ≡ 0
 no_sum {A} f = ap (λ (es : List (ℕ × A)). sum_by f (map (λ e. e.1) es)) no_entries
 
-module _ (limit blocks callers : ℕ) where
+module _ (limit blocks callers room many : ℕ) where
   abbrev pub opened : Parts
   opened = record {
     heap = empty_heap limit;
     table = empty_table blocks;
     ages = replicate (4 * blocks) 2;
-    weak = record { blocks = blocks; buckets = buckets_of blocks callers; held = empty };
+    weak = record { blocks = room; buckets = many; held = empty };
     queue = record { queued = []; room = 0 };
     roots = replicate (REGISTERS * callers + REGISTERS) None;
     handle_registers = replicate callers (replicate REGISTERS None);
@@ -45,7 +37,7 @@ module _ (limit blocks callers : ℕ) where
   -- parts are those of an opened store where each is as it was made
   pub are_opened : (f : Parts) → f.heap ≡ empty_heap limit → f.table ≡ empty_table blocks
       → f.ages ≡ replicate (4 * blocks) 2
-      → f.weak ≡ record { blocks = blocks; buckets = buckets_of blocks callers; held = empty }
+      → f.weak ≡ record { blocks = room; buckets = many; held = empty }
       → f.queue ≡ record { queued = []; room = 0 } → f.roots ≡ replicate (REGISTERS * callers + REGISTERS)
       None
       → f.handle_registers ≡ replicate callers (replicate REGISTERS None)
@@ -62,8 +54,9 @@ module _ (limit blocks callers : ℕ) where
     serials = sym serials i;
   }
 
-  pub stored-opened : limit ≤ HOST_HEAP → blocks ≤ HOST_BLOCKS → IsStored opened
-  stored-opened small few = record {
+  pub stored-opened : limit ≤ HOST_HEAP → blocks ≤ HOST_BLOCKS
+      → HasWeakRoom blocks callers (record { blocks = room; buckets = many; held = empty }) → IsStored opened
+  stored-opened small few weak_room = record {
     whole = record {
       fields = λ x y field. absurd (no_field x y field);
       named = λ x named. absurd (no_names (REGISTERS * callers + REGISTERS) x named);
@@ -93,8 +86,8 @@ module _ (limit blocks callers : ℕ) where
       extras = omega (arith, no_sum one_paired, no_sum one_extra);
     };
     tied = λ slot key is. absurd (nothing_at slot key is);
-    weak_blocks = refl;
-    weak_buckets = ap (buckets_of blocks) (sym (length-replicate callers (replicate REGISTERS None)));
+    weak_room = subst (λ n. HasWeakRoom blocks n (record { blocks = room; buckets = many; held = empty }))
+        (sym (length-replicate callers (replicate REGISTERS None))) weak_room;
   }
 
   names-opened : names_of (empty_heap limit) ≡ empty

@@ -1,5 +1,6 @@
 -- Rows of a store that change: what the machine sees, and that the store keeps what it keeps.
-use Rattle.hd_store.proofs.StoreWords.{Addr, Back, BlockUse, Bool, Err, Extra, FinMap, Grown, Handle, HasUses, Heap, Id, IfOk, IfSome, IsGrowth, IsNamed, IsSome, IsStored, IsTied, Kind, List, Machine, MayBeStored, None, Ok, OnErr, One, Option, Parts, Result, Slot, Some, T, Table, Two, WeakTable, Zero, age_of, ap, arith, attaches, block_of, blocks_needed, clump_of, cond, count, entry_named, extra_data, false, fits, generation_at, get, get_beside, get_inserted, get_left, grown_by, handle_at, handles_of, id_at, insert, is_none, is_object, is_paired, is_single, is_some, kind_at, kind_in, kind_in_use, length, length-set, live_at, lowered, lowered_below, machine_of, nat_cmp, not, nothing, object_at, object_named, one_extra, one_paired, option_map, refl, remove, rename_handle, role, role_of, rows_by_id, same_Some, secondary, secondary_of, share, state_of, strength, subst, sum-insert, sum-remove, sum_by, sym, true, true≢false, unheld, unwrap_or, use_of, values, with_growth, with_handle, with_row, without_block, without_handle, without_row, ℕ, ◌*◌, ◌+◌, ◌/◌, ◌∙◌, ◌≡◌, ◌≢◌, ◌≤◌, name_in, seen_by, insert_cases, remove_cases, put_twice, get_removed, buckets_of, callers_of}
+use Rattle.hd_store.proofs.StoreWords.{Addr, Back, BlockUse, Bool, Err, Extra, FinMap, Grown, Handle, HasUses, Heap, Id, IfOk, IfSome, IsGrowth, IsNamed, IsSome, IsStored, IsTied, Kind, List, Machine, MayBeStored, None, Ok, OnErr, One, Option, Parts, Result, Slot, Some, T, Table, Two, WeakTable, Zero, age_of, ap, arith, attaches, block_of, blocks_needed, clump_of, cond, count, entry_named, extra_data, false, fits, generation_at, get, get_beside, get_inserted, get_left, grown_by, handle_at, handles_of, id_at, insert, is_none, is_object, is_paired, is_single, is_some, kind_at, kind_in, kind_in_use, length, length-set, live_at, lowered, lowered_below, machine_of, nat_cmp, not, nothing, object_at, object_named, one_extra, one_paired, option_map, refl, remove, rename_handle, role, role_of, rows_by_id, same_Some, secondary, secondary_of, share, state_of, strength, subst, sum-insert, sum-remove, sum_by, sym, true, true≢false, unheld, unwrap_or, use_of, values, with_growth, with_handle, with_row, without_block, without_handle, without_row, ℕ, ◌*◌, ◌+◌, ◌/◌, ◌∙◌, ◌≡◌, ◌≢◌, ◌≤◌, name_in, seen_by, insert_cases, remove_cases, put_twice, get_removed, callers_of}
+use Rattle.hd_store.specs.Inside.{HasWeakRoom}
 use Rattle.hd_seg.specs.declared.row.Full.{Full}
 use Rattle.hd_model.proofs.{KindExtras.fits_dependent, MapEntries.none_from as no_use}
 use Rattle.hd_seg.specs.Pairs.{without_data}
@@ -56,10 +57,10 @@ pub stored-entries : (f : Parts) (t : Table) (ages : List ℕ) (w : WeakTable) �
     → t.blocks ≡ f.table.blocks → HasUses t.uses t.blocks → length f.ages ≡ length ages
     → ((slot : ℕ) (row : Handle Addr) → get t.rows slot ≡ Some row → IsStorable
     (record f { ages = ages }) slot row)
-    → w.blocks ≡ f.weak.blocks → w.buckets ≡ f.weak.buckets
+    → HasWeakRoom f.table.blocks (callers_of f) w
     → AreTied (record f { table = t; ages = ages; weak = w })
     → IsStored (record f { table = t; ages = ages; weak = w })
-stored-entries f t ages w stored blocks uses long each same many tied = record {
+stored-entries f t ages w stored blocks uses long each weak_room tied = record {
   whole = record {
     fields = stored.whole.fields;
     named = stored.whole.named;
@@ -85,8 +86,7 @@ stored-entries f t ages w stored blocks uses long each same many tied = record {
   blocks = omega (arith, blocks, stored.blocks);
   uses = uses;
   tied = tied;
-  weak_blocks = omega (arith, same, stored.weak_blocks, blocks);
-  weak_buckets = many ∙ stored.weak_buckets ∙ ap (λ n. buckets_of n (callers_of f)) (sym blocks);
+  weak_room = subst (λ n. HasWeakRoom n (callers_of f) w) (sym blocks) weak_room;
 }
 
 -- the rows in the slots that the weak table holds are as they were
@@ -100,7 +100,7 @@ pub stored-rows : (f : Parts) (t : Table) (ages : List ℕ) → IsStored f → t
     (record f { ages = ages }) slot row)
     → KeepsHeld f t → IsStored (record f { table = t; ages = ages })
 stored-rows f t ages stored blocks uses long each keeps =
-    stored-entries f t ages f.weak stored blocks uses long each refl refl
+    stored-entries f t ages f.weak stored blocks uses long each stored.weak_room
     (λ slot key is. tied-agrees f (record f { table = t; ages = ages }) slot key (stored.tied slot key is)
     (keeps slot key is) (λ x e. refl))
 

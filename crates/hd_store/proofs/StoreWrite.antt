@@ -155,8 +155,7 @@ module _ (f : Parts) (k : Heap) (at : Addr) (old new : Placed) (w : Writes f.hea
         uses = stored.uses;
         tied = λ slot key is. tied-agrees f (with_heap f k) slot key (stored.tied slot key is) refl
             (λ x e. ap (λ g. g x) (ids-replace h k at.0 old new w.replaces));
-        weak_blocks = stored.weak_blocks;
-        weak_buckets = stored.weak_buckets;
+        weak_room = stored.weak_room;
       }
 
   -- the machine sees another object with that identity, and nothing else

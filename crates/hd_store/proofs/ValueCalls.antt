@@ -52,6 +52,12 @@ module _ {m k : Machine} {caller : ℕ} {c : Cmd} {offer : Option Slot} {e : Ent
   pub stays-sound : IsSound k
   stays-sound = sound-after m k e sound (plain-kept m k caller c offer may e ran).effect
 
+-- a store is sound, whether a call was done or changed nothing
+pub came-sound : {T E : Type 0} {k : Machine} (r : Result T E) {P : T → Type 0} {Q : Type 0}
+    → MatchResult r P (λ _. Q) → ((came : T) → P came → IsSound k) → (Q → IsSound k) → IsSound k
+came-sound (Ok came) is done out = done came is
+came-sound (Err why) is done out = out is
+
 -- what is done without an offer, by a command that asks for no room
 pub unoffered : {T : Type 0} {m : Machine} {caller : ℕ} {c : Cmd} (d : Done)
     → asks_of m.state caller c ≡ no_room → T

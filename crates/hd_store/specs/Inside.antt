@@ -1,12 +1,12 @@
 -- What private clauses alone cite.
-use Rattle.std.specs.Prelude.{List, ◌++◌, flat_map, map, replicate, Option, ◌≡◌, ℕ, ◌+◌, ◌*◌, ◌≤◌, length, sum_by, cond, Some, option_map, IsSome, ◌↔◌, Bool, true, false, ◌<◌, ◌^◌, None, ◌≢◌, IfSome}
+use Rattle.std.specs.Prelude.{List, ◌++◌, flat_map, map, replicate, Option, ◌≡◌, ℕ, ◌+◌, ◌*◌, ◌≤◌, length, sum_by, cond, Some, option_map, IsSome, ◌↔◌, Bool, true, false, ◌<◌, ◌^◌, None, ◌≢◌, IfSome, ◌⊎◌}
 use Rattle.std.specs.{Option.option_to_list, Option.ForSome, Ordering.nat_cmp}
 use Rattle.std.specs.FinMap.{FinMap, empty, get, len, values, insert, retain_keys}
 use Rattle.hd_model.specs.{declared.data.Addr.Addr, declared.data.Id.Id, declared.data.Kind.TheVariants.Dependent, Scene.Scene, Scene.IsWhole, Table.row_at, Table.fits, declared.data.Report.Report, Collect.CollectsState, declared.data.Slot.Slot, declared.data.Entry.Entry, declared.command.Cmd.Cmd, Touched.touched_by, Aging.aged_by, Valid.IsValid, Command.slot_of_key, Command.made_handle, declared.data.Kind.Kind, declared.data.Grown.Grown, declared.data.RootId.RootId, declared.data.Make.Make}
 use Rattle.hd_scan.specs.declared.gathering.Root.{Root}
 use Rattle.hd_model.specs.Kinds.{is_paired, kind_of}
 use Rattle.hd_model.specs.Ages.{HasSoundAges, HasSoundCards, grown, age_of}
-use Rattle.hd_model.specs.declared.limits.TheConstants.{HOST_HEAP, HOST_BLOCKS, CLUMPS, OLDEST, REGISTERS}
+use Rattle.hd_model.specs.declared.limits.TheConstants.{BLOCKS, HOST_HEAP, HOST_BLOCKS, CLUMPS, OLDEST, REGISTERS}
 use Rattle.hd_model.specs.State.{Handle, secondary, BlockUse, handles_of, extra_data, State, last_serial, identity_of, register_of, WeakEntry, Numbers, start_of, given_of, block_of, secondary_of, IsFree, total_size}
 use Rattle.hd_model.specs.Table.{Queue}
 use Rattle.hd_model.specs.Heap.{Heap, object_at, id_at, is_carded, used_of, HasIdentities, is_set}
@@ -21,6 +21,7 @@ use Rattle.hd_heap.specs.{declared.fault.NewFault.NewFault, declared.fault.NewFa
 use Rattle.hd_store.specs.{Stored.Parts, Stored.callers_of, Store.Machine, Store.seen_by, StateHeap.IsCompactStore, PinnedAddresses.AreAddresses}
 use Rattle.hd_store.specs.Reading.{name_in, named_in, IsNamed}
 use Rattle.hd_store.specs.Offers.{IsOffer, GrowsUnoffered, Takes}
+use Rattle.hd_cwt.specs.WeakTable.{WeakTable}
 use Rattle.hd_store.specs.Visited.{buckets_of}
 use Rattle.hd_model.specs.declared.command.Cmd.TheVariants as cmd
 
@@ -88,10 +89,45 @@ pub record HasUses (uses : FinMap nat_cmp BlockUse) (blocks : ℕ) : Type 0 wher
   pub within : (block : ℕ) → IsSome (get uses block) → (1 ≤ block) × (block ≤ blocks)
   pub extras : sum_by one_paired (values uses) ≡ sum_by one_extra (values uses)
 
+-- the weak table has the blocks of the table and its number of buckets
+pub record IsWide (blocks callers : ℕ) (w : WeakTable) : Type 0 where
+  pub blocks_are : w.blocks ≡ blocks
+  pub buckets_are : w.buckets ≡ buckets_of blocks callers
+
+-- or it has no slot yet, where the table has more blocks than a script's
+abbrev pub HasWeakRoom : (blocks callers : ℕ) → WeakTable → Type 0
+HasWeakRoom blocks callers w =
+    IsWide blocks callers w ⊎ ((BLOCKS < blocks) × ((slot : ℕ) → get w.held slot ≡ None))
+
+-- a store whose weak table has its room: the table is no larger than a script's, or the weak table has a slot
+abbrev pub HasTable : Machine → Type 0
+HasTable m = (m.numbers.blocks ≤ BLOCKS) ⊎ (((slot : ℕ) → get m.state.weak slot ≡ None) → ⊥)
+
+-- a new entry gets a slot: one is offered, or enough blocks are unused
+abbrev pub GetsSlot : Machine → Option Slot → Type 0
+GetsSlot m offered = offered ≡ None → given_of m.state + blocks_needed Dependent ≤ m.numbers.blocks
+
+-- the weak table has no slot yet, and may have no room, and a new entry gets a slot
+pub record LacksTable (m : Machine) (offered : Option Slot) : Type 0 where
+  pub large : BLOCKS < m.numbers.blocks
+  pub unused : (slot : ℕ) → get m.state.weak slot ≡ None
+  pub room : GetsSlot m offered
+
+-- one weak table, or another in its place
+abbrev pub chosen : WeakTable → Option WeakTable → WeakTable
+chosen w None = w
+chosen w (Some other) = other
+
+-- what the first entry brings with it, where the weak table has no room yet: one with the room
+abbrev pub BringsTable : Machine → Option WeakTable → Type 0
+BringsTable m None = HasTable m
+BringsTable m (Some w) = IsWide m.numbers.blocks m.numbers.callers w
+    × ((slot : ℕ) → get w.held slot ≡ None) × ((slot : ℕ) → get m.state.weak slot ≡ None)
+
 -- what a store keeps, which is also what a collection asks for: every reference is to an object, no two
 -- objects have one identity, ages and cards are sound, each region in use has an object, the queue has room
 -- for all objects, the objects take no more cells than the limit, the blocks have their uses, each slot of the
--- weak table has the row of its entry, and that table has the blocks of the table and its number of buckets
+-- weak table has the row of its entry, and that table has its room
 pub record IsStored (f : Parts) : Type 0 where
   pub whole : IsWhole (scene_of_parts f)
   pub identities : HasIdentities f.heap
@@ -108,8 +144,7 @@ pub record IsStored (f : Parts) : Type 0 where
   pub uses : HasUses f.table.uses f.table.blocks
   pub tied : (slot : ℕ) (key : Option Id) → get f.weak.held slot ≡ Some key
       → IsTied f.heap f.table.rows slot key
-  pub weak_blocks : f.weak.blocks ≡ f.table.blocks
-  pub weak_buckets : f.weak.buckets ≡ buckets_of f.table.blocks (callers_of f)
+  pub weak_room : HasWeakRoom f.table.blocks (callers_of f) f.weak
 
 -- a machine with these numbers in which nothing is made yet
 pub record IsFirst (n : Numbers) (m : Machine) : Type 0 where

@@ -1,8 +1,8 @@
 -- What a command asks of the heap and of the table, what may be offered to it, and what it takes and returns
 -- beyond its step.
-use Rattle.std.specs.Prelude.{◌≡◌, ◌≢◌, ℕ, ◌+◌, ◌<◌, ◌≤◌, Bool, true, false, cond, Option, Some, None}
-use Rattle.std.specs.Option.{option_map_or}
-use Rattle.hd_model.specs.declared.limits.TheConstants.{HOST_HEAP, HOST_BLOCKS, HOST_CONTEXTS}
+use Rattle.std.specs.Prelude.{◌≡◌, ◌≢◌, ℕ, ◌+◌, ◌<◌, ◌≤◌, ◌⊎◌, Bool, true, false, cond, Option, Some, None}
+use Rattle.std.specs.{FinMap.get, Option.option_map_or}
+use Rattle.hd_model.specs.declared.limits.TheConstants.{BLOCKS, HOST_HEAP, HOST_BLOCKS, HOST_CONTEXTS}
 use Rattle.hd_model.specs.{declared.data.Entry.Entry, declared.data.Slot.Slot, declared.data.Kind.Kind, declared.command.Cmd.Cmd, declared.class.Class.Class, declared.data.Grown.TheVariants.Zero, declared.data.Grown.TheVariants.Back, Class.class_of, Kinds.kind_of, Touched.touched_by, Step.blocks_needed, Valid.takes_memory}
 use Rattle.hd_model.specs.declared.data.Refusal.TheVariants as refusal
 use Rattle.hd_model.specs.declared.data.Reply.TheVariants as reply
@@ -106,8 +106,23 @@ abbrev pub FitsHeap : Numbers → State → Cmd → Type 0
 FitsHeap n s c =
     (fields : ℕ) → class_of c ≡ class.MakesObject fields → total_size s + (fields + 3) ≤ n.heap
 
+-- a store of more blocks than a script's, whose weak table has no slot, takes the memory of that with its
+-- first entry, once this is sure to get a slot
+pub record TakesTable (n : Numbers) (s : State) (caller : ℕ) (c : Cmd) (offered : Option Slot) : Type 0 where
+  pub large : BLOCKS < n.blocks
+  pub unused : (slot : ℕ) → get s.weak slot ≡ None
+  pub needs : needs_slot s caller c ≡ true
+  pub room : offered ≡ None → given_of s + blocks_needed kinds.Dependent ≤ n.blocks
+
 -- a command ran out of memory, which it may take, and not where the heap was full; nothing is changed
 pub record RanOut {V : Type 0} (n : Numbers) (s : State) (c : Cmd) (old new : V) : Type 0 where
   pub memory : takes_memory c ≡ true
+  pub fits : FitsHeap n s c
+  pub unchanged : new ≡ old
+
+-- so it is of any command, with the first entry of a weak table among them
+pub record RanOutOf {V : Type 0} (n : Numbers) (s : State) (caller : ℕ) (c : Cmd) (offered : Option Slot)
+    (old new : V) : Type 0 where
+  pub memory : (takes_memory c ≡ true) ⊎ TakesTable n s caller c offered
   pub fits : FitsHeap n s c
   pub unchanged : new ≡ old

@@ -2,7 +2,7 @@
 ghost use Rattle.std.specs.Prelude.{◌≡◌, MatchResult};
 ghost use Rattle.hd_commands.specs.Done.{done_of, entry_by};
 ghost use Rattle.hd_store.specs.Inside.{MayRun, HasRun};
-ghost use Rattle.hd_store.specs.{PinnedAddresses.KeepsPinned, Visited.TakesStepsIn, Offers.RanOut};
+ghost use Rattle.hd_store.specs.{PinnedAddresses.KeepsPinned, Visited.TakesStepsIn, Offers.RanOutOf};
 
 use crate::contents::Contents;
 use crate::replies::{finding, removing, rooting, trimming};
@@ -27,7 +27,7 @@ pub(crate) fn carry_out<L: Ledger>(
         MatchResult result (λ came. let e = entry_by caller cmd (done_of came) in
         HasRun m caller cmd offer e (KeepsPinned m e k)
         × TakesStepsIn m.numbers m.state m.ages e steps.old steps.new)
-        (λ _. RanOut m.numbers m.state cmd m k × (steps.new ≡ steps.old)) }
+        (λ _. RanOutOf m.numbers m.state caller cmd offer m k × (steps.new ≡ steps.old)) }
 {
     match cmd {
         Cmd::New { d, fields, fin } => Ok(made(makes::new_object(store, caller, d, fields, fin)?)),
@@ -38,7 +38,9 @@ pub(crate) fn carry_out<L: Ledger>(
             Ok(Ok(Done::of(Reply::Report(report))))
         }
         Cmd::Trim { kind } => Ok(Ok(trimming(makes::trim(store, caller, kind, offer)))),
-        Cmd::CAdd { k, v } => Ok(making(on_entries::add_entry(store, caller, k, v, offer, steps))),
+        Cmd::CAdd { k, v } => {
+            Ok(making(on_entries::add_entry(store, caller, k, v, offer, steps)?))
+        }
         Cmd::CFind { d, k } => Ok(finding(on_entries::find_entry(store, caller, d, k, steps))),
         Cmd::CRemove { k } => Ok(removing(on_entries::remove_entry(store, caller, k, steps))),
         Cmd::GcRoot { s } => Ok(rooting(roots::return_root(store, caller, s)?)),

@@ -7,7 +7,7 @@ ghost use Rattle.hd_heap.specs.Calls.{empty_heap};
 ghost use Rattle.hd_model.specs.{Scene.IsField, declared.data.Addr.Addr};
 ghost use Rattle.hd_plan.specs.Plan.{HasNoEmptyRegion};
 ghost use Rattle.hd_seg.specs.Given.{HasNoneGiven, IsNextGiven};
-ghost use Rattle.hd_store.specs.{Inside.IsFirst, Store.IsOverHeap, Store.without_free, Visited.buckets_of};
+ghost use Rattle.hd_store.specs.{Inside.HasWeakRoom, Inside.IsFirst, Store.IsOverHeap, Store.without_free, Visited.buckets_of};
 
 use hd_ages::AgeMap;
 use hd_cwt::Cwt;
@@ -86,15 +86,28 @@ fn open_objects(alloc: Global, limit: u32) -> Result<(Heap, Final), Memory>
 #[inline(always)]
 fn open_tables(alloc: Global, blocks: u32, callers: u32) -> Result<(Seg, AgeMap, Cwt), Memory>
     requires { blocks ≤ HOST_BLOCKS }
-    ensures { let buckets = buckets_of blocks callers in
-        IfOk result (λ made. (made.0 ≡ empty_table blocks)
+    ensures { IfOk result (λ made. (made.0 ≡ empty_table blocks)
         × (made.1 ≡ replicate (CLUMPS * blocks) OLDEST)
-        × (made.2 ≡ record { blocks = blocks; buckets = buckets; held = empty })) }
+        × (made.2.held ≡ empty) × HasWeakRoom blocks callers made.2) }
 {
     let ages = AgeMap::open(alloc, blocks)?;
     let table = Seg::open(alloc, blocks)?;
-    let weak = Cwt::open_with(alloc, blocks, buckets_for(blocks, callers))?;
+    let weak = open_weak(alloc, blocks, callers)?;
     Ok((table, ages, weak))
+}
+
+/// The weak table without a slot. With more blocks than a script's it takes its memory with its
+/// first entry.
+pub(crate) fn open_weak(alloc: Global, blocks: u32, callers: u32) -> Result<Cwt, Memory>
+    requires { blocks ≤ HOST_BLOCKS }
+    ensures held { IfOk result (λ w. w.held ≡ empty) }
+    ensures room { IfOk result (HasWeakRoom blocks callers) }
+{
+    if blocks > BLOCKS {
+        Cwt::open_with(alloc, 0, 1)
+    } else {
+        Cwt::open_with(alloc, blocks, buckets_for(blocks, callers))
+    }
 }
 
 /// The number of buckets of the weak table.

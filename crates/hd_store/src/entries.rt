@@ -1,17 +1,20 @@
 // What a store does with the entries of the weak table, which are in rows of dependent handles.
-ghost use Rattle.std.specs.Prelude.{◌≡◌, ◌≤◌, Some, None, IsSome, IfSome, option_map};
-ghost use Rattle.std.specs.FinMap.{get};
+ghost use Rattle.std.specs.Prelude.{◌≡◌, ◌<◌, ◌≤◌, ℕ, true, false, Decides, IfOk, OnErr, Some, None, IsSome, IfSome, option_map};
+ghost use Rattle.std.specs.FinMap.{get, insert};
 ghost use Rattle.hd_model.specs.declared.data.Kind.TheVariants as kind;
 ghost use Rattle.hd_model.specs.State.{with_weak, block_of, IsFree};
 ghost use Rattle.hd_model.specs.Command.{slot_of_key, idle_slot, value_at};
 ghost use Rattle.hd_store.specs.Reading.{name_in, named_in, IsNamed};
-ghost use Rattle.hd_store.specs.Inside.{entry_at, MayHaveEntry, HasNoEntry};
+ghost use Rattle.hd_store.specs.Inside.{entry_at, chosen, BringsTable, GetsSlot, HasTable, LacksTable, MayHaveEntry, HasNoEntry};
+ghost use Rattle.hd_cwt.specs.WeakTable.{CanTake, HasKey, slots_of};
 ghost use Rattle.hd_store.specs.{Info.entry_seen, Visited.SearchSteps, Visited.buckets_of};
 
-use crate::contents::Contents;
+use crate::contents::{Contents, buckets_for};
 use crate::info::EntryInfo;
 use hd_commands::Parts;
-use hd_model::{Addr, Slot, Steps};
+use hd_cwt::Cwt;
+use hd_model::limits::{BLOCKS, CALLERS};
+use hd_model::{Addr, Id, Memory, Slot, Steps};
 use hd_seg::{Extra, Row};
 use std::sync::ledger::Ledger;
 
@@ -95,9 +98,48 @@ impl Contents {
         self.weak.add(id, slot);
     }
 
+    // Whether the weak table may have no room yet: it has no slot, in a table of more blocks than a
+    // script's.
+    fn lacks_table(&self) -> bool
+        ensures lacks { result ≡ true → (BLOCKS < self.now.numbers.blocks)
+            × ((slot : ℕ) → get self.now.state.weak slot ≡ None) }
+        ensures has { result ≡ false → HasTable self.now }
+    {
+        self.ages.blocks() > BLOCKS && self.weak.held_count() == 0
+    }
+
+    // Whether a new entry gets a slot.
+    fn gets_slot(&self, offer: Option<Slot>) -> bool
+        ensures { Decides result (GetsSlot self.now offer) }
+    {
+        offer.is_some() || self.table.given() + 2 <= self.ages.blocks()
+    }
+
+    /// A weak table with its room, for the first entry, where that is sure to get a slot.
+    pub(crate) fn first_table(&self, offer: Option<Slot>) -> Result<Option<Cwt>, Memory>
+        ensures table { IfOk result (λ table.
+            GetsSlot self.now offer → BringsTable self.now table) }
+        ensures memory { OnErr result (LacksTable self.now offer) }
+    {
+        if !self.lacks_table() || !self.gets_slot(offer) {
+            return Ok(None);
+        }
+        // Of so many blocks the number of buckets goes by these alone.
+        let blocks = self.ages.blocks();
+        let table = Cwt::open_with(self.alloc, blocks, buckets_for(blocks, CALLERS))?;
+        Ok(Some(table))
+    }
+
     /// Puts an entry into a free slot of a block of dependent handles, which the weak table holds
-    /// from then on.
-    pub(crate) fn hold_entry(&mut self, slot: Slot, key: Addr, value: Option<Addr>)
+    /// from then on. The first one brings the table with it.
+    pub(crate) fn hold_entry(
+        &mut self,
+        slot: Slot,
+        key: Addr,
+        value: Option<Addr>,
+        table: Option<Cwt>,
+    )
+        requires table { BringsTable self.old table }
         requires free { IsFree self.old.state kind.Dependent slot }
         requires new { HasNoEntry self.old key }
         requires may { MayHaveEntry self.old slot key value }
@@ -115,7 +157,7 @@ impl Contents {
                 extra: Extra::Secondary(value),
             },
         );
-        self.weak.add(id, slot);
+        add_to(&mut self.weak, table, id, slot);
     }
 
     /// Takes the entry out of its slot, which the weak table holds on.
@@ -128,4 +170,18 @@ impl Contents {
         self.table.set_extra(slot, Extra::Secondary(None));
         self.weak.clear(slot);
     }
+}
+
+// Puts a key into a slot of a weak table, or of another in its place.
+fn add_to(weak: &mut Cwt, table: Option<Cwt>, key: Id, slot: Slot)
+    requires new { (other : ℕ) → ¬ (HasKey (chosen weak.old table) key other) }
+    requires within { slot.0 < slots_of (chosen weak.old table) }
+    requires slot { CanTake (chosen weak.old table) slot.0 }
+    ensures { let w = chosen weak.old table in
+        weak.new ≡ record w { held = insert w.held slot.0 (Some key) } }
+{
+    if let Some(first) = table {
+        *weak = first;
+    }
+    weak.add(key, slot);
 }

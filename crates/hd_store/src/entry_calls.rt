@@ -1,16 +1,16 @@
 // The commands on the weak table, each as a call by value. Nobody asks for the steps of a search.
 // What reads the number of objects before and after does so for the proof alone: the state is then
 // one over the heap.
-ghost use Rattle.std.specs.Prelude.{◌≡◌, ◌<◌};
+ghost use Rattle.std.specs.Prelude.{◌≡◌, ◌<◌, MatchResult};
 ghost use Rattle.hd_model.specs.declared.command.Cmd.TheVariants as cmd;
 ghost use Rattle.hd_commands.specs.Done.{done_making, done_of, entry_by};
-ghost use Rattle.hd_store.specs.{Calls.HasCalled, Calls.HasReturned, Offers.IsOffer};
+ghost use Rattle.hd_store.specs.{Calls.HasCalled, Calls.HasReturned, Offers.IsOffer, Offers.TakesTable};
 ghost use Rattle.hd_store.specs.Replies.{found_reply, removed_reply};
 
 use crate::on_entries;
 use crate::store::Store;
 use hd_model::limits::REGISTERS;
-use hd_model::{Grown, Id, Refusal, Slot, Steps};
+use hd_model::{Grown, Id, Memory, Refusal, Slot, Steps};
 use std::marker::Brand;
 use std::sync::ledger::{Blank, Ledger};
 
@@ -23,20 +23,22 @@ pub enum Lookup {
 
 impl Store {
     /// `cadd rK rV`: adds the entry of a key with a value, and returns its slot and the blocks by
-    /// which the table grew. An offered slot is taken where no slot of the weak table is idle.
+    /// which the table grew. An offered slot is taken where no slot of the weak table is idle. With
+    /// its first entry the weak table of a large store takes its memory, after all refusals.
     pub fn add_entry(
         &mut self,
         caller: u32,
         k: u8,
         v: u8,
         offer: Option<Slot>,
-    ) -> Result<(Slot, Grown), Refusal>
+    ) -> Result<Result<(Slot, Grown), Refusal>, Memory>
         requires caller { caller < self.old.numbers.callers }
         requires registers { (k < REGISTERS) × (v < REGISTERS) }
         requires offer { IsOffer self.old.state caller (cmd.CAdd k v) offer }
-        ensures { let c = cmd.CAdd k v in
-            let e = entry_by caller c (done_of (done_making result)) in
-            HasCalled self.old caller c offer self.new e }
+        ensures { let m = self.old in let c = cmd.CAdd k v in MatchResult result
+            (λ came. let e = entry_by caller c (done_of (done_making came)) in
+            HasCalled m caller c offer self.new e)
+            (λ _. TakesTable m.numbers m.state caller c offer × (self.new ≡ m)) }
     {
         self.add_entry_on::<Brand>(caller, k, v, offer, Blank::new(1))
     }
@@ -49,14 +51,15 @@ impl Store {
         v: u8,
         offer: Option<Slot>,
         blank: Blank,
-    ) -> Result<(Slot, Grown), Refusal>
+    ) -> Result<Result<(Slot, Grown), Refusal>, Memory>
         requires caller { caller < self.old.numbers.callers }
         requires registers { (k < REGISTERS) × (v < REGISTERS) }
         requires offer { IsOffer self.old.state caller (cmd.CAdd k v) offer }
         requires blank { (L.name ≡ blank.name) × (L.parts ≡ blank.parts) × (0 < blank.parts) }
-        ensures { let c = cmd.CAdd k v in
-            let e = entry_by caller c (done_of (done_making result)) in
-            HasCalled self.old caller c offer self.new e }
+        ensures { let m = self.old in let c = cmd.CAdd k v in MatchResult result
+            (λ came. let e = entry_by caller c (done_of (done_making came)) in
+            HasCalled m caller c offer self.new e)
+            (λ _. TakesTable m.numbers m.state caller c offer × (self.new ≡ m)) }
     {
         let mut steps = Steps::<L>::open(blank);
         let _before = self.contents.objects();

@@ -1,4 +1,4 @@
-ghost use Rattle.std.specs.Prelude.{◌≡◌, ◌*◌, ◌<◌, ◌≤◌, length, replicate, slice_index_or, true, IsTrue, IfOk, IsSome, None, OnErr, Some, option_map};
+ghost use Rattle.std.specs.Prelude.{◌≡◌, ◌*◌, ◌<◌, ◌≤◌, ◌⊎◌, length, replicate, slice_index_or, true, IfOk, IsSome, None, OnErr, Some, option_map};
 ghost use Rattle.std.specs.FinMap.{get};
 ghost use Rattle.hd_model.specs.declared.command.Cmd.TheVariants as cmd;
 ghost use Rattle.hd_model.specs.Handles.{handle_of};
@@ -7,7 +7,7 @@ ghost use Rattle.hd_model.specs.{Valid.IsValid, Valid.takes_memory};
 ghost use Rattle.hd_model.specs.declared.data.{Id.Id};
 ghost use Rattle.hd_store.specs.{Visited.TakesStepsIn, Store.IsOverHeap};
 ghost use Rattle.hd_store.specs.Calls.{HasCalled, IsSound, StaysWithin, load_entry, pointed};
-ghost use Rattle.hd_store.specs.Offers.{IsOffer, needs_slot, FitsHeap};
+ghost use Rattle.hd_store.specs.Offers.{IsOffer, TakesTable, needs_slot, FitsHeap};
 
 use crate::contents::Contents;
 use crate::{commands, on_entries};
@@ -73,8 +73,10 @@ impl Store {
         requires offer { IsOffer self.old.state caller cmd offer }
         requires within { StaysWithin self.old.state caller cmd }
         ensures done { IfOk result (HasCalled self.old caller cmd offer self.new) }
-        // Only commands that may take memory run out of it. A full heap is reported first.
-        ensures memory { OnErr result (IsTrue (takes_memory cmd)) }
+        // Only commands that may take memory run out of it, and in a store of more blocks than a
+        // script's the first entry of the weak table. A full heap is reported first.
+        ensures memory { let m = self.old in OnErr result ((takes_memory cmd ≡ true)
+            ⊎ TakesTable m.numbers m.state caller cmd offer) }
         ensures fits { OnErr result (FitsHeap self.old.numbers self.old.state cmd) }
         ensures unchanged { OnErr result (self.new ≡ self.old) }
         // A collection takes a step for each visit of a due clump, a search of the weak table one

@@ -75,18 +75,18 @@ returns-in-Trim g c =
     (plain-runs m k c.args.caller asked c.args.offer steps (entry_by c.args.caller asked (done_of r)) refl
     c.trim.ensures)
 
-pub returns-in-CAdd : goal.returns-in-CAdd
-returns-in-CAdd g c =
+pub returns-in_ok-add_entry-in-CAdd : goal.returns-in_ok-add_entry-in-CAdd
+returns-in_ok-add_entry-in-CAdd g c =
     let m = c.args.store.now in
     let k = c.add_entry.new.store in
     let asked = cmd.CAdd c.in-CAdd.k c.in-CAdd.v in
-    let r = done_making c.add_entry.result in
+    let r = done_making c.in_ok-add_entry-in-CAdd.field-0 in
     as-asked m k c.args.caller c.args.cmd asked c.args.offer c.making-in-CAdd.result r c.args.steps.now
     c.add_entry.new.steps c.in-CAdd.is c.making-in-CAdd.ensures c.requires
     (λ may. (
       plain-kept m k c.args.caller asked c.args.offer may (entry_by c.args.caller asked (done_of r))
-          c.add_entry.ensures.done,
-      c.add_entry.ensures.steps,
+          c.in_ok-add_entry-in-CAdd.ensures.0,
+      c.in_ok-add_entry-in-CAdd.ensures.1,
     ))
 
 pub returns-in-CFind : goal.returns-in-CFind

@@ -1,6 +1,7 @@
 use Rattle.hd_store.proofs.StoreWords.{None, get, parts, refl, secondary, some_value}
 use Rattle.hd_store.proofs.EntrySearch.{held-some}
 use Rattle.hd_store.proofs.EntryWrites.{HasPut, weak-live, weak-kind, weak-vacant, end-entry}
+use Rattle.hd_store.proofs.WeakRoom.{held-wide}
 use Rattle.hd_store.proofs.StoreRows.{still-live, still-fits, rewritten}
 use Rattle.hd_store.proofs.contents.Contents.clear_entry.Goals.{After-clear}
 use Rattle.hd_store.proofs.contents.Contents.clear_entry.Goals as goal
@@ -33,6 +34,8 @@ after : (c : After-clear)
 after c =
     let it = some_value (get c.args.self.now.state.weak c.args.slot.0) c.requires in
     end-entry (parts c.self.inside) c.args.self.now c.self.view_is c.self.invariant c.args.slot
+    (held-wide (parts c.self.inside) c.self.invariant c.args.slot.0 (held-some (parts c.self.inside)
+    c.args.self.now c.self.view_is c.self.invariant c.args.slot.0 c.requires))
     (weak-vacant (parts c.self.inside) c.args.self.now c.self.view_is c.self.invariant c.args.slot it.0 it.1)
     c.set_extra.new.self c.clear.new.self
     (rewritten c.self.inside.table c.args.slot.0

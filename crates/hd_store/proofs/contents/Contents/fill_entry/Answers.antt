@@ -1,6 +1,7 @@
 use Rattle.hd_store.proofs.StoreWords.{None, Some, ap, entry_at, inl, is_some, parts, refl, secondary, slot_of_key, ◌∙◌}
 use Rattle.hd_store.proofs.EntrySearch.{at-idle, not-there}
 use Rattle.hd_store.proofs.EntryWrites.{HasPut, weak-live, weak-kind, weak-vacant, put-entry}
+use Rattle.hd_store.proofs.WeakRoom.{held-wide}
 use Rattle.hd_store.proofs.StoreRows.{still-live, still-fits, rewritten}
 use Rattle.hd_store.proofs.contents.Contents.fill_entry.Goals.{After-add}
 use Rattle.hd_store.proofs.contents.Contents.fill_entry.Goals as goal
@@ -39,7 +40,9 @@ add-requires-clause-slot c =
 after : (c : After-add) → HasPut (parts c.self.inside) c.args.self.now c.args.slot
     (Some (entry_at c.args.self.now.names c.args.key c.args.value)) c.set_extra.new.self c.add.new.self
 after c =
-    put-entry (parts c.self.inside) c.args.self.now c.self.view_is c.self.invariant c.args.slot c.args.key
+    put-entry (parts c.self.inside) c.args.self.now c.self.view_is c.self.invariant c.args.slot
+    (held-wide (parts c.self.inside) c.self.invariant c.args.slot.0 (ap is_some
+    (at-idle (parts c.self.inside) c.args.self.now c.self.view_is c.args.slot.0 c.requires.idle))) c.args.key
     c.args.value c.id-id.result c.requires.may c.id-id.ensures
     (weak-vacant (parts c.self.inside) c.args.self.now c.self.view_is c.self.invariant c.args.slot None
     c.requires.idle) c.set_extra.new.self c.add.new.self

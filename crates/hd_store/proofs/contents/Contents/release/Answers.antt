@@ -1,5 +1,6 @@
 use Rattle.hd_store.proofs.StoreWords.{get, not_there, parts, sym, ◌∙◌}
 use Rattle.hd_store.proofs.StoreRows.{held-live}
+use Rattle.hd_store.proofs.WeakRoom.{held-wide}
 use Rattle.hd_store.proofs.SpareBlocks.{has_released, held_idle, idle_vacant, released_before}
 use Rattle.hd_store.proofs.contents.Contents.release.Goals as goal
 
@@ -15,12 +16,16 @@ release-requires c =
 pub invariant_of-self : goal.invariant_of-self
 invariant_of-self c =
     (has_released (parts c.self.inside) c.args.self.now c.self.view_is c.self.invariant c.args.slot.0
+    (held-wide (parts c.self.inside) c.self.invariant c.args.slot.0
+    (sym c.held.ensures.value ∙ c.if-held.true))
     (idle_vacant (parts c.self.inside) c.args.self.now c.self.view_is c.args.slot.0 (release-requires c.before))
     c.take_row.new.self c.release.new.self c.take_row.ensures c.release.ensures).0
 
 pub returns-then-held : goal.returns-then-held
 returns-then-held c =
     (has_released (parts c.self.inside) c.args.self.now c.self.view_is c.self.invariant c.args.slot.0
+    (held-wide (parts c.self.inside) c.self.invariant c.args.slot.0
+    (sym c.held.ensures.value ∙ c.if-held.true))
     (idle_vacant (parts c.self.inside) c.args.self.now c.self.view_is c.args.slot.0 (release-requires c.before))
     c.take_row.new.self c.release.new.self c.take_row.ensures c.release.ensures).1
 

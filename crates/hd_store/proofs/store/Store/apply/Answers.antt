@@ -1,4 +1,6 @@
-use Rattle.hd_store.proofs.StoreWords.{Err, IsOffer, Machine, Ok, OnErr, Result, TakesStepsIn, done_of, entry_by, subst, sym, ◌<◌, ◌∙◌, ◌≡◌}
+use Rattle.hd_store.proofs.StoreWords.{Err, IsOffer, Machine, Ok, OnErr, Result, TakesStepsIn, done_of, entry_by, subst, sym, true, ◌<◌, ◌∙◌, ◌≡◌, ◌⊎◌}
+use Rattle.hd_model.specs.Valid.{takes_memory}
+use Rattle.hd_store.specs.Offers.{TakesTable}
 use Rattle.hd_store.specs.Calls.{HasCalled, IsSound, StaysWithin}
 use Rattle.hd_store.proofs.{SoundCalls.may-run, SoundCalls.sound-after, ValueCalls.kept-called}
 use Rattle.hd_store.proofs.store.Store.apply.Goals as goal
@@ -25,6 +27,13 @@ pub returns-in_err-came-clause-unchanged : goal.returns-in_err-came-clause-uncha
 returns-in_err-came-clause-unchanged g c =
     on_err c.from_residual.result (c.carry_out.new.store ≡ c.args.self.now)
     (c.in_err-came.ensures.0.unchanged ∙ c.self.view_is)
+
+pub returns-in_err-came-clause-memory : goal.returns-in_err-came-clause-memory
+returns-in_err-came-clause-memory g c =
+    on_err c.from_residual.result ((takes_memory c.args.cmd ≡ true) ⊎ TakesTable c.args.self.now.numbers
+    c.args.self.now.state c.args.caller c.args.cmd c.args.offer)
+    (subst (λ (m : Machine). (takes_memory c.args.cmd ≡ true) ⊎ TakesTable m.numbers m.state c.args.caller
+    c.args.cmd c.args.offer) c.self.view_is c.in_err-came.ensures.0.memory)
 
 pub invariant_of-self-2 : goal.invariant_of-self-2
 invariant_of-self-2 g c =
