@@ -1,6 +1,6 @@
 use Rattle.hd_store.proofs.StoreWords.{Err, FinMap, IsOffer, Machine, Ok, OnErr, Result, TakesSteps, [], ap, arith, length, nat_cmp, subst, sym, with_pinned, ℕ, ◌++◌, ◌+◌, ◌<◌, ◌^◌, ◌∙◌, ◌∷◌, ◌≡◌}
 use Rattle.hd_world.specs.{TrueRuns.IsTrueRun, TrueRuns.Placed, Applied.Applied, World.WorldView}
-use Rattle.hd_store.proofs.OfferAddresses.{steps_placed, offer_placed, growth_placed}
+use Rattle.hd_store.proofs.OfferAddresses.{script_steps, steps_placed, offer_placed, growth_placed}
 use Rattle.hd_world.proofs.JournalApply.{within_of, at_pinned, placed_on, run_on, step_on, ages_on}
 use Rattle.hd_model.specs.Journal.{Recorded}
 use Rattle.hd_world.proofs.world.World.apply.Goals as goal
@@ -123,4 +123,6 @@ returns-clause-steps g c =
     subst (λ (v : WorldView). TakesSteps v.state v.ages c.in_ok-entry.entry c.args.steps.now c.apply.new.steps)
     c.self.view_is
     (steps_placed w.store.state w.placed.0 w.store.ages c.in_ok-entry.entry c.args.steps.now
-    c.apply.new.steps c.in_ok-entry.ensures.steps)
+    c.apply.new.steps
+    (script_steps w.store.numbers c.self.invariant.limits.blocks.1 c.self.invariant.limits.callers.1
+    c.in_ok-entry.ensures.steps))
