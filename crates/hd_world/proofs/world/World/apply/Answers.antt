@@ -1,8 +1,8 @@
-use Rattle.hd_store.proofs.StoreWords.{Err, FinMap, IsOffer, Machine, Ok, OnErr, Result, TakesSteps, [], ap, arith, length, nat_cmp, subst, sym, with_pinned, ℕ, ◌++◌, ◌+◌, ◌<◌, ◌^◌, ◌∙◌, ◌∷◌, ◌≡◌}
+use Rattle.hd_store.proofs.StoreWords.{Err, FinMap, IsOffer, Machine, Ok, OnErr, Result, TakesSteps, [], ap, arith, length, nat_cmp, subst, sym, true, with_pinned, ⊎_elim, ℕ, ◌++◌, ◌+◌, ◌<◌, ◌^◌, ◌∙◌, ◌∷◌, ◌≡◌}
 use Rattle.hd_world.specs.{TrueRuns.IsTrueRun, TrueRuns.Placed, Applied.Applied, World.WorldView}
 use Rattle.hd_store.proofs.OfferAddresses.{script_steps, steps_placed, offer_placed, growth_placed}
 use Rattle.hd_world.proofs.JournalApply.{within_of, at_pinned, placed_on, run_on, step_on, ages_on}
-use Rattle.hd_model.specs.Journal.{Recorded}
+use Rattle.hd_model.specs.{Journal.Recorded, Valid.takes_memory}
 use Rattle.hd_world.proofs.world.World.apply.Goals as goal
 
 pub apply-requires-clause-caller : goal.apply-requires-clause-caller
@@ -69,6 +69,14 @@ returns-in_err-entry-clause-unchanged g c =
     (at_pinned m j.entries p q.0 (λ r. seen m j r ≡ c.args.self.now) before q.1
     (ap (λ x. seen x j p) c.in_err-entry.ensures.unchanged ∙ c.self.view_is)) in
     search at
+
+-- within the limits of a run no first entry runs out
+pub returns-in_err-entry-clause-memory : goal.returns-in_err-entry-clause-memory
+returns-in_err-entry-clause-memory g c =
+    on_err c.from_residual.result (takes_memory c.args.cmd ≡ true)
+    (⊎_elim (λ memory. memory)
+    (λ first. absurd (omega (arith, first.large, c.self.invariant.limits.blocks.1)))
+    c.in_err-entry.ensures.memory)
 
 pub invariant_of-self-inside-2 : goal.invariant_of-self-inside-2
 invariant_of-self-inside-2 g c =
