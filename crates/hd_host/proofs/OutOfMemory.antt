@@ -1,9 +1,9 @@
 -- A command that ran out of memory has no other fault, and `gcroot` of a null local is refused.
-use Rattle.std.proofs.Common.{Bool, List, None, Option, Some, ap, arith, cond, false, inl, inr, nat_lt, refl, subst, sym, true, ℕ, ⊎_elim, ◌+◌, ◌<◌, ◌^◌, ◌∙◌, ◌≡◌, ◌≤◌}
+use Rattle.std.proofs.Common.{Bool, List, None, Option, Some, ap, arith, cond, false, inl, inr, nat_lt, refl, subst, sym, true, ℕ, ⊎_elim, ◌+◌, ◌<◌, ◌^◌, ◌∙◌, ◌≡◌, ◌≤◌, ◌⊎◌}
 use Rattle.std.proofs.lemmas.{Bool.le-ltb, Bool.true≢false, Option.none-some}
-use Rattle.std.specs.{FinMap.empty, Option.option_map_or}
+use Rattle.std.specs.{FinMap.empty, FinMap.get, Option.option_map_or}
 use Rattle.hd_model.proofs.{AgedRuns.nothing_at, Outcomes.test_cases}
-use Rattle.hd_model.specs.{declared.command.Cmd.Cmd, declared.data.Entry.Entry, declared.data.Id.Id, declared.data.Make.Make, declared.data.Refusal.Refusal, declared.data.Reply.Reply, declared.data.Slot.Slot, Aging.is_refused, Kinds.kind_of, PinnedAddresses.with_pinned, Run.NoneFree}
+use Rattle.hd_model.specs.{declared.command.Cmd.Cmd, declared.data.Entry.Entry, declared.data.Id.Id, declared.data.Make.Make, declared.data.Refusal.Refusal, declared.data.Reply.Reply, declared.data.Slot.Slot, Aging.is_refused, Kinds.kind_of, PinnedAddresses.with_pinned, Run.AddsLeast, Run.NoneFree}
 use Rattle.hd_model.specs.Step.{IsOutcome, StepOf, TakesWay, blocks_needed, way_of_adding}
 use Rattle.hd_model.specs.declared.data.Kind.TheVariants as kinds
 use Rattle.hd_model.specs.Command.{Adding, Outcome, adding_of, in_idle, in_new, is_refused as is_refusal, new_object, refuses, reply_root, reply_with}
@@ -11,10 +11,10 @@ use Rattle.hd_model.specs.declared.command.Cmd.TheVariants as cmd
 use Rattle.hd_model.specs.declared.data.Grown.TheVariants.{Zero}
 use Rattle.hd_model.specs.declared.data.Refusal.TheVariants as refusal
 use Rattle.hd_model.specs.declared.data.Reply.TheVariants as reply
-use Rattle.hd_model.specs.declared.limits.TheConstants.{REGISTERS}
-use Rattle.hd_model.specs.State.{Numbers, State, given_of, last_serial, register_of, total_size}
+use Rattle.hd_model.specs.declared.limits.TheConstants.{BLOCKS, REGISTERS}
+use Rattle.hd_model.specs.State.{IsFree, Numbers, State, given_of, last_serial, register_of, total_size}
 use Rattle.hd_store.specs.{Offers.FitsHeap, Offers.RanOut, Offers.handle_slot, Offers.needs_new, Offers.needs_slot, Offers.no_room, PinnedAddresses.Moves, Store.Machine}
-use Rattle.hd_host.specs.{declared.change.Change.Change, Calls.IsAtEnd, Calls.IsRefused, Calls.RanOutOfMemory, Calls.no_count, Calls.no_serial, Calls.no_stamp, Steps.pointed, View.HostView, View.IsAsItWas}
+use Rattle.hd_host.specs.{declared.change.Change.Change, Calls.IsAtEnd, Calls.IsRefused, Calls.RanOutOfMemory, Calls.no_count, Calls.no_serial, Calls.no_stamp, Steps.pointed, View.HostView, View.IsAsItWas, View.state_in}
 use Rattle.hd_host.proofs.{CallHost.parts_of, SameHost.unchanged}
 
 -- ---- what is at its end
@@ -200,7 +200,7 @@ pub make_ran_out : {v : HostView} {context d t : ℕ} {make : Make} → NoneFree
     → given_of v.machine.state + blocks_needed (kind_of make) ≤ v.machine.numbers.blocks
     → RanOutOfMemory v context None (cmd.HNew d make t)
 make_ran_out {make = make} none enough = record {
-  cause = inr (record { kind = kind_of make; asks = refl; none = none; enough = enough });
+  cause = inr (inl (record { kind = kind_of make; asks = refl; none = none; enough = enough }));
   fits = λ fields same. absurd (let clash = same in cc);
   allowed = clash_made enough;
   below_end = λ at. ends at;
@@ -224,13 +224,51 @@ module _ {v : HostView} {context key value : ℕ}
 
   pub add_ran_out : NoneFree v.machine.state kinds.Dependent → RanOutOfMemory v context None (cmd.CAdd key value)
   add_ran_out none = record {
-    cause = inr (record {
+    cause = inr (inl (record {
       kind = kinds.Dependent;
       asks = ap (λ b. cond b (handle_slot kinds.Dependent) no_room) needs;
       none = none;
       enough = enough;
-    });
+    }));
     fits = λ fields same. absurd (let clash = same in cc);
     allowed = never_add;
+    below_end = λ at. ends at;
+  }
+
+-- ---- the first entry of the weak table
+
+module _ {v : HostView} {context key value : ℕ} (large : BLOCKS < v.machine.numbers.blocks)
+    (needs : needs_slot v.machine.state context (cmd.CAdd key value) ≡ true)
+    (unused : (slot : ℕ) → get v.machine.state.weak slot ≡ None)
+    (room : (given_of v.machine.state + 2 ≤ v.machine.numbers.blocks)
+    ⊎ ((slot : Slot) × IsFree v.machine.state kinds.Dependent slot)) where
+  never_first : (why : Refusal) → IsRefused v context None (cmd.CAdd key value) why → ⊥
+  never_first why refused =
+      ⊎_elim (λ enough. never_add needs enough why refused)
+      (λ free. by (adding_of (asked refused) refused.entry.caller key)
+      (ap (λ k. needs_new (adding_of v.machine.state k key)) refused.stepped.command_is.0 ∙ needs)
+      refused.stepped.least (did refused) free) room
+    where
+      by : (a : Adding) → needs_new a ≡ true
+          → AddsLeast (state_in (pointed v.machine context None)) refused.entry a
+          → TakesWay v.machine.numbers (asked refused) refused.entry
+          (with_pinned refused.stepped.after.state (goes refused).pinned)
+          (way_of_adding (asked refused) refused.entry.caller value a)
+          → (slot : Slot) × IsFree v.machine.state kinds.Dependent slot → ⊥
+      by (is_refusal r) new least way free = absurd (true≢false (sym new))
+      by (in_idle slot x) new least way free = absurd (true≢false (sym new))
+      by (in_new x) new least (inl added) free = not_done refused reply.Done added.reply refl
+      by (in_new x) new (inl given) (inr full) free = none-some given.0 (sym full.refused.slot ∙ given.2)
+      by (in_new x) new (inr none) (inr full) free = none free.0 (record {
+        no_handle = free.1.no_handle;
+        not_weak = free.1.not_weak;
+        of_kind = free.1.of_kind;
+      })
+
+  pub first_ran_out : RanOutOfMemory v context None (cmd.CAdd key value)
+  first_ran_out = record {
+    cause = inr (inr (record { large = large; needs = needs; unused = unused }));
+    fits = λ fields same. absurd (let clash = same in cc);
+    allowed = never_first;
     below_end = λ at. ends at;
   }

@@ -15,7 +15,8 @@ use Rattle.hd_pool.specs.Pool.{FreeSlots}
 use Rattle.hd_commands.specs.Done.{entry_by, replied}
 use Rattle.hd_model.specs.declared.data.Kind.TheVariants as kinds
 use Rattle.hd_store.specs.{Calls.HasCalled, Calls.HasReturned, Calls.pointed, Offers.handle_slot, Offers.needs_new, Offers.no_room, PinnedAddresses.Moves, Replies.removed_reply, Store.Machine}
-use Rattle.hd_host.specs.{declared.change.Change.Change, Changes.no_change, declared.fault.Fault.Fault, Calls.AddsEntry, Calls.FailsBy, Calls.GrowsTable, Calls.HasReplied, Calls.IsRefused, View.HostView, View.IsAsItWas, Inside.IsHost, Wide.FailsToAdd, Wide.SetsEntry}
+use Rattle.std.proofs.lemmas.Option.{none-some}
+use Rattle.hd_host.specs.{declared.change.Change.Change, Changes.no_change, declared.fault.Fault.Fault, Calls.AddsEntry, Calls.FailsBy, Calls.AddsFirst, Calls.GrowsTable, Calls.HasReplied, Calls.IsRefused, View.HostView, View.IsAsItWas, Inside.IsHost, Wide.FailsToAdd, Wide.SetsEntry}
 use Rattle.hd_host.specs.declared.fault.Fault.TheVariants as fault
 use Rattle.hd_host.proofs.CallHost.{view_of}
 use Rattle.hd_host.proofs.ReplyForms.{not_removed, removes}
@@ -142,6 +143,12 @@ module _ {m m1 : Machine} {p : FreeSlots} {stamps : List ℕ} (host : IsHost m p
       (never_new m1.state context key was.slot.0 there)) ∙ grows.asks in
       absurd (let clash = asks in cc)
 
+  never_first : AddsFirst (view_of m1 stamps after) context (cmd.CAdd key value) → ⊥
+  never_first first =
+      let there : get m1.state.weak was.slot.0 ≡ Some None =
+      ap (λ w. get w was.slot.0) weak-is ∙ get_inserted m.state.weak was.slot.0 None in
+      none-some None (sym (first.unused was.slot.0) ∙ there)
+
   pub never_fails : (f : Fault) → FailsBy (view_of m1 stamps after) context None (cmd.CAdd key value) f → ⊥
   never_fails fault.Stale h = elim h [
     | inl r ↦ never_refused refusal.NotLive r
@@ -158,7 +165,8 @@ module _ {m m1 : Machine} {p : FreeSlots} {stamps : List ℕ} (host : IsHost m p
   ]
   never_fails (fault.TableFull given) r = never_refused (refusal.TableFull given) r
   never_fails fault.Exhausted h = elim h [ ]
-  never_fails fault.Memory h = ⊎_elim (λ takes. absurd (true≢false (sym takes))) never_grows h.cause
+  never_fails fault.Memory h = ⊎_elim (λ takes. absurd (true≢false (sym takes)))
+      (λ more. ⊎_elim never_grows never_first more) h.cause
 
 -- where there was none, all is as it was
 module _ {m m1 : Machine} {context : ℕ} (key : ℕ)

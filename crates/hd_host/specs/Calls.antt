@@ -7,8 +7,10 @@ use Rattle.hd_model.specs.declared.command.Cmd.TheVariants as cmd
 use Rattle.hd_model.specs.declared.data.Reply.TheVariants as reply
 use Rattle.hd_model.specs.declared.data.Refusal.TheVariants as refusal
 use Rattle.hd_model.specs.declared.data.Id.{Id}
+use Rattle.hd_model.specs.declared.limits.TheConstants.{BLOCKS}
+use Rattle.std.specs.FinMap.{get}
 use Rattle.hd_model.specs.State.{Handle as Held, count_of, given_of, handle_at, last_serial, total_size}
-use Rattle.hd_store.specs.{Offers.FitsHeap, Offers.asks_of, Offers.handle_slot, Store.Machine}
+use Rattle.hd_store.specs.{Offers.FitsHeap, Offers.asks_of, Offers.handle_slot, Offers.needs_slot, Store.Machine}
 use Rattle.hd_host.specs.declared.fault.Fault.{Fault}
 use Rattle.hd_host.specs.declared.fault.Fault.TheVariants as fault
 use Rattle.hd_host.specs.declared.handle.Handle.{Handle}
@@ -70,10 +72,18 @@ pub record GrowsTable (v : HostView) (context : ℕ) (command : Cmd) : Type 0 wh
   pub none : NoneFree v.machine.state kind
   pub enough : given_of v.machine.state + blocks_needed kind ≤ v.machine.numbers.blocks
 
--- memory ran out: the command may take some, or may have to grow the table, and it has no other fault. The
--- heap has room for what it makes, the machine does not refuse it, and nothing that it needs is at its end.
+-- a command adds the first entry of the weak table of a host of more blocks than a script's, which takes its
+-- memory with it
+pub record AddsFirst (v : HostView) (context : ℕ) (command : Cmd) : Type 0 where
+  pub large : BLOCKS < v.machine.numbers.blocks
+  pub needs : needs_slot v.machine.state context command ≡ true
+  pub unused : (slot : ℕ) → get v.machine.state.weak slot ≡ None
+
+-- memory ran out: the command may take some, or may have to grow the table, or adds the first entry of the
+-- weak table, and it has no other fault. The heap has room for what it makes, the machine does not refuse it,
+-- and nothing that it needs is at its end.
 pub record RanOutOfMemory (v : HostView) (context : ℕ) (slot : Option Slot) (command : Cmd) : Type 0 where
-  pub cause : (takes_memory command ≡ true) ⊎ GrowsTable v context command
+  pub cause : (takes_memory command ≡ true) ⊎ (GrowsTable v context command ⊎ AddsFirst v context command)
   pub fits : FitsHeap v.machine.numbers v.machine.state command
   pub allowed : (why : Refusal) → IsRefused v context slot command why → ⊥
   pub below_end : IsAtEnd v context slot command → ⊥

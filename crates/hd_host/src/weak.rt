@@ -11,14 +11,15 @@ use crate::growing::make_room;
 use crate::host::Host;
 use crate::last::settle;
 use hd_model::limits::REGISTERS;
-use hd_model::{Cmd, Kind, Memory};
+use hd_model::{Cmd, Grown, Kind, Memory};
 use hd_slots::{Change as Slots, note_slot, offer};
 use hd_store::{Lookup, Store};
 
 impl Host {
     /// Adds the entry of a key with a value (ConditionalWeakTable.Add). Where no slot of the weak
     /// table is idle, it gets the least free slot of kind dependent, and the table grows only where
-    /// there is none. That the table is full is reported before memory is taken.
+    /// there is none. In a host of more than 256 blocks the first entry takes the memory of the weak
+    /// table. That the table is full is reported before memory is taken.
     pub fn table_add(&mut self, context: u32, key: u8, value: u8) -> Result<(), Fault>
         requires context { context < self.old.machine.numbers.callers }
         requires locals { (key < REGISTERS) × (value < REGISTERS) }
@@ -40,12 +41,17 @@ impl Host {
             return Err(Fault::Memory);
         }
         match self.store.add_entry(context, key, value, offered) {
-            Ok((slot, grown)) => {
+            Ok(Ok((slot, grown))) => {
                 note_slot(&mut self.pool, change, Some(slot), grown);
                 self.last.set(Some(slot), grown);
                 Ok(())
             }
-            Err(refusal) => Err(Fault::of(refusal)),
+            Ok(Err(refusal)) => Err(Fault::of(refusal)),
+            Err(Memory) => {
+                // The slot that was offered is free again.
+                note_slot(&mut self.pool, Slots::Frees, offered, Grown::Zero);
+                Err(Fault::Memory)
+            }
         }
     }
 
