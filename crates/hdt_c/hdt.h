@@ -78,8 +78,9 @@ enum {
     HDT_IS_OPEN = 2,     /* hdt_open, _open_shared: it is open already, or one of them */
     HDT_ARGUMENT = 3,    /* a context, local, kind, generation or limit out of range; more than 61 fields, flags that are none, an
                           * `extra` that the kind does not take, the number of no static */
-    HDT_NO_MEMORY = 4,   /* of hdt_open, _open_shared, _object_new, _object_make, _collect, _root_of, and, where no slot is free,
-                          * of _handle_new, _table_add, _table_set: with nothing else wrong, malloc failed */
+    HDT_NO_MEMORY = 4,   /* of hdt_open, _open_shared, _object_new, _object_make, _collect, _root_of; of _handle_new, _table_add,
+                          * _table_set where no slot is free; and of these two where, in a host of more than 256 blocks, the weak
+                          * table has no slot: with nothing else wrong, malloc failed */
     HDT_EXHAUSTED = 5,   /* the context has made 2^32 - 1 objects, and another may make as many (hdt_context_left says how many are
                           * left); or the count, or the stamp of the slot, is at its end */
     /* the refusals of the machine, in the order in which they are found */
