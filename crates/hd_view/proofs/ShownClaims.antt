@@ -2,11 +2,13 @@
 use Rattle.std.proofs.Common.{Err, List, Ok, Option, Result, [], ◌∙◌, arith, lit<, refl, subst, sym, ℕ, ◌≡◌}
 use Rattle.std.specs.Prelude.{IfErr, IfOk, MatchResult}
 use mathlib.Core.Logic.{inl, inr}
+use Rattle.hd_heap.specs.Sound.{IsSound}
 use Rattle.hd_io.specs.Counts.{Rose}
 use Rattle.hd_io.specs.Sink.{SinkView, Took, WriteBrokeOff}
 use Rattle.hd_io.specs.Source.{SourceView}
 use Rattle.hd_model.proofs.{StepChains.run_from_solo, WellFormedSteps.run_is_well_formed}
 use Rattle.hd_model.specs.declared.data.Id.{Id}
+use Rattle.hd_model.specs.Heap.{Heap}
 use Rattle.hd_model.specs.State.{State}
 use Rattle.hd_model.specs.WellFormed.{IsWellFormed}
 use Rattle.hd_links.specs.Shown.{IsPictureOf}
@@ -17,6 +19,7 @@ use Rattle.hd_run.specs.Report.{IsReported, fault_status}
 use Rattle.hd_run.specs.declared.fault.Fault.{Fault}
 use Rattle.hd_run.specs.declared.fault.Fault.TheVariants.{BadLine, NoMemory, OverSize, Unread, Usage}
 use Rattle.hd_seen.specs.Seen.{Picture}
+use Rattle.hd_store.specs.Store.{without_free}
 use Rattle.hd_talk.specs.Machine.{picture_in}
 use Rattle.hd_world.specs.World.{WorldView}
 use Rattle.hd_view.specs.{Script.IsBadLine, Script.RanTo, Inside.StopsBy}
@@ -105,6 +108,26 @@ module _ {b : Bounds} {line : Option ℕ} {old new : SourceView} {w : WorldView}
   well_formed = let n = numbers_for b ran.lists in
       subst (λ n. IsWellFormed n w.state) (sym ran.ran.numbers)
       (run_is_well_formed n w.journal w.state (run_from_solo n w.journal w.state ran.ran.run))
+
+-- a sound heap is one without its free regions too
+pub sound_without : (h : Heap) → IsSound h → IsSound (without_free h)
+sound_without h s = record {
+  held = s.held;
+  within = s.within;
+  apart = s.apart;
+  identified = s.identified;
+  few_fields = s.few_fields;
+  fills = s.fills;
+  generations = s.generations;
+  numbers = s.numbers;
+  free_numbers = λ i less. absurd (omega (arith, less));
+  free_unused = λ i less. absurd (omega (arith, less));
+  free_apart = λ i j low less. absurd (omega (arith, less));
+  cards = λ card is.
+      let first = s.cards card is in
+      record { at = first.at; object = first.object; in_card = first.in_card };
+  few_objects = s.few_objects;
+}
 
 -- what was seen of a world is a picture of its state
 pub pictured : {p : Picture} (w : WorldView) → IsWellFormed w.numbers w.state → p ≡ picture_in w

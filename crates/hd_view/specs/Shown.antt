@@ -14,13 +14,16 @@ use Rattle.hd_run.specs.Ending.{ReadBytes}
 use Rattle.hd_show.specs.Heaps.{regions_of}
 use Rattle.hd_show.specs.Laws.{GenerationsAddUp, ObjectsAreCountedOnce}
 use Rattle.hd_show.specs.Show.{show_text}
+use Rattle.hd_snapshot.specs.Laws.{IsParted}
 use Rattle.hd_talk.specs.Machine.{picture_in}
 use Rattle.hd_world.specs.World.{WorldView}
 use Rattle.hd_view.specs.Script.{IsBadLine, RanTo}
 
--- the tables of a world: the totals of generations are those of the regions, and each object is counted once
+-- the tables of a world: each object is in one region, the totals of generations are those of the regions, and
+-- each object is counted once
 pub record AreTables (w : WorldView) (text : List ℕ) : Type 0 where
   pub is_text : text ≡ show_text (picture_in w)
+  pub parted : IsParted (picture_in w)
   pub generations : GenerationsAddUp (regions_of (picture_in w)) (picture_in w).regions
   pub objects : ObjectsAreCountedOnce (picture_in w)
 
@@ -34,6 +37,7 @@ pub record IsGraph (clusters : Clusters) (w : WorldView) (text : List ℕ) : Typ
   pub kept : ℕ → Bool
   pub marks : AllStayAsMarked w.state (picture_in w).objects kept
   pub is_text : text ≡ graph_text clusters (picture_in w) kept
+  pub parted : IsParted (picture_in w)
 
 -- there are more bytes than are taken, or a line of the script is at fault
 abbrev pub RefusesScript : Option ℕ → SourceView → SourceView → Type 0

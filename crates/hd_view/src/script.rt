@@ -1,8 +1,11 @@
 // The script that a source gives, and the world that it leads to.
 ghost use Rattle.std.specs.Prelude.{◌≡◌, ◌-◌, ◌≤◌, length, take, IfErr, IfOk};
 ghost use Rattle.std.specs.List.{concat};
+ghost use Rattle.hd_heap.specs.Sound.{IsSound};
 ghost use Rattle.hd_model.specs.declared.limits.TheConstants.{MOST_BYTES};
 ghost use Rattle.hd_model.specs.RunTexts.{cut_lines};
+ghost use Rattle.hd_model.specs.Table.{IsTable};
+ghost use Rattle.hd_world.specs.StateHeap.{IsOfJournal};
 ghost use Rattle.hd_view.specs.{Script.RanTo, Script.lines_before, Inside.StopsBy};
 
 use hd_audit::cut_line;
@@ -44,9 +47,24 @@ pub(crate) fn world_of<S: Source, E: Sink>(
         }
     };
     match solo_world(alloc, &scripts, limits.heap, limits.blocks) {
-        Ok(world) => Ok(world),
+        Ok(world) => {
+            keep(&world);
+            Ok(world)
+        }
         Err(Memory) => Err(Fault::NoMemory),
     }
+}
+
+// What every world keeps, read for the proof alone.
+fn keep(world: &World)
+    ensures journal { IsOfJournal world.now }
+    ensures heap { IsSound world.now.heap }
+    ensures table { IsTable world.now.table }
+{
+    let _journal = world.journal();
+    let contents = world.store().contents();
+    let _count = contents.heap().count();
+    let _given = contents.table().given();
 }
 
 // Why an input was not read: nothing where memory ran out.

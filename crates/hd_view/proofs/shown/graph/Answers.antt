@@ -23,4 +23,5 @@ returns c =
           ∙ ap (λ xs. xs ++ graph_text c.args.clusters (view_seen c.in_ok-seen.seen) drawn.0)
           c.new-text.ensures.items
           ∙ ap (λ p. graph_text c.args.clusters p drawn.0) sees;
+      parted = c.in_ok-seen.ensures.parted;
     }

@@ -17,6 +17,7 @@ returns c =
     (λ text. AreTables w text.items)
     (λ text is. record {
       is_text = is ∙ ap show_text c.in_ok-seen.ensures.seen;
+      parted = parted;
       generations = generations_add_up (regions_of (picture_in w)) (picture_in w).regions parted.generations;
       objects = objects_are_counted_once (picture_in w) parted.regions;
     })
