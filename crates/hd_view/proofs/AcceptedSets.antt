@@ -1,6 +1,6 @@
 -- The entries that are named are exactly those that a command may have.
 use Rattle.std.proofs.Common.{List, None, Option, Some, ap, arith, false, refl, subst, sym, true, ℕ, ⊎_elim, ◌+◌, ◌<◌, ◌∙◌, ◌≡◌, ◌≤◌}
-use Rattle.std.specs.Prelude.{Bool, IsSome, is_some}
+use Rattle.std.specs.Prelude.{Bool, IsSome, is_some, ◌≢◌}
 use Rattle.std.proofs.lemmas.Bool.{cases_lt, true≢false}
 use Rattle.std.proofs.lemmas.Option.{none-some, same_Some}
 use mathlib.Core.Logic.{inl, inr}
@@ -39,11 +39,14 @@ same_one n lists lines j k a b caller c e one =
 
 -- ---- the blocks of a growth
 
-abbrev is_zero : Grown → Bool
+abbrev pub is_zero : Grown → Bool
 is_zero Zero = true
 is_zero (One block) = false
 is_zero (Two block other) = false
 is_zero (Back block) = false
+
+pub some_growth : (g : Grown) → is_zero g ≡ false → g ≢ Zero
+some_growth g some zero = true≢false (sym (ap is_zero zero) ∙ some)
 
 -- there is one least block from a number on
 pub one_least : (n : Numbers) (s : State) (from a b : ℕ) → IsLeastUnused n s from a → IsLeastUnused n s from b
@@ -55,6 +58,26 @@ one_least n s from a b x y =
   where
     used : (block : ℕ) → IsLeastUnused n s from block → IsSome (use_of s block) → ⊥
     used block least some = true≢false (sym some ∙ ap is_some least.unused)
+
+-- two growths of one kind are the same, and give the same slot
+pub same_growth : (n : Numbers) (s : State) (kind : Kind) (g h : Grown) (a b : Slot) → MayGive n s kind g a
+    → MayGive n s kind h b → g ≢ Zero → h ≢ Zero → (g ≡ h) × (a ≡ b)
+same_growth n s kind Zero h a b x y some other = absurd (some refl)
+same_growth n s kind (One block) Zero a b x y some other = absurd (other refl)
+same_growth n s kind (Two block second) Zero a b x y some other = absurd (other refl)
+same_growth n s kind (Back block) h a b x y some other = absurd x
+same_growth n s kind (One block) (Back third) a b x y some other = absurd y
+same_growth n s kind (Two block second) (Back third) a b x y some other = absurd y
+same_growth n s kind (One block) (Two third second) a b x y some other = absurd (true≢false (sym y.0 ∙ x.0))
+same_growth n s kind (Two block second) (One third) a b x y some other = absurd (true≢false (sym x.0 ∙ y.0))
+same_growth n s kind (One block) (One third) a b x y some other =
+    let same : block ≡ third = one_least n s 1 block third x.1 y.1 in
+    (ap One same, x.2 ∙ ap first_slot same ∙ sym y.2)
+same_growth n s kind (Two block second) (Two third fourth) a b x y some other =
+    let same : block ≡ third = one_least n s 1 block third x.1 y.1 in
+    let next : second ≡ fourth =
+    one_least n s (third + 1) second fourth (subst (λ m. IsLeastUnused n s (m + 1) second) same x.2) y.2 in
+    (λ i. Two (same i) (next i), x.3 ∙ ap first_slot same ∙ sym y.3)
 
 module _ (k : Known) (kind : Kind) (caller : ℕ) (c : Cmd) where
   abbrev n : Numbers
@@ -70,72 +93,27 @@ module _ (k : Known) (kind : Kind) (caller : ℕ) (c : Cmd) where
     λ is. absurd (none-some e is),
   )
 
-  same_entry : (e : Entry) (block : ℕ) (grown : Grown) → e.caller ≡ caller → e.cmd ≡ c
-      → e.slot ≡ Some (first_slot block) → e.grown ≡ grown → e.reply ≡ reply.Done → grown_by caller c block grown ≡ e
-  same_entry e block grown by of slot grew replied = λ i. record {
-    caller = sym by i;
-    cmd = sym of i;
-    slot = sym slot i;
-    grown = sym grew i;
-    reply = sym replied i;
-  }
-
-  -- by one block
-  module _ (block : ℕ) (alone : is_paired kind ≡ false) (least : IsLeastUnused n s 1 block) where
-    one_there : (e : Entry) → e.caller ≡ caller → e.cmd ≡ c → (slot : Slot) → e.slot ≡ Some slot
-        → e.reply ≡ reply.Done → (grown : Grown) → e.grown ≡ grown → MayGive n s kind grown slot
-        → (grown ≡ Zero → ⊥) → grown_by caller c block (One block) ≡ e
-    one_there e by of slot has replied Zero grew may some = absurd (some refl)
-    one_there e by of slot has replied (One b) grew may some =
-        let same : b ≡ block = one_least n s 1 b block may.1 least in
-        same_entry e block (One block) by of (has ∙ ap Some (may.2 ∙ ap first_slot same)) (grew ∙ ap One same)
-        replied
-    one_there e by of slot has replied (Two b other) grew may some =
-        absurd (true≢false (sym may.0 ∙ alone))
-    one_there e by of slot has replied (Back b) grew may some = absurd may
-
-    pub grown_one : IsGrownOf k kind caller c (Some (grown_by caller c block (One block)))
-    grown_one = λ e by of. (
-      λ h. ap Some (one_there e by of h.0 h.1 h.3 e.grown refl h.2 h.4),
-      λ is. let same = same_Some (grown_by caller c block (One block)) e is in (
-        first_slot block,
-        ap (λ (x : Entry). x.slot) (sym same),
-        subst (λ g. MayGive n s kind g (first_slot block)) (ap (λ (x : Entry). x.grown) same)
-            (alone, least, refl),
-        ap (λ (x : Entry). x.reply) (sym same),
-        λ zero. true≢false (sym (ap is_zero (ap (λ (x : Entry). x.grown) same ∙ zero))),
-      ),
-    )
-
-  -- by two
-  module _ (block other : ℕ) (paired : is_paired kind ≡ true) (least : IsLeastUnused n s 1 block)
-      (second : IsLeastUnused n s (block + 1) other) where
-    two_there : (e : Entry) → e.caller ≡ caller → e.cmd ≡ c → (slot : Slot) → e.slot ≡ Some slot
-        → e.reply ≡ reply.Done → (grown : Grown) → e.grown ≡ grown → MayGive n s kind grown slot
-        → (grown ≡ Zero → ⊥) → grown_by caller c block (Two block other) ≡ e
-    two_there e by of slot has replied Zero grew may some = absurd (some refl)
-    two_there e by of slot has replied (One b) grew may some = absurd (true≢false (sym paired ∙ may.0))
-    two_there e by of slot has replied (Two b o) grew may some =
-        let same : b ≡ block = one_least n s 1 b block may.1 least in
-        let beside : o ≡ other =
-        one_least n s (block + 1) o other
-        (subst (λ x. IsLeastUnused n s (x + 1) o) same may.2) second in
-        same_entry e block (Two block other) by of (has ∙ ap Some (may.3 ∙ ap first_slot same))
-        (grew ∙ (λ i. Two (same i) (beside i))) replied
-    two_there e by of slot has replied (Back b) grew may some = absurd may
-
-    pub grown_two : IsGrownOf k kind caller c (Some (grown_by caller c block (Two block other)))
-    grown_two = λ e by of. (
-      λ h. ap Some (two_there e by of h.0 h.1 h.3 e.grown refl h.2 h.4),
-      λ is. let same = same_Some (grown_by caller c block (Two block other)) e is in (
-        first_slot block,
-        ap (λ (x : Entry). x.slot) (sym same),
-        subst (λ g. MayGive n s kind g (first_slot block)) (ap (λ (x : Entry). x.grown) same)
-            (paired, least, second, refl),
-        ap (λ (x : Entry). x.reply) (sym same),
-        λ zero. true≢false (sym (ap is_zero (ap (λ (x : Entry). x.grown) same ∙ zero))),
-      ),
-    )
+  -- where it can: one entry grows it
+  pub grown_some : (block : ℕ) (grown : Grown) → MayGive n s kind grown (first_slot block) → grown ≢ Zero
+      → IsGrownOf k kind caller c (Some (grown_by caller c block grown))
+  grown_some block grown may some = λ e by of. (
+    λ h.
+        let same = same_growth n s kind e.grown grown h.0 (first_slot block) h.2 may h.4 some in
+        ap Some (λ i. record {
+          caller = sym by i;
+          cmd = sym of i;
+          slot = sym (h.1 ∙ ap Some same.1) i;
+          grown = sym same.0 i;
+          reply = sym h.3 i;
+        }),
+    λ is. let same = same_Some (grown_by caller c block grown) e is in (
+      first_slot block,
+      ap (λ (x : Entry). x.slot) (sym same),
+      subst (λ g. MayGive n s kind g (first_slot block)) (ap (λ (x : Entry). x.grown) same) may,
+      ap (λ (x : Entry). x.reply) (sym same),
+      λ zero. some (ap (λ (x : Entry). x.grown) same ∙ zero),
+    ),
+  )
 
   -- ---- a full table
 
@@ -194,21 +172,9 @@ module _ (k : Known) (kind : Kind) (caller : ℕ) (c : Cmd) where
             replied,
           )
       by_growth e by of slot is may replied (One b) grew =
-          inr (inl ((grows e by of).0 (
-            slot,
-            is,
-            may,
-            replied,
-            λ zero. true≢false (sym (ap is_zero (sym grew ∙ zero))),
-          )))
+          inr (inl ((grows e by of).0 (slot, is, may, replied, some_growth e.grown (ap is_zero grew))))
       by_growth e by of slot is may replied (Two b other) grew =
-          inr (inl ((grows e by of).0 (
-            slot,
-            is,
-            may,
-            replied,
-            λ zero. true≢false (sym (ap is_zero (sym grew ∙ zero))),
-          )))
+          inr (inl ((grows e by of).0 (slot, is, may, replied, some_growth e.grown (ap is_zero grew))))
       by_growth e by of slot is may replied (Back b) grew =
           absurd (subst (λ g. MayGive n s kind g slot) grew may)
 

@@ -11,11 +11,11 @@ use Rattle.hd_model.specs.declared.data.Reply.TheVariants as reply
 use Rattle.hd_model.specs.declared.data.Slot.{Slot}
 use Rattle.hd_model.specs.State.{given_of}
 use Rattle.hd_model.specs.Step.{MayGive}
-use Rattle.hd_audit.specs.Before.{GivesBlock, TakesSlot, due_of}
+use Rattle.hd_audit.specs.Before.{GivesBlock, ReturnsFree, TakesSlot, due_of}
 use Rattle.hd_plain.specs.OneEntry.{HasExactly}
 use Rattle.hd_audit.specs.Known.{Known}
 use Rattle.hd_view.specs.Accepted.{IsEntryOf, IsNamed, IsSetOf}
-use Rattle.hd_view.specs.{Inside.IsAddressNext, Inside.IsBlockNext, Inside.IsDueOf, Inside.IsOnlyLike, Inside.IsSlotNext, Cause.IsNext}
+use Rattle.hd_view.specs.{Inside.IsAddressNext, Inside.IsBlockNext, Inside.IsDueOf, Inside.IsOnlyLike, Inside.IsSlotNext, Cause.DueHas, Cause.IsNext}
 use Rattle.hd_view.specs.Stated.{HasReply, Parts}
 use Rattle.hd_view.specs.declared.accepted.Accepted.TheVariants as accepted
 use Rattle.hd_view.specs.declared.accepted.Due.{Due}
@@ -38,6 +38,13 @@ module _ (k : Known) (p : Parts) (due : Due) (of : IsDueOf k p due) (P : Entry �
         after = step.0;
         step = step.1;
       }
+
+  pub due_has : DueHas k p P
+  due_has = (
+    due.cmd,
+    ap (due_of k) (sym of.caller) ∙ of.is_due.due_is,
+    subst (λ caller. HasExactly k.numbers k.state caller due.cmd P) of.caller exactly,
+  )
 
 -- a new row
 module _ (k : Known) (p : Parts) (due : Due) (of : IsDueOf k p due) (kind : Kind) (free : NumberSet)
@@ -74,7 +81,9 @@ module _ (k : Known) (p : Parts) (due : Due) (of : IsDueOf k p due) (kind : Kind
   pub slot_next : ((entry : Entry) → full ≡ Some entry → HasReply p.tail entry.reply → ⊥)
       → IsSlotNext k p kind
   slot_next none = record {
+    sound = of.sound;
     number = number_is k p due of;
+    due = due_has k p due of (TakesSlot k.numbers k.state kind) own.0;
     each = λ e next has. by e next has (by_row e next);
     next = λ slot grew may.
         let e : Entry =
@@ -95,9 +104,10 @@ module _ (k : Known) (p : Parts) (due : Due) (of : IsDueOf k p due) (kind : Kind
 
 -- an address
 pub address_next : (k : Known) (p : Parts) (due : Due) → IsDueOf k p due → (id : Id) (free : NumberSet)
-    → due.accepted ≡ accepted.Addresses id free → IsAddressNext k p free
+    → due.accepted ≡ accepted.Addresses id free → IsAddressNext k p id free
 address_next k p due of id free is = record {
   number = number_is k p due of;
+  due = due_has k p due of (ReturnsFree k.state id) (subst (λ a. IsSetOf k due.caller due.cmd a) is of.is_due.own);
   each = λ e next. subst (λ a. IsNamed a e) is (next_named k p due of e next);
   next = λ address member.
       let e : Entry = record {
@@ -124,6 +134,7 @@ pub block_next : (k : Known) (p : Parts) (due : Due) → IsDueOf k p due → (ki
     → due.accepted ≡ accepted.Blocks kind free → IsBlockNext k p kind
 block_next k p due of kind free is = record {
   number = number_is k p due of;
+  due = due_has k p due of (GivesBlock k.state kind) own;
   each = λ e next. next_is k p due of (GivesBlock k.state kind) own e next;
   none = (
     value_entry due 0 Zero,

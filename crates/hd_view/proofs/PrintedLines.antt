@@ -1,15 +1,17 @@
 -- A line as it is shown.
 use Rattle.std.proofs.Common.{Bool, List, None, Some, [], ap, append_assoc, arith, cond, false, get_or, length, ltb, ltb-false, refl, sym, take, true, ℕ, ◌++◌, ◌==◌, ◌∙◌, ◌∷◌, ◌≡◌}
-use Rattle.std.specs.Prelude.{codes, if◌then◌else◌}
+use Rattle.std.specs.Prelude.{codes, decimal, if◌then◌else◌}
 use Rattle.std.proofs.lemmas.Bool.{eq-eqb}
 use Rattle.std.proofs.lemmas.List.{take_all}
 use Rattle.std.proofs.lemmas.Option.{none-some, same_Some}
 use Rattle.std.specs.List.{position, position_or_len}
+use Rattle.hd_model.specs.declared.data.Kind.{Kind}
 use Rattle.hd_model.specs.Grammar.{is_line_end}
+use Rattle.hd_model.specs.Step.{blocks_needed}
 use Rattle.hd_model.specs.Text.{newline}
 use Rattle.hd_audit.specs.Before.{end_after}
 use Rattle.hd_audit.specs.Known.{Known}
-use Rattle.hd_view.specs.WhyText.{end_text, line_bytes, number_in}
+use Rattle.hd_view.specs.WhyText.{end_text, handle_words, line_bytes, number_in, too_few_words}
 use Rattle.hd_view.specs.declared.sets.Range.{Range}
 
 abbrev end_at : List ℕ → ℕ
@@ -54,3 +56,16 @@ end_appended k old one two line first second is going none =
     shown : end_text k ≡ codes "due end" ++ newline ++ codes "accepts " ++ end_after k
     shown = λ i. if going i then codes "due nothing" ++ newline
         else (if eq-eqb k.left 0 none i then codes "due end" ++ newline ++ codes "accepts " ++ end_after k else [])
+
+-- that blocks are too few, piece by piece
+pub too_few_appended : (unused n : ℕ) (kind : Kind) (old one two new words : List ℕ)
+    → one ≡ old ++ (codes "too few blocks are unused: " ++ decimal unused ++ codes ", and ")
+    → two ≡ one ++ words → words ≡ handle_words kind → new ≡ two ++ (codes " needs " ++ decimal n)
+    → n ≡ blocks_needed kind → new ≡ old ++ too_few_words unused kind
+too_few_appended unused n kind old one two new words first second is third needed =
+    let begin : List ℕ = codes "too few blocks are unused: " ++ decimal unused ++ codes ", and " in
+    let end : List ℕ = codes " needs " ++ decimal (blocks_needed kind) in
+    third ∙ (λ i. two ++ (codes " needs " ++ decimal (needed i)))
+    ∙ ap (λ (t : List ℕ). t ++ end) (second ∙ (λ i. first i ++ is i))
+    ∙ ap (λ (t : List ℕ). t ++ end) (append_assoc old begin (handle_words kind))
+    ∙ append_assoc old (begin ++ handle_words kind) end

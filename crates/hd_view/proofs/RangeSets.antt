@@ -5,6 +5,7 @@ use mathlib.Core.Logic.{inl, inr}
 use Rattle.std.proofs.lemmas.Bool.{cases_lt}
 use Rattle.std.proofs.lemmas.List.{take_more}
 use Rattle.hd_view.specs.Sets.{IsIn}
+use Rattle.hd_view.specs.Inside.{Adds, Between}
 use Rattle.hd_view.specs.declared.sets.Range.{Range}
 
 -- in ranges and one more
@@ -59,15 +60,15 @@ module _ (r s : Range) (first last : ℕ) (x : ℕ) (begins : r.first ≤ first)
 -- ---- as a call adds a range
 
 -- lists that are these
-pub more_in : (old new : List Range) (r : Range) → new ≡ old ++ r ∷ [] → (x : ℕ)
-    → IsIn new x ↔ (IsIn old x ⊎ ((r.first ≤ x) × (x ≤ r.last)))
+pub more_in : (old new : List Range) (r : Range) → new ≡ old ++ r ∷ []
+    → Adds old new (λ x. (r.first ≤ x) × (x ≤ r.last))
 more_in old new r is x =
     subst (λ (l : List Range). IsIn l x ↔ (IsIn old x ⊎ ((r.first ≤ x) × (x ≤ r.last)))) (sym is)
     (in_more old r x)
 
 pub longer_in : (old rest new : List Range) (r s : Range) (first last : ℕ) → old ≡ rest ++ r ∷ []
     → r.first ≤ first → first ≤ r.last + 1 → s ≡ record { first = r.first; last = max r.last last }
-    → new ≡ rest ++ s ∷ [] → (x : ℕ) → IsIn new x ↔ (IsIn old x ⊎ ((first ≤ x) × (x ≤ last)))
+    → new ≡ rest ++ s ∷ [] → Adds old new (λ x. (first ≤ x) × (x ≤ last))
 longer_in old rest new r s first last old_is begins meets is new_is x =
     subst (λ (l : List Range). IsIn l x ↔ (IsIn old x ⊎ ((first ≤ x) × (x ≤ last)))) (sym new_is)
     (subst (λ (l : List Range). IsIn (rest ++ s ∷ []) x ↔ (IsIn l x ⊎ ((first ≤ x) × (x ≤ last))))
@@ -84,9 +85,40 @@ longer_in old rest new r s first last old_is begins meets is new_is x =
 
 -- a range that was taken off is put back, and another behind it
 pub behind_in : (old rest again new : List Range) (r s : Range) → old ≡ rest ++ r ∷ [] → again ≡ rest ++ r ∷ []
-    → new ≡ again ++ s ∷ [] → (x : ℕ) → IsIn new x ↔ (IsIn old x ⊎ ((s.first ≤ x) × (x ≤ s.last)))
+    → new ≡ again ++ s ∷ [] → Adds old new (λ x. (s.first ≤ x) × (x ≤ s.last))
 behind_in old rest again new r s old_is again_is new_is =
     more_in old new s (new_is ∙ ap (λ (l : List Range). l ++ s ∷ []) (again_is ∙ sym old_is))
+
+pub adds_nothing : (ranges : List Range) → Adds ranges ranges (λ _. ⊥)
+adds_nothing ranges x = (λ i. inl i, λ i. ⊎_elim (λ o. o) (λ none. absurd none) i)
+
+-- ---- numbers that pass a test, one after another
+
+module _ (P : ℕ → Type 0) (n : ℕ) (old : List Range) where
+  pub passes : P n → (new : List Range) → Adds old new (λ x. (n ≤ x) × (x ≤ n))
+      → Adds old new (λ x. (x ≡ n) × P x)
+  passes holds new adds x = (
+    λ i. ⊎_elim (λ o. inl o)
+        (λ h. let at : n ≡ x = omega (arith, h.0, h.1) in inr (sym at, subst P at holds)) ((adds x).0 i),
+    λ i. (adds x).1 (⊎_elim (λ o. inl o) (λ h. inr (omega (arith, h.0), omega (arith, h.0))) i),
+  )
+
+  pub fails : (P n → ⊥) → Adds old old (λ x. (x ≡ n) × P x)
+  fails none x = (λ i. inl i, λ i. ⊎_elim (λ o. o) (λ h. absurd (none (subst P h.0 h.1))) i)
+
+  pub each_none : Adds old old (Between n n P)
+  each_none x = (λ i. inl i, λ i. ⊎_elim (λ o. o) (λ h. absurd (omega (arith, h.0, h.1))) i)
+
+  pub each_more : (first : ℕ) (start new : List Range) → first ≤ n → Adds start old (Between first n P)
+      → Adds old new (λ x. (x ≡ n) × P x) → Adds start new (Between first (n + 1) P)
+  each_more first start new low before adds x = (
+    λ i. ⊎_elim
+        (λ o. ⊎_elim (λ s. inl s) (λ h. inr (h.0, omega (arith, h.1), h.2)) ((before x).0 o))
+        (λ h. inr (omega (arith, low, h.0), omega (arith, h.0), h.1)) ((adds x).0 i),
+    λ i. (adds x).1 (⊎_elim (λ s. inl ((before x).1 (inl s)))
+        (λ h. ⊎_elim (λ less. inl ((before x).1 (inr (h.0, less, h.2))))
+        (λ past. inr (omega (arith, past, h.1), h.2)) (cases_lt x n)) i),
+  )
 
 -- ---- a search for a range that has a number
 

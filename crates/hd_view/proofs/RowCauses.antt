@@ -1,5 +1,5 @@
 -- The causes by a slot, by an address and by blocks.
-use Rattle.std.proofs.Common.{None, Option, Some, ap, arith, eqb, false, is_some, refl, subst, sym, true, ℕ, ◌%◌, ◌*◌, ◌+◌, ◌/◌, ◌∙◌, ◌≡◌, ◌≤◌, ◌⊎◌}
+use Rattle.std.proofs.Common.{None, Option, Some, ap, arith, cond, eqb, false, is_some, refl, subst, sym, true, ℕ, ◌%◌, ◌*◌, ◌+◌, ◌-◌, ◌/◌, ◌^◌, ◌<◌, ◌∙◌, ◌≡◌, ◌≤◌, ◌⊎◌}
 use Rattle.std.specs.Prelude.{Bool, IsSome, ◌↔◌, ◌≢◌}
 use mathlib.Core.Logic.{inl, inr}
 use Rattle.std.specs.FinMap.{get}
@@ -8,23 +8,30 @@ use Rattle.std.proofs.lemmas.Option.{none-some, same_Some}
 use Rattle.hd_model.specs.declared.data.Entry.{Entry}
 use Rattle.hd_model.specs.declared.data.Grown.{Grown}
 use Rattle.hd_model.specs.declared.data.Grown.TheVariants.{Back, One, Two, Zero}
+use Rattle.hd_model.specs.declared.data.Id.{Id}
 use Rattle.hd_model.specs.declared.data.Kind.{Kind}
 use Rattle.hd_model.specs.declared.data.Reply.TheVariants as reply
 use Rattle.hd_model.specs.declared.data.Slot.{Slot}
 use Rattle.hd_model.specs.declared.limits.TheConstants.{ROWS}
 use Rattle.hd_model.specs.Kinds.{is_paired}
-use Rattle.hd_model.specs.State.{IsAllFree, IsFree, State, block_of, first_slot, handle_at, handles_of, use_of}
-use Rattle.hd_model.specs.Step.{IsLeastUnused, MayGive}
+use Rattle.hd_model.specs.State.{IsAllFree, IsFree, Numbers, State, block_of, extra_data, first_slot, given_of, handle_at, handles_of, use_of, with_use}
+use Rattle.hd_model.specs.Step.{IsLeastUnused, MayGive, blocks_needed}
+use Rattle.hd_model.specs.WellFormed.{IsWellFormed}
+use Rattle.hd_model.proofs.LeastGrowth.{room}
+use Rattle.hd_model.proofs.ReadAfterWrite.{get_beside, len_new}
+use Rattle.hd_model.proofs.WellFormedWrites.{use_keeps}
 use Rattle.hd_audit.specs.Before.{GivesBlock}
 use Rattle.hd_audit.specs.Known.{Known}
-use Rattle.hd_view.specs.{Cause.EachLike, Cause.IsStated, Inside.Explains, Inside.IsAddressNext, Inside.IsBlockNext, Inside.IsGrowing, Inside.IsOnlyLike, Inside.IsSlotNext}
+use Rattle.hd_view.specs.{Cause.EachLike, Cause.FitsKind, Cause.IsLeastOf, Cause.IsNoneOfDue, Cause.IsNotGiven, Cause.IsOtherGrowth, Cause.IsStated, Cause.first_stated, Inside.Explains, Inside.IsAddressNext, Inside.IsBlockNext, Inside.IsGrowing, Inside.IsOnlyLike, Inside.IsSlotNext}
 use Rattle.hd_view.specs.Sets.{IsMember}
 use Rattle.hd_view.specs.Stated.{HasReply, Parts, begins}
 use Rattle.hd_view.specs.declared.cause.BlockCause.TheVariants as by_blocks
+use Rattle.hd_view.specs.declared.cause.Growth.{Growth}
+use Rattle.hd_view.specs.declared.cause.Growth.TheVariants as which
 use Rattle.hd_view.specs.declared.cause.Cause.TheVariants as cause
 use Rattle.hd_view.specs.declared.cause.SlotCause.TheVariants as by_slot
 use Rattle.hd_view.specs.declared.sets.NumberSet.{NumberSet}
-use Rattle.hd_view.proofs.AcceptedSets.{one_least}
+use Rattle.hd_view.proofs.AcceptedSets.{one_least, same_growth}
 use Rattle.hd_view.proofs.CauseFacts.{reads_as}
 use Rattle.hd_view.proofs.ReplyWords.{address_begins, values_apart}
 use Rattle.std.specs.Prelude.{codes}
@@ -38,6 +45,12 @@ is_back Zero = false
 is_back (One block) = false
 is_back (Two block other) = false
 is_back (Back block) = true
+
+abbrev given_back : Grown → ℕ
+given_back Zero = 0
+given_back (One block) = 0
+given_back (Two block other) = 0
+given_back (Back block) = block
 
 pub is_there : {A : Type 0} (o : Option A) → is_some o ≡ true → o ≢ None
 is_there o some none = true≢false (sym some ∙ ap is_some none)
@@ -102,9 +115,46 @@ module _ (k : Known) (block : ℕ) where
   none_least all least =
       true≢false (sym (all block least.low least.high) ∙ ap is_some least.unused)
 
+-- ---- too few blocks
+
+needed_some : (b : Bool) → 1 ≤ cond b 2 1
+needed_some true = omega arith
+needed_some false = omega arith
+
+-- a table that grows has as many blocks without a use as it grows by
+no_room : (n : Numbers) (s : State) (kind : Kind) (g : Grown) (slot : Slot) → IsWellFormed n s
+    → MayGive n s kind g slot → g ≢ Zero → n.blocks < given_of s + blocks_needed kind → ⊥
+no_room n s kind Zero slot sound may some few = some refl
+no_room n s kind (One block) slot sound may some few =
+    let fits = room n s block sound may.1.unused may.1.low may.1.high in
+    let needed : blocks_needed kind ≡ 1 = ap (λ b. cond b 2 1) may.0 in
+    omega (arith, fits, needed, few)
+no_room n s kind (Two block other) slot sound may some few =
+    let low : block + 1 ≤ other = may.2.low in
+    let apart : other ≢ block = omega (arith, low) in
+    let grown = use_keeps n s sound block extra_data may.1.unused may.1.low may.1.high in
+    let more = len_new s.blocks block extra_data may.1.unused in
+    let fits = room n (with_use s block extra_data) other grown
+    (get_beside s.blocks block extra_data other apart ∙ may.2.unused) (omega (arith, low)) may.2.high in
+    let needed : blocks_needed kind ≡ 2 = ap (λ b. cond b 2 1) may.0 in
+    omega (arith, fits, needed, few, more)
+no_room n s kind (Back block) slot sound may some few = may
+
 -- ---- by a slot
 
 module _ (k : Known) (p : Parts) (kind : Kind) (next : IsSlotNext k p kind) where
+  pub too_few : p.grown ≢ Zero → k.numbers.blocks < given_of k.state + blocks_needed kind
+      → Explains k p (cause.Blocks (by_blocks.TooFew (k.numbers.blocks - given_of k.state) kind))
+  too_few some few = λ line is wrong. (
+    next.due,
+    refl,
+    (let needed = needed_some (is_paired kind) in omega (arith, few, needed)),
+    some,
+    λ e may has same.
+        let each = next.each e may has in
+        no_room k.numbers k.state kind e.grown each.0 next.sound each.2 (λ zero. some (sym same ∙ zero)) few,
+  )
+
   -- a slot that may be given with these blocks
   pub given_reads : (slot : Slot) (grown : Grown) → p.slot ≡ Some slot → p.grown ≡ grown
       → MayGive k.numbers k.state kind grown slot → Explains k p cause.Spelled
@@ -129,6 +179,29 @@ module _ (k : Known) (p : Parts) (kind : Kind) (next : IsSlotNext k p kind) wher
       let each = next.each e may has in
       none each.0 (subst (λ g. MayGive k.numbers k.state kind g each.0) same each.2)
 
+  -- no entry has the slot without growth, where it is not free
+  pub no_entry : (slot : Slot) → p.slot ≡ Some slot → p.grown ≡ Zero → (IsFree k.state kind slot → ⊥)
+      → IsNoneOfDue k p slot
+  no_entry slot slot_is zero taken = record {
+    stated = slot_is;
+    none = λ e may has its grown.
+        let each = next.each e may has in
+        taken (subst (λ s. IsFree k.state kind s) (same_Some each.0 slot (sym each.1 ∙ its))
+        (subst (λ g. MayGive k.numbers k.state kind g each.0) (grown ∙ zero) each.2));
+  }
+
+  -- no entry has the blocks that the line states, which are as many as the kind needs
+  pub other_growth : FitsKind p.grown kind → ((slot : Slot) → MayGive k.numbers k.state kind p.grown slot → ⊥)
+      → IsOtherGrowth k p
+  other_growth fits none = record {
+    kind = kind;
+    due = next.due;
+    fits = fits;
+    none = λ e may has same.
+        let each = next.each e may has in
+        none each.0 (subst (λ g. MayGive k.numbers k.state kind g each.0) same each.2);
+  }
+
 pub kind_differs : (s : State) (kind : Kind) (slot : Slot) → (IsFree s kind slot → ⊥)
     → (IsSome (handle_at s slot) ⊎ IsSome (get s.weak slot.0) → ⊥)
     → use_of s (block_of slot) ≢ Some (handles_of kind)
@@ -142,30 +215,12 @@ kind_differs s kind slot taken unused of =
 -- by one block, and by two
 module _ (k : Known) (p : Parts) (kind : Kind) (slot : Slot) (next : IsSlotNext k p kind)
     (slot_is : p.slot ≡ Some slot) where
-  abbrev Gives : Grown → ℕ → Type 0
-  Gives grown new = MayGive k.numbers k.state kind grown (first_slot new)
-
-  growing : (grown : Grown) → p.grown ≡ grown → (block from new : ℕ) → IsStated grown block → IsStated grown new
-      → (IsLeastUnused k.numbers k.state from block → Gives grown new)
-      → IsGrowing k p kind block from slot new
-  growing grown is block from new stated is_new gives = record {
-    next = next;
-    slot_is = slot_is;
-    stated = subst (λ g. IsStated g block) (sym is) stated;
-    is_new = subst (λ g. IsStated g new) (sym is) is_new;
-    gives = λ least. subst (λ g. Gives g new) (sym is) (gives least);
-  }
-
   pub one_paired : (block : ℕ) → p.grown ≡ One block → is_paired kind ≡ true
       → Explains k p (cause.Blocks by_blocks.Other)
   one_paired block is paired =
       other_blocks k p kind next
       (λ slot may. let its = subst (λ g. MayGive k.numbers k.state kind g slot) is may in
       true≢false (sym paired ∙ its.0))
-
-  pub one_growing : (block : ℕ) → p.grown ≡ One block → is_paired kind ≡ false
-      → IsGrowing k p kind block 1 slot block
-  one_growing block is alone = growing (One block) is block 1 block refl refl (λ least. (alone, least, refl))
 
   pub two_alone : (block other : ℕ) → p.grown ≡ Two block other → is_paired kind ≡ false
       → Explains k p (cause.Blocks by_blocks.Other)
@@ -174,30 +229,94 @@ module _ (k : Known) (p : Parts) (kind : Kind) (slot : Slot) (next : IsSlotNext 
       (λ slot may. let its = subst (λ g. MayGive k.numbers k.state kind g slot) is may in
       true≢false (sym its.0 ∙ alone))
 
-  pub two_growing : (block other : ℕ) → p.grown ≡ Two block other → is_paired kind ≡ true
-      → IsLeastUnused k.numbers k.state 1 block → IsGrowing k p kind other (block + 1) slot block
-  two_growing block other is paired least =
-      growing (Two block other) is other (block + 1) block (inr refl) (inl refl)
-      (λ second. (paired, least, second, refl))
+  -- a stated block that has a use
+  pub one_in_use : (block : ℕ) → p.grown ≡ One block → is_paired kind ≡ false → IsSome (use_of k.state block)
+      → Explains k p (cause.Blocks (by_blocks.InUse block))
+  one_in_use block is alone some = λ line right wrong. (
+    subst (λ g. IsStated g block) (sym is) refl,
+    some,
+    other_growth k p kind next (subst (λ g. FitsKind g kind) (sym is) alone) (λ slot may.
+        let its = subst (λ g. MayGive k.numbers k.state kind g slot) is may in
+        true≢false (sym some ∙ ap is_some its.1.unused)),
+  )
 
-  pub two_not_least : (block other : ℕ) → p.grown ≡ Two block other
-      → (IsLeastUnused k.numbers k.state 1 block → ⊥) → IsGrowing k p kind block 1 slot block
-  two_not_least block other is none =
-      growing (Two block other) is block 1 block (inl refl) (inl refl) (λ least. absurd (none least))
+  pub first_in_use : (block other : ℕ) → p.grown ≡ Two block other → is_paired kind ≡ true
+      → IsSome (use_of k.state block) → Explains k p (cause.Blocks (by_blocks.InUse block))
+  first_in_use block other is paired some = λ line right wrong. (
+    subst (λ g. IsStated g block) (sym is) (inl refl),
+    some,
+    other_growth k p kind next (subst (λ g. FitsKind g kind) (sym is) paired) (λ slot may.
+        let its = subst (λ g. MayGive k.numbers k.state kind g slot) is may in
+        true≢false (sym some ∙ ap is_some its.1.unused)),
+  )
+
+  pub second_in_use : (block other : ℕ) → p.grown ≡ Two block other → is_paired kind ≡ true
+      → IsSome (use_of k.state other) → Explains k p (cause.Blocks (by_blocks.InUse other))
+  second_in_use block other is paired some = λ line right wrong. (
+    subst (λ g. IsStated g other) (sym is) (inr refl),
+    some,
+    other_growth k p kind next (subst (λ g. FitsKind g kind) (sym is) paired) (λ slot may.
+        let its = subst (λ g. MayGive k.numbers k.state kind g slot) is may in
+        true≢false (sym some ∙ ap is_some its.2.unused)),
+  )
+
+  -- a stated block that is looked at
+  pub one_growing : (block : ℕ) → p.grown ≡ One block → is_paired kind ≡ false
+      → IsGrowing k p kind which.Only block 1 slot block
+  one_growing block is alone = record {
+    next = next;
+    fits = subst (λ g. FitsKind g kind) (sym is) alone;
+    slot_is = slot_is;
+    new_is = ap first_stated is;
+    wants = λ s may. (subst (λ g. MayGive k.numbers k.state kind g s) is may).1;
+    other = λ least its differs. subst (λ g. IsLeastOf k g which.Only least) (sym is) (its, differs);
+    gives = λ least.
+        subst (λ g. MayGive k.numbers k.state kind g (first_slot block)) (sym is) (alone, least, refl);
+  }
+
+  pub first_growing : (block other : ℕ) → p.grown ≡ Two block other → is_paired kind ≡ true
+      → (IsLeastUnused k.numbers k.state 1 block → ⊥) → IsGrowing k p kind which.First block 1 slot block
+  first_growing block other is paired none = record {
+    next = next;
+    fits = subst (λ g. FitsKind g kind) (sym is) paired;
+    slot_is = slot_is;
+    new_is = ap first_stated is;
+    wants = λ s may. (subst (λ g. MayGive k.numbers k.state kind g s) is may).1;
+    other = λ least its differs. subst (λ g. IsLeastOf k g which.First least) (sym is) (its, differs);
+    gives = λ least. absurd (none least);
+  }
+
+  pub second_growing : (block other : ℕ) → p.grown ≡ Two block other → is_paired kind ≡ true
+      → IsLeastUnused k.numbers k.state 1 block
+      → IsGrowing k p kind which.Second other (block + 1) slot block
+  second_growing block other is paired first = record {
+    next = next;
+    fits = subst (λ g. FitsKind g kind) (sym is) paired;
+    slot_is = slot_is;
+    new_is = ap first_stated is;
+    wants = λ s may. (subst (λ g. MayGive k.numbers k.state kind g s) is may).2;
+    other = λ least its differs. subst (λ g. IsLeastOf k g which.Second least) (sym is) (first, its, differs);
+    gives = λ second.
+        subst (λ g. MayGive k.numbers k.state kind g (first_slot block)) (sym is) (paired, first, second, refl);
+  }
 
 -- the blocks of a growth
-module _ (k : Known) (p : Parts) (kind : Kind) (block from : ℕ) (slot : Slot) (new : ℕ)
-    (g : IsGrowing k p kind block from slot new) where
-  pub block_in_use : IsSome (use_of k.state block) → Explains k p (cause.Blocks (by_blocks.InUse block))
-  block_in_use some = λ line is wrong. (g.stated, some)
+module _ (k : Known) (p : Parts) (kind : Kind) (growth : Growth) (block from : ℕ) (slot : Slot) (new : ℕ)
+    (g : IsGrowing k p kind growth block from slot new) where
+  pub none_left : ((b : ℕ) → from ≤ b → b ≤ k.numbers.blocks → IsSome (use_of k.state b))
+      → Explains k p (cause.Blocks by_blocks.Other)
+  none_left all =
+      other_blocks k p kind g.next
+      (λ s may. let least = g.wants s may in
+      true≢false (sym (all block least.low least.high) ∙ ap is_some least.unused))
 
-  pub none_unused : ((b : ℕ) → from ≤ b → b ≤ k.numbers.blocks → IsSome (use_of k.state b))
-      → Explains k p (cause.Blocks by_blocks.NoneUnused)
-  none_unused all = λ line is wrong. (from, all)
-
-  pub not_least : (least : ℕ) → IsLeastUnused k.numbers k.state from least → least ≢ block
-      → Explains k p (cause.Blocks (by_blocks.NotLeast least))
-  not_least least its differs = λ line is wrong. (from, its, (block, g.stated, λ same. differs (sym same)))
+  pub not_least : (least : ℕ) → IsLeastUnused k.numbers k.state from least → block ≢ least
+      → Explains k p (cause.Blocks (by_blocks.NotLeast growth least))
+  not_least least its differs = λ line is wrong. (
+    g.other least its differs,
+    other_growth k p kind g.next g.fits (λ s may.
+        differs (one_least k.numbers k.state from block least (g.wants s may) its)),
+  )
 
   pub first_reads : IsLeastUnused k.numbers k.state from block → slot ≡ first_slot new
       → Explains k p cause.Spelled
@@ -205,29 +324,46 @@ module _ (k : Known) (p : Parts) (kind : Kind) (block from : ℕ) (slot : Slot) 
       given_reads k p kind g.next slot p.grown g.slot_is refl
       (subst (λ (s : Slot). MayGive k.numbers k.state kind p.grown s) (sym same) (g.gives least))
 
-  pub not_first : (slot ≡ first_slot new → ⊥) → Explains k p (cause.Slot (by_slot.NotFirst new))
-  not_first differs = λ line is wrong. (
-    g.is_new,
-    λ same. differs (same_Some slot (first_slot new) (sym g.slot_is ∙ same)),
-  )
+  pub not_first : IsLeastUnused k.numbers k.state from block → (slot ≡ first_slot new → ⊥)
+      → Explains k p (cause.Slot (by_slot.NotFirst new))
+  not_first least differs = λ line is wrong. record {
+    growth = λ e may has grown.
+        let each = g.next.each e may has in
+        (same_growth k.numbers k.state kind e.grown p.grown each.0 (first_slot new) each.2 (g.gives least) grown
+        (λ zero. none-some new (sym (ap first_stated zero) ∙ g.new_is))).0;
+    first = g.new_is;
+    other = λ same. differs (same_Some slot (first_slot new) (sym g.slot_is ∙ same));
+  }
 
 -- ---- by an address
 
-module _ (k : Known) (p : Parts) (free : NumberSet) (next : IsAddressNext k p free) where
+module _ (k : Known) (p : Parts) (id : Id) (free : NumberSet) (next : IsAddressNext k p id free) where
   pub no_address : (begins p.tail (codes "addr ") ≡ true → ⊥) → Explains k p cause.Reply
   no_address none = λ line is wrong e may has.
       let each = next.each e may in
       none (address_begins p.tail each.0 (subst (λ r. HasReply p.tail r) each.2 has))
 
-  pub address_taken : (IsMember free p.address → ⊥) → Explains k p (cause.AddressTaken p.address)
-  address_taken none = λ line is wrong. (
-    refl,
-    λ e may same.
-        let each = next.each e may in
-        let both : reply.Place each.0 ≡ reply.Place p.address = sym each.2 ∙ same in
+  pub address_taken : p.address < 2 ^ 32 → (IsMember free p.address → ⊥)
+      → Explains k p (cause.AddressTaken p.address)
+  address_taken small none = λ line is wrong. record {
+    stated = refl;
+    small = small;
+    object = id;
+    due = next.due;
+    taken = λ free_at.
+        let e : Entry = record {
+          caller = p.caller;
+          cmd = next.due.0;
+          slot = None;
+          grown = Zero;
+          reply = reply.Place p.address;
+        } in
+        let step = (next.due.2 e refl refl).1 (p.address, free_at, refl, refl, refl) in
+        let each = next.each e (record { caller = refl; due = next.due.1; after = step.0; step = step.1 }) in
+        let both : reply.Place each.0 ≡ reply.Place p.address = sym each.2 in
         let at : each.0 ≡ p.address = cc in
-        none (subst (IsMember free) at each.1),
-  )
+        none (subst (IsMember free) at each.1);
+  }
 
   pub address_slot : p.slot ≢ None → Explains k p (cause.Slot by_slot.Needless)
   address_slot some = λ line is wrong. (some, λ e may has. (next.each e may).3)
@@ -243,6 +379,15 @@ module _ (k : Known) (p : Parts) (free : NumberSet) (next : IsAddressNext k p fr
 -- ---- by a block that is given back
 
 module _ (k : Known) (p : Parts) (kind : Kind) (next : IsBlockNext k p kind) where
+  pub not_given : (block : ℕ) → p.grown ≡ Back block → (IsAllFree k.state kind block → ⊥)
+      → IsNotGiven k p block kind
+  not_given block is taken =
+      record { stated = is; due = next.due; none = λ e may has same. by e same (next.each e may) }
+    where
+      by : (e : Entry) → e.grown ≡ Back block → GivesBlock k.state kind e → ⊥
+      by e same (inl b) = taken (subst (IsAllFree k.state kind) (ap given_back (sym b.4 ∙ same)) b.1)
+      by e same (inr none) = true≢false (sym (ap is_back same) ∙ ap is_back none.2)
+
   pub no_value_reply : (HasReply p.tail (reply.Value 0) → ⊥) → (HasReply p.tail (reply.Value 1) → ⊥)
       → Explains k p cause.Reply
   no_value_reply zero one = λ line is wrong e may has. by e has (next.each e may)
@@ -294,6 +439,3 @@ module _ (k : Known) (p : Parts) (kind : Kind) (next : IsBlockNext k p kind) whe
     back_reads block free none grown =
         let found = next.next block free in
         reads_as k p found.0 found.1 next.number (none ∙ sym found.2) (grown ∙ sym found.3)
-
-pub states_back : (p : Parts) (block : ℕ) → p.grown ≡ Back block → IsStated p.grown block
-states_back p block is = subst (λ g. IsStated g block) (sym is) refl

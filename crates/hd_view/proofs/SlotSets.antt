@@ -13,7 +13,7 @@ use Rattle.hd_model.specs.declared.limits.TheConstants.{ROWS}
 use Rattle.hd_model.specs.Kinds.{is_kind, kind_number}
 use Rattle.hd_model.specs.State.{BlockUse, Handle, IsFree, State, WeakEntry, block_of, extra_data, handle_at, handles_of, use_of}
 use Rattle.hd_model.proofs.KindTests.{same_kind}
-use Rattle.hd_view.specs.Inside.{CoversTo, IsSlotOf, IsThatSlot}
+use Rattle.hd_view.specs.Inside.{Adds, Between, CoversTo, IsFreeAs}
 use Rattle.hd_view.specs.{Inside.Has, Sets.IsIn, Sets.IsMember}
 use Rattle.hd_view.specs.declared.sets.NumberSet.{NumberSet}
 use Rattle.hd_view.specs.declared.sets.Range.{Range}
@@ -54,134 +54,22 @@ free_or_not s kind slot = by (handle_at s slot) refl (get s.weak slot.0) refl
         ⊎_elim (λ u. inl (record { no_handle = e; not_weak = g; of_kind = u }))
         (λ none. inr (λ f. none f.of_kind)) (use_cases (use_of s (block_of slot)) kind)
 
--- two tests that hold together are the same
-same_tests : (a b : Bool) → (a ≡ true → b ≡ true) → (b ≡ true → a ≡ true) → a ≡ b
-same_tests true true f g = refl
-same_tests true false f g = absurd (true≢false (sym (f refl)))
-same_tests false true f g = absurd (true≢false (sym (g refl)))
-same_tests false false f g = refl
-
-pub same_by : (a b : Bool) → beq a b ≡ true → a ≡ b
-same_by true true e = refl
-same_by true false e = absurd (true≢false (sym e))
-same_by false true e = absurd (true≢false (sym e))
-same_by false false e = refl
-
-pub differ_by : (a b : Bool) → beq a b ≡ false → a ≡ b → ⊥
-differ_by true true e same = true≢false e
-differ_by true false e same = true≢false same
-differ_by false true e same = true≢false (sym same)
-differ_by false false e same = true≢false e
-
--- the slots of a block up to a row, which are free or are not
-pub record IsSlotTo (s : State) (kind : Kind) (first row : ℕ) (wanted : Bool) (x : ℕ) : Type 0 where
-  pub low : first ≤ x
-  pub high : x < first + row
-  pub free : IsFree s kind (record { 0 = x }) ↔ (wanted ≡ true)
-
-module _ (s : State) (kind : Kind) (first : ℕ) (wanted : Bool) where
-  none_to : (x : ℕ) → IsSlotTo s kind first 0 wanted x → ⊥
-  none_to x h = let low = h.low in let high = h.high in omega (arith, low, high)
-
-  -- one row more
-  module _ (row x : ℕ) where
-    pub more_to : IsSlotTo s kind first (row + 1) wanted x
-        ↔ (IsSlotTo s kind first row wanted x ⊎ IsThatSlot s kind (record { 0 = first + row }) wanted x)
-    more_to = (there, back)
-      where
-        there : IsSlotTo s kind first (row + 1) wanted x
-            → IsSlotTo s kind first row wanted x ⊎ IsThatSlot s kind (record { 0 = first + row }) wanted x
-        there h =
-            let low = h.low in
-            let high = h.high in
-            ⊎_elim (λ before. inl (record { low = low; high = before; free = h.free }))
-            (λ past.
-            let at : x ≡ first + row = omega (arith, high, past) in
-            inr (record {
-              that = at;
-              free = subst (λ y. IsFree s kind (record { 0 = y }) ↔ (wanted ≡ true)) at h.free;
-            }))
-            (cases_lt x (first + row))
-
-        back : IsSlotTo s kind first row wanted x ⊎ IsThatSlot s kind (record { 0 = first + row }) wanted x
-            → IsSlotTo s kind first (row + 1) wanted x
-        back (inl h) =
-            let high = h.high in record { low = h.low; high = omega (arith, high); free = h.free }
-        back (inr h) =
-            let that = h.that in
-            record {
-              low = omega (arith, that);
-              high = omega (arith, that);
-              free = subst (λ y. IsFree s kind (record { 0 = y }) ↔ (wanted ≡ true)) (sym that) h.free;
-            }
-
--- what is added of a slot, by the test of it
-module _ (s : State) (kind : Kind) (slot : Slot) (is_free wanted : Bool) (test : IsTrue is_free ↔ IsFree s kind slot)
-  where
-    that_slot : is_free ≡ wanted → (x : ℕ) → slot.0 ≤ x → x ≤ slot.0 → IsThatSlot s kind slot wanted x
-    that_slot same x low high = record {
-      that = omega (arith, low, high);
-      free = (λ f. sym same ∙ test.1 f, λ w. test.0 (same ∙ w));
-    }
-
-    pub adds_slot : is_free ≡ wanted → (old new : List Range)
-        → ((x : ℕ) → IsIn new x ↔ (IsIn old x ⊎ ((slot.0 ≤ x) × (x ≤ slot.0)))) → (x : ℕ)
-        → IsIn new x ↔ (IsIn old x ⊎ IsThatSlot s kind slot wanted x)
-    adds_slot same old new adds x = (
-      λ i. ⊎_elim (λ before. inl before) (λ here. inr (that_slot same x here.0 here.1)) ((adds x).0 i),
-      λ i. ⊎_elim (λ before. (adds x).1 (inl before))
-          (λ here. let that = here.that in
-          (adds x).1 (inr (omega (arith, that), omega (arith, that)))) i,
-    )
-
-    pub adds_none : (is_free ≡ wanted → ⊥) → (old : List Range) (x : ℕ)
-        → IsIn old x ↔ (IsIn old x ⊎ IsThatSlot s kind slot wanted x)
-    adds_none differs old x = (
-      λ i. inl i,
-      λ i. ⊎_elim (λ before. before)
-          (λ here. absurd (differs (same_tests is_free wanted (λ t. here.free.0 (test.0 t))
-          (λ w. test.1 (here.free.1 w))))) i,
-    )
-
--- the slots of a block, row by row
-module _ (s : State) (kind : Kind) (first : ℕ) (wanted : Bool) (start old new : List Range) (row : ℕ)
-    (so_far : (x : ℕ) → IsIn old x ↔ (IsIn start x ⊎ IsSlotTo s kind first row wanted x)) where
-  pub rows_next : ((x : ℕ)
-      → IsIn new x ↔ (IsIn old x ⊎ IsThatSlot s kind (record { 0 = first + row }) wanted x))
-      → (x : ℕ) → IsIn new x ↔ (IsIn start x ⊎ IsSlotTo s kind first (row + 1) wanted x)
-  rows_next adds x = (
-    λ i. ⊎_elim
-        (λ before. ⊎_elim (λ at_start. inl at_start) (λ to. inr ((more_to s kind first wanted row x).1 (inl to)))
-        ((so_far x).0 before))
-        (λ here. inr ((more_to s kind first wanted row x).1 (inr here))) ((adds x).0 i),
-    λ i. ⊎_elim (λ at_start. (adds x).1 (inl ((so_far x).1 (inl at_start))))
-        (λ to. ⊎_elim (λ before. (adds x).1 (inl ((so_far x).1 (inr before))))
-        (λ here. (adds x).1 (inr here)) ((more_to s kind first wanted row x).0 to)) i,
-  )
-
-pub rows_none : (s : State) (kind : Kind) (first : ℕ) (wanted : Bool) (start : List Range) (x : ℕ)
-    → IsIn start x ↔ (IsIn start x ⊎ IsSlotTo s kind first 0 wanted x)
-rows_none s kind first wanted start x = (
-  λ i. inl i,
-  λ i. ⊎_elim (λ before. before) (λ to. absurd (none_to s kind first wanted x to)) i,
-)
-
-pub rows_all : (s : State) (kind : Kind) (first : ℕ) (wanted : Bool) (start new : List Range) (row : ℕ) → row ≡ ROWS
-    → ((x : ℕ) → IsIn new x ↔ (IsIn start x ⊎ IsSlotTo s kind first row wanted x)) → (x : ℕ)
-    → IsIn new x ↔ (IsIn start x ⊎ IsSlotOf s kind first wanted x)
-rows_all s kind first wanted start new row end so_far x = (
-  λ i. ⊎_elim (λ before. inl before)
-      (λ to. let high = to.high in
-      inr (record { low = to.low; high = omega (arith, high, end); free = to.free })) ((so_far x).0 i),
-  λ i. ⊎_elim (λ before. (so_far x).1 (inl before))
-      (λ of. let high = of.high in
-      (so_far x).1 (inr (record { low = of.low; high = omega (arith, high, end); free = of.free }))) i,
-)
+-- a test of whether another has a value
+pub as_wanted : (test wanted : Bool) (P : Type 0) → IsTrue test ↔ P
+    → IsTrue (beq test wanted) ↔ (P ↔ (wanted ≡ true))
+as_wanted true true P t = (λ _. (λ _. refl, λ _. t.0 refl), λ _. refl)
+as_wanted true false P t = (λ e. absurd (true≢false (sym e)), λ h. h.0 (t.0 refl))
+as_wanted false true P t = (λ e. absurd (true≢false (sym e)), λ h. t.1 (h.1 refl))
+as_wanted false false P t = (λ _. (λ p. t.1 p, λ e. absurd (true≢false (sym e))), λ _. refl)
 
 -- ---- block by block
 
 pub none_in : (ranges : List Range) (x : ℕ) → ranges ≡ [] → IsIn ranges x → ⊥
 none_in ranges x none i = subst (λ rs. IsIn rs x) none i
+
+-- a slot of a block
+abbrev InBlock : ℕ → ℕ → Type 0
+InBlock block x = (block * ROWS ≤ x) × (x < block * ROWS + ROWS)
 
 module _ (s : State) (kind : Kind) where
   abbrev slot : ℕ → Slot
@@ -206,90 +94,75 @@ module _ (s : State) (kind : Kind) where
       low x f = omega (arith, used (block_of (slot x)) (ap is_some f.of_kind))
 
   module _ (block : ℕ) (old new : NumberSet) (covers : CoversTo s kind block old) where
-    -- all slots of the block, but those that are not free
-    pub covers_named :
-        ((x : ℕ) → IsIn new.within.items x
-        ↔ (IsIn old.within.items x ⊎ ((block * ROWS ≤ x) × (x ≤ block * ROWS + ROWS - 1))))
-        → ((x : ℕ) → IsIn new.but.items x
-        ↔ (IsIn old.but.items x ⊎ IsSlotOf s kind (block * ROWS) false x))
+    -- slots of the block are added, of which the free ones are within and not among the others
+    covers_more : (P Q : ℕ → Type 0) → Adds old.within.items new.within.items P
+        → Adds old.but.items new.but.items Q → ((x : ℕ) → P x → InBlock block x)
+        → ((x : ℕ) → Q x → InBlock block x)
+        → ((x : ℕ) → InBlock block x → (P x × (Q x → ⊥)) ↔ IsFree s kind (slot x))
         → CoversTo s kind (block + 1) new
-    covers_named within but = record {
-      within = λ x i. ⊎_elim (λ before. let low = covers.within x before in omega (arith, low))
-          (λ here. omega (arith, here.1)) ((within x).0 i);
-      but = λ x i. ⊎_elim (λ before. let low = covers.but x before in omega (arith, low))
-          (λ here. let high = here.high in omega (arith, high)) ((but x).0 i);
-      free = λ x low. ⊎_elim (below x) (here x low) (cases_lt x (block * ROWS));
+    covers_more P Q within but p q free = record {
+      within = λ x i. ⊎_elim (λ o. let low = covers.within x o in omega (arith, low))
+          (λ h. let its = p x h in omega (arith, its.1)) ((within x).0 i);
+      but = λ x i. ⊎_elim (λ o. let low = covers.but x o in omega (arith, low))
+          (λ h. let its = q x h in omega (arith, its.1)) ((but x).0 i);
+      free = λ x high. ⊎_elim (below x) (here x high) (cases_lt x (block * ROWS));
     }
       where
         below : (x : ℕ) → x < block * ROWS → IsMember new x ↔ IsFree s kind (slot x)
         below x low = (
           λ m. (covers.free x low).0 (record {
-            within = ⊎_elim (λ before. before) (λ h. absurd (omega (arith, low, h.0)))
+            within = ⊎_elim (λ o. o) (λ h. let its = p x h in absurd (omega (arith, low, its.0)))
                 ((within x).0 m.within);
-            but = λ i. m.but ((but x).1 (inl i));
+            but = λ o. m.but ((but x).1 (inl o));
           }),
           λ f. let m = (covers.free x low).1 f in record {
             within = (within x).1 (inl m.within);
-            but = λ i. ⊎_elim m.but (λ h. let first = h.low in absurd (omega (arith, low, first)))
+            but = λ i. ⊎_elim m.but (λ h. let its = q x h in absurd (omega (arith, low, its.0)))
                 ((but x).0 i);
           },
         )
 
         here : (x : ℕ) → x < (block + 1) * ROWS → block * ROWS ≤ x → IsMember new x ↔ IsFree s kind (slot x)
-        here x high first = (
-          λ m. ⊎_elim (λ f. f)
-              (λ none. absurd (m.but ((but x).1 (inr (record {
-                low = first;
-                high = omega (arith, high);
-                free = (λ f. absurd (none f), λ e. absurd (true≢false (sym e)));
-              })))))
-              (free_or_not s kind (slot x)),
-          λ f. record {
-            within = (within x).1 (inr (first, omega (arith, high)));
-            but = λ i. ⊎_elim
-                (λ before. let low = covers.but x before in omega (arith, low, first))
-                (λ h. true≢false (sym (h.free.0 f))) ((but x).0 i);
-          },
-        )
+        here x high first =
+            let own = free x (first, omega (arith, high)) in (
+              λ m. own.0 (
+                ⊎_elim (λ o. let low = covers.within x o in absurd (omega (arith, low, first))) (λ h. h)
+                    ((within x).0 m.within),
+                λ h. m.but ((but x).1 (inr h)),
+              ),
+              λ f. let its = own.1 f in record {
+                within = (within x).1 (inr its.0);
+                but = λ i. ⊎_elim (λ o. let low = covers.but x o in absurd (omega (arith, low, first))) its.1
+                    ((but x).0 i);
+              },
+            )
+
+    -- all slots of the block, but those that are not free
+    pub covers_named :
+        Adds old.within.items new.within.items (λ x. (block * ROWS ≤ x) × (x ≤ block * ROWS + ROWS - 1))
+        → Adds old.but.items new.but.items
+        (Between (block * ROWS) (block * ROWS + ROWS) (IsFreeAs s kind false))
+        → CoversTo s kind (block + 1) new
+    covers_named within but =
+        covers_more (λ x. (block * ROWS ≤ x) × (x ≤ block * ROWS + ROWS - 1))
+        (Between (block * ROWS) (block * ROWS + ROWS) (IsFreeAs s kind false)) within but
+        (λ x h. (h.0, omega (arith, h.1))) (λ x h. (h.0, h.1)) (λ x its. (
+          λ m. ⊎_elim (λ f. f) (λ none. absurd (m.1 (
+            its.0,
+            its.1,
+            (λ f. absurd (none f), λ e. absurd (true≢false (sym e))),
+          ))) (free_or_not s kind (slot x)),
+          λ f. ((its.0, omega (arith, its.1)), λ h. true≢false (sym (h.2.0 f))),
+        ))
 
     -- the free slots of the block
-    pub covers_listed : new.but.items ≡ old.but.items
-        → ((x : ℕ) → IsIn new.within.items x
-        ↔ (IsIn old.within.items x ⊎ IsSlotOf s kind (block * ROWS) true x))
+    pub covers_listed : Adds old.but.items new.but.items (λ _. ⊥)
+        → Adds old.within.items new.within.items
+        (Between (block * ROWS) (block * ROWS + ROWS) (IsFreeAs s kind true))
         → CoversTo s kind (block + 1) new
-    covers_listed same within = record {
-      within = λ x i. ⊎_elim (λ before. let low = covers.within x before in omega (arith, low))
-          (λ here. let high = here.high in omega (arith, high)) ((within x).0 i);
-      but = λ x i. let low = covers.but x (old_but x i) in omega (arith, low);
-      free = λ x low. ⊎_elim (below x) (here x low) (cases_lt x (block * ROWS));
-    }
-      where
-        old_but : (x : ℕ) → IsIn new.but.items x → IsIn old.but.items x
-        old_but x i = subst (λ rs. IsIn rs x) same i
-
-        below : (x : ℕ) → x < block * ROWS → IsMember new x ↔ IsFree s kind (slot x)
-        below x low = (
-          λ m. (covers.free x low).0 (record {
-            within = ⊎_elim (λ before. before)
-                (λ h. let first = h.low in absurd (omega (arith, low, first))) ((within x).0 m.within);
-            but = λ i. m.but (subst (λ rs. IsIn rs x) (sym same) i);
-          }),
-          λ f. let m = (covers.free x low).1 f in record {
-            within = (within x).1 (inl m.within);
-            but = λ i. m.but (old_but x i);
-          },
-        )
-
-        here : (x : ℕ) → x < (block + 1) * ROWS → block * ROWS ≤ x → IsMember new x ↔ IsFree s kind (slot x)
-        here x high first = (
-          λ m. ⊎_elim (λ before. let low = covers.within x before in absurd (omega (arith, low, first)))
-              (λ h. h.free.1 refl) ((within x).0 m.within),
-          λ f. record {
-            within = (within x).1 (inr (record {
-              low = first;
-              high = omega (arith, high);
-              free = (λ _. refl, λ _. f);
-            }));
-            but = λ i. let low = covers.but x (old_but x i) in omega (arith, low, first);
-          },
-        )
+    covers_listed but within =
+        covers_more (Between (block * ROWS) (block * ROWS + ROWS) (IsFreeAs s kind true)) (λ _. ⊥) within but
+        (λ x h. (h.0, h.1)) (λ x none. absurd none) (λ x its. (
+          λ m. m.0.2.1 refl,
+          λ f. ((its.0, its.1, (λ _. refl, λ _. f)), λ none. none),
+        ))

@@ -10,7 +10,7 @@ use Rattle.hd_model.specs.declared.data.Slot.{Slot}
 use Rattle.hd_model.specs.FullText.{full_line}
 use Rattle.hd_model.specs.State.{given_of}
 use Rattle.hd_model.specs.Step.{blocks_needed}
-use Rattle.hd_audit.specs.Before.{GivesBlock, IsLastLine, MayCome, TakesSlot, due_of, number_of}
+use Rattle.hd_audit.specs.Before.{GivesBlock, IsLastLine, MayCome, ReturnsFree, TakesSlot, due_of, number_of}
 use Rattle.hd_plain.specs.OneEntry.{HasExactly}
 use Rattle.hd_audit.specs.Known.{Known}
 use Rattle.hd_view.specs.Sets.{IsMember}
@@ -63,7 +63,7 @@ IsSetOf k caller c (accepted.One entry) = IsEntryOf caller c entry
 IsSetOf k caller c (accepted.Slots kind free grown full) =
     HasExactly k.numbers k.state caller c (TakesSlot k.numbers k.state kind)
     × IsFullOf k kind caller c full × IfSome full (IsEntryOf caller c)
-IsSetOf k caller c (accepted.Addresses id free) = Unit {0}
+IsSetOf k caller c (accepted.Addresses id free) = HasExactly k.numbers k.state caller c (ReturnsFree k.state id)
 IsSetOf k caller c (accepted.Blocks kind free) =
     HasExactly k.numbers k.state caller c (GivesBlock k.state kind)
 

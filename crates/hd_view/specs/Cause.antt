@@ -1,27 +1,37 @@
--- Why a line may not come. Each cause says something of the line and of the state before it.
-use Rattle.std.specs.Prelude.{◌≡◌, ◌≢◌, ℕ, ◌<◌, ◌≤◌, ◌⊎◌, Bool, true, false, List, [], ◌∷◌, codes, Some, None, IsSome}
+-- Why a line may not come. Each cause says something of the line and of the state before it, and is tied to the
+-- command that is due of the line's caller: an entry that has what the cause wants is none that the line could be.
+use Rattle.std.specs.Prelude.{◌≡◌, ◌≢◌, ℕ, ◌+◌, ◌-◌, ◌^◌, ◌<◌, ◌≤◌, ◌⊎◌, Bool, true, false, List, [], ◌∷◌, codes, Option, Some, None, IsSome}
 use Rattle.std.specs.FinMap.{get}
+use Rattle.hd_model.specs.declared.command.Cmd.{Cmd}
 use Rattle.hd_model.specs.declared.data.Entry.{Entry}
 use Rattle.hd_model.specs.declared.data.Grown.{Grown}
 use Rattle.hd_model.specs.declared.data.Grown.TheVariants.{Zero, One, Two, Back}
+use Rattle.hd_model.specs.declared.data.Id.{Id}
 use Rattle.hd_model.specs.declared.data.Kind.{Kind}
 use Rattle.hd_model.specs.declared.data.Reply.TheVariants as reply
 use Rattle.hd_model.specs.declared.data.Slot.{Slot}
 use Rattle.hd_model.specs.Command.{idle_slot}
+use Rattle.hd_model.specs.Kinds.{is_paired}
 use Rattle.hd_model.specs.FullText.{full_line}
+use Rattle.hd_model.specs.PinnedAddresses.{IsFreeAddress}
 use Rattle.hd_model.specs.RunTexts.{cut_lines}
-use Rattle.hd_model.specs.State.{State, handle_at, handles_of, use_of, block_of, first_slot, IsAllFree}
-use Rattle.hd_model.specs.Step.{Step, IsLeastUnused}
+use Rattle.hd_model.specs.State.{State, handle_at, handles_of, use_of, block_of, first_slot, given_of, IsAllFree}
+use Rattle.hd_model.specs.Step.{Step, IsLeastUnused, blocks_needed}
 use Rattle.hd_print.specs.VerdictLaws.{HasEnd}
-use Rattle.hd_audit.specs.Before.{due_of, end_after, number_of}
+use Rattle.hd_audit.specs.Before.{GivesBlock, ReturnsFree, TakesSlot, due_of, end_after, number_of}
 use Rattle.hd_audit.specs.Known.{Known}
+use Rattle.hd_plain.specs.OneEntry.{HasExactly}
 use Rattle.hd_view.specs.Stated.{HasReply, Parts, begins, stated_in}
-use Rattle.hd_view.specs.declared.cause.Cause.{Cause}
-use Rattle.hd_view.specs.declared.cause.Cause.TheVariants as cause
-use Rattle.hd_view.specs.declared.cause.SlotCause.{SlotCause}
-use Rattle.hd_view.specs.declared.cause.SlotCause.TheVariants as by_slot
 use Rattle.hd_view.specs.declared.cause.BlockCause.{BlockCause}
 use Rattle.hd_view.specs.declared.cause.BlockCause.TheVariants as by_blocks
+use Rattle.hd_view.specs.declared.cause.Growth.{Growth}
+use Rattle.hd_view.specs.declared.cause.Growth.TheVariants as growth
+use Rattle.hd_view.specs.declared.cause.SlotCause.{SlotCause}
+use Rattle.hd_view.specs.declared.cause.SlotCause.TheVariants as by_slot
+use Rattle.hd_view.specs.declared.cause.Cause.{Cause}
+use Rattle.hd_view.specs.declared.cause.Cause.TheVariants as cause
+
+-- ---- what is due
 
 -- an entry of the command that is due of the line's caller
 pub record IsNext (k : Known) (p : Parts) (e : Entry) : Type 0 where
@@ -37,12 +47,34 @@ EachIs k p P = (e : Entry) → IsNext k p e → P e
 abbrev pub EachLike : Known → Parts → (Entry → Type 0) → Type 0
 EachLike k p P = (e : Entry) → IsNext k p e → HasReply p.tail e.reply → P e
 
--- a block that the line states
+-- the command that is due of the line's caller has exactly these entries
+abbrev pub DueHas : Known → Parts → (Entry → Type 0) → Type 0
+DueHas k p P = (c : Cmd) × (due_of k p.caller ≡ Some c) × HasExactly k.numbers k.state p.caller c P
+
+-- it puts a new row of a kind, gives back a block of a kind, or returns an address that is free for an object
+abbrev pub DueTakes : Known → Parts → Kind → Type 0
+DueTakes k p kind = DueHas k p (TakesSlot k.numbers k.state kind)
+
+abbrev pub DueGives : Known → Parts → Kind → Type 0
+DueGives k p kind = DueHas k p (GivesBlock k.state kind)
+
+abbrev pub DueReturns : Known → Parts → Id → Type 0
+DueReturns k p x = DueHas k p (ReturnsFree k.state x)
+
+-- ---- what the line states
+
+-- a block that the line states, and the first of them
 abbrev pub IsStated : Grown → ℕ → Type 0
 IsStated Zero block = ⊥
 IsStated (One b) block = block ≡ b
 IsStated (Two b other) block = (block ≡ b) ⊎ (block ≡ other)
 IsStated (Back b) block = block ≡ b
+
+abbrev pub first_stated : Grown → Option ℕ
+first_stated Zero = None
+first_stated (One b) = Some b
+first_stated (Two b other) = Some b
+first_stated (Back b) = None
 
 -- a line reads as that of an entry that may come, and has other bytes
 pub record IsSpelled (k : Known) (line : List ℕ) (p : Parts) : Type 0 where
@@ -52,37 +84,96 @@ pub record IsSpelled (k : Known) (line : List ℕ) (p : Parts) : Type 0 where
   pub grown : p.grown ≡ entry.grown
   pub differs : line ≢ full_line entry p.number
 
--- a cause by the slot holds of a line that states these parts
+-- ---- by the slot
+
+-- a slot has a handle, or the weak table holds it
+abbrev pub IsTaken : State → Slot → Type 0
+IsTaken s slot = IsSome (handle_at s slot) ⊎ IsSome (get s.weak slot.0)
+
+-- the slot is stated, and no entry with the line's reply has it with the line's blocks: an entry that grows may have
+-- it as the first slot of a new block
+pub record IsNoneOfDue (k : Known) (p : Parts) (slot : Slot) : Type 0 where
+  pub stated : p.slot ≡ Some slot
+  pub none : EachLike k p (λ e. e.slot ≡ Some slot → e.grown ≢ p.grown)
+
+-- each entry that grows has the stated blocks, and the slot is another than the first of the new block
+pub record IsNotFirst (k : Known) (p : Parts) (block : ℕ) : Type 0 where
+  pub growth : EachLike k p (λ e. e.grown ≢ Zero → e.grown ≡ p.grown)
+  pub first : first_stated p.grown ≡ Some block
+  pub other : p.slot ≢ Some (first_slot block)
+
 abbrev pub SlotHolds : Known → Parts → SlotCause → Type 0
 SlotHolds k p by_slot.Missing = (p.slot ≡ None) × EachLike k p (λ e. e.slot ≢ None)
 SlotHolds k p by_slot.Needless = (p.slot ≢ None) × EachLike k p (λ e. e.slot ≡ None)
 SlotHolds k p (by_slot.Freed slot) = (p.slot ≢ Some slot) × EachLike k p (λ e. e.slot ≡ Some slot)
 SlotHolds k p (by_slot.Idle slot) =
     (p.slot ≢ Some slot) × (idle_slot k.state ≡ Some slot) × EachLike k p (λ e. e.slot ≡ Some slot)
-SlotHolds k p (by_slot.InUse slot) =
-    (p.slot ≡ Some slot) × (IsSome (handle_at k.state slot) ⊎ IsSome (get k.state.weak slot.0))
+SlotHolds k p (by_slot.InUse slot) = (p.grown ≡ Zero) × IsNoneOfDue k p slot × IsTaken k.state slot
 SlotHolds k p (by_slot.OtherKind slot kind) =
-    (p.slot ≡ Some slot) × (use_of k.state (block_of slot) ≢ Some (handles_of kind))
-SlotHolds k p (by_slot.NotFirst block) = IsStated p.grown block × (p.slot ≢ Some (first_slot block))
+    (p.grown ≡ Zero) × IsNoneOfDue k p slot × DueTakes k p kind × (use_of k.state (block_of slot) ≢ Some (handles_of kind))
+SlotHolds k p (by_slot.NotFirst block) = IsNotFirst k p block
 
--- one by the blocks
+-- ---- by the blocks
+
+-- the least block without a use is another one: of the only one that is due, or of the first or the second of two
+abbrev pub IsLeastOf : Known → Grown → Growth → ℕ → Type 0
+IsLeastOf k (One b) growth.Only least = IsLeastUnused k.numbers k.state 1 least × (b ≢ least)
+IsLeastOf k (Two b other) growth.First least = IsLeastUnused k.numbers k.state 1 least × (b ≢ least)
+IsLeastOf k (Two b other) growth.Second least =
+    IsLeastUnused k.numbers k.state 1 b × IsLeastUnused k.numbers k.state (b + 1) least × (other ≢ least)
+IsLeastOf k Zero which least = ⊥
+IsLeastOf k (Back b) which least = ⊥
+IsLeastOf k (One b) growth.First least = ⊥
+IsLeastOf k (One b) growth.Second least = ⊥
+IsLeastOf k (Two b other) growth.Only least = ⊥
+
+-- the command puts a new row of a kind, the line states as many blocks as such a row needs, and none of its
+-- entries with the line's reply has these
+abbrev pub FitsKind : Grown → Kind → Type 0
+FitsKind Zero kind = ⊥
+FitsKind (One b) kind = is_paired kind ≡ false
+FitsKind (Two b other) kind = is_paired kind ≡ true
+FitsKind (Back b) kind = ⊥
+
+pub record IsOtherGrowth (k : Known) (p : Parts) : Type 0 where
+  pub kind : Kind
+  pub due : DueTakes k p kind
+  pub fits : FitsKind p.grown kind
+  pub none : EachLike k p (λ e. e.grown ≢ p.grown)
+
+-- the block is stated as given back, the command gives one of a kind back, and none with the line's reply this one
+pub record IsNotGiven (k : Known) (p : Parts) (block : ℕ) (kind : Kind) : Type 0 where
+  pub stated : p.grown ≡ Back block
+  pub due : DueGives k p kind
+  pub none : EachLike k p (λ e. e.grown ≢ Back block)
+
 abbrev pub BlocksHold : Known → Parts → BlockCause → Type 0
 BlocksHold k p by_blocks.Missing = (p.grown ≡ Zero) × EachLike k p (λ e. e.grown ≢ Zero)
 BlocksHold k p by_blocks.Needless = (p.grown ≢ Zero) × EachLike k p (λ e. e.grown ≡ Zero)
 BlocksHold k p by_blocks.Other = EachLike k p (λ e. e.grown ≢ p.grown)
-BlocksHold k p (by_blocks.InUse block) = IsStated p.grown block × IsSome (use_of k.state block)
-BlocksHold k p (by_blocks.NotLeast least) =
-    (from : ℕ) × IsLeastUnused k.numbers k.state from least
-    × ((block : ℕ) × IsStated p.grown block × (block ≢ least))
-BlocksHold k p by_blocks.NoneUnused =
-    (from : ℕ) × ((block : ℕ) → from ≤ block → block ≤ k.numbers.blocks → IsSome (use_of k.state block))
+BlocksHold k p (by_blocks.InUse block) =
+    IsStated p.grown block × IsSome (use_of k.state block) × IsOtherGrowth k p
+BlocksHold k p (by_blocks.NotLeast which least) =
+    IsLeastOf k p.grown which least × IsOtherGrowth k p
+BlocksHold k p (by_blocks.TooFew unused kind) =
+    DueTakes k p kind × (unused ≡ k.numbers.blocks - given_of k.state) × (unused < blocks_needed kind)
+    × (p.grown ≢ Zero) × EachLike k p (λ e. e.grown ≢ p.grown)
 BlocksHold k p (by_blocks.OtherKind block kind) =
-    IsStated p.grown block × (use_of k.state block ≢ Some (handles_of kind))
-BlocksHold k p (by_blocks.NotFree block) =
-    IsStated p.grown block
-    × ((kind : Kind) × (use_of k.state block ≡ Some (handles_of kind)) × (IsAllFree k.state kind block → ⊥))
+    IsNotGiven k p block kind × (use_of k.state block ≢ Some (handles_of kind))
+BlocksHold k p (by_blocks.NotFree block kind) =
+    IsNotGiven k p block kind × (use_of k.state block ≡ Some (handles_of kind))
+    × (IsAllFree k.state kind block → ⊥)
 
--- each other
+-- ---- all causes
+
+-- an address is asked for of an object that has none, and at this one it is not apart from all that are pinned
+pub record IsTakenAddress (k : Known) (p : Parts) (address : ℕ) : Type 0 where
+  pub stated : p.address ≡ address
+  pub small : address < 2 ^ 32
+  pub object : Id
+  pub due : DueReturns k p object
+  pub taken : IsFreeAddress k.state object address → ⊥
+
 abbrev pub HoldsOf : Known → List ℕ → Parts → Cause → Type 0
 HoldsOf k line p cause.Missing = ⊥
 HoldsOf k line p cause.AfterEnd = ⊥
@@ -97,8 +188,7 @@ HoldsOf k line p (cause.Number number) = (number ≡ number_of k p.caller) × (p
 HoldsOf k line p cause.Reply = EachIs k p (λ e. HasReply p.tail e.reply → ⊥)
 HoldsOf k line p (cause.Pinned address) =
     EachIs k p (λ e. (e.reply ≡ reply.Place address) × (HasReply p.tail e.reply → ⊥))
-HoldsOf k line p (cause.AddressTaken address) =
-    (p.address ≡ address) × EachIs k p (λ e. e.reply ≢ reply.Place address)
+HoldsOf k line p (cause.AddressTaken address) = IsTakenAddress k p address
 HoldsOf k line p (cause.Slot c) = SlotHolds k p c
 HoldsOf k line p (cause.Blocks c) = BlocksHold k p c
 HoldsOf k line p cause.Spelled = IsSpelled k line p

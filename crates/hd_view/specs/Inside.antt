@@ -1,15 +1,16 @@
 -- What private clauses alone cite.
-use Rattle.std.specs.Prelude.{ℕ, ◌↔◌, ◌≡◌, ◌+◌, ◌*◌, ◌<◌, ◌≤◌, Bool, true, List, length, take, All, Contains, Option, Some, ◌∷◌, None}
-use Rattle.hd_model.specs.{declared.command.Cmd.Cmd, declared.data.Entry.Entry, declared.data.Grown.Grown, declared.data.Grown.TheVariants.Zero, declared.data.Grown.TheVariants.Back, declared.data.Kind.Kind, declared.data.Slot.Slot, declared.limits.TheConstants.BLOCKS, declared.limits.TheConstants.ROWS, PinnedAddresses.Meet, Step.MayGive, Step.IsLeastUnused, Valid.IsValid}
+use Rattle.std.specs.Prelude.{ℕ, ◌↔◌, ◌≡◌, ◌≢◌, ◌+◌, ◌*◌, ◌<◌, ◌≤◌, ◌⊎◌, Bool, true, List, length, take, All, Contains, Option, Some, ◌∷◌, None}
+use Rattle.hd_model.specs.{declared.command.Cmd.Cmd, declared.data.Entry.Entry, declared.data.Grown.Grown, declared.data.Id.Id, declared.data.Grown.TheVariants.Zero, declared.data.Grown.TheVariants.Back, declared.data.Kind.Kind, declared.data.Slot.Slot, declared.limits.TheConstants.BLOCKS, declared.limits.TheConstants.ROWS, PinnedAddresses.Meet, Step.MayGive, Step.IsLeastUnused, Valid.IsValid}
 use Rattle.hd_model.specs.RunTexts.{AreRight, cut_lines, IsNoRun, IsRunText}
 use Rattle.hd_model.specs.State.{State, IsFree, first_slot, IsAllFree, Numbers}
+use Rattle.hd_model.specs.WellFormed.{IsWellFormed}
 use Rattle.hd_audit.specs.Before.{IsBefore, due_of, GivesBlock, MayCome, number_of}
 use Rattle.hd_audit.specs.{RightVerdicts.numbers_of, Known.Known, declared.entry_choice.PinnedCells.PinnedCells}
 use Rattle.hd_io.specs.Source.{SourceView}
 use Rattle.hd_run.specs.{Ending.CauseOfFault, declared.fault.Fault.Fault}
-use Rattle.hd_view.specs.{declared.sets.NumberSet.NumberSet, Sets.IsMember, Sets.IsIn, declared.accepted.Due.Due, declared.accepted.Judgement.Judgement, Accepted.IsDue, Accepted.HasAddressOf, declared.stated.Stated.Stated, declared.cause.Cause.Cause, declared.finding.Finding.Finding, Findings.IsWhy, Script.IsBadLine}
+use Rattle.hd_view.specs.{declared.sets.NumberSet.NumberSet, declared.sets.Range.Range, Sets.IsMember, Sets.IsIn, declared.accepted.Due.Due, declared.accepted.Judgement.Judgement, Accepted.IsDue, Accepted.HasAddressOf, declared.stated.Stated.Stated, declared.cause.Cause.Cause, declared.cause.Growth.Growth, declared.finding.Finding.Finding, Findings.IsWhy, Script.IsBadLine}
 use Rattle.hd_view.specs.Stated.{Parts, HasReply, stated_in}
-use Rattle.hd_view.specs.Cause.{IsNext, EachIs, EachLike, IsStated, HoldsOf}
+use Rattle.hd_view.specs.Cause.{DueGives, DueReturns, DueTakes, IsNext, EachIs, EachLike, FitsKind, HoldsOf, IsLeastOf, first_stated}
 use Rattle.hd_view.specs.declared.finding.Finding.TheVariants.{NoRun, Refused, Run}
 use Rattle.hd_model.specs.declared.data.Reply.TheVariants as reply
 
@@ -66,16 +67,17 @@ pub record CoversTo (s : State) (kind : Kind) (block : ℕ) (set : NumberSet) : 
   pub but : (x : ℕ) → IsIn set.but.items x → x < block * ROWS
   pub free : (x : ℕ) → x < block * ROWS → IsMember set x ↔ IsFree s kind (record { 0 = x })
 
--- a slot of the block that begins with another, which is free or is not
-pub record IsSlotOf (s : State) (kind : Kind) (first : ℕ) (wanted : Bool) (x : ℕ) : Type 0 where
-  pub low : first ≤ x
-  pub high : x < first + ROWS
-  pub free : IsFree s kind (record { 0 = x }) ↔ (wanted ≡ true)
+-- numbers are added to ranges: those of which a fact holds, and no other
+abbrev pub Adds : List Range → List Range → (ℕ → Type 0) → Type 0
+Adds old new P = (x : ℕ) → IsIn new x ↔ (IsIn old x ⊎ P x)
 
--- this slot, where it is free or is not
-pub record IsThatSlot (s : State) (kind : Kind) (slot : Slot) (wanted : Bool) (x : ℕ) : Type 0 where
-  pub that : x ≡ slot.0
-  pub free : IsFree s kind slot ↔ (wanted ≡ true)
+-- a number from one up to another, with a fact
+abbrev pub Between : ℕ → ℕ → (ℕ → Type 0) → ℕ → Type 0
+Between first end P x = (first ≤ x) × (x < end) × P x
+
+-- a slot that is free, or one that is not
+abbrev pub IsFreeAs : State → Kind → Bool → ℕ → Type 0
+IsFreeAs s kind wanted x = IsFree s kind (record { 0 = x }) ↔ (wanted ≡ true)
 
 -- cells that begin at an address meet others
 abbrev pub meets : PinnedCells → ℕ → ℕ → Type 0
@@ -126,18 +128,22 @@ pub record IsDueOf (k : Known) (p : Parts) (due : Due) : Type 0 where
   pub is_due : IsDue k due
   pub caller : due.caller ≡ p.caller
   pub number : due.number ≡ p.number
+  pub sound : IsWellFormed k.numbers k.state
 
 -- entries that give a new row of a kind a slot may come, and of the others none that goes on as the line does
 pub record IsSlotNext (k : Known) (p : Parts) (kind : Kind) : Type 0 where
+  pub sound : IsWellFormed k.numbers k.state
   pub number : p.number ≡ number_of k p.caller
+  pub due : DueTakes k p kind
   pub each : EachLike k p (λ e. (slot : Slot) × (e.slot ≡ Some slot)
       × MayGive k.numbers k.state kind e.grown slot × (e.reply ≡ reply.Done))
   pub next : (slot : Slot) (grown : Grown) → MayGive k.numbers k.state kind grown slot
       → (e : Entry) × IsNext k p e × (e.slot ≡ Some slot) × (e.grown ≡ grown)
 
 -- entries that return an address of a set
-pub record IsAddressNext (k : Known) (p : Parts) (free : NumberSet) : Type 0 where
+pub record IsAddressNext (k : Known) (p : Parts) (id : Id) (free : NumberSet) : Type 0 where
   pub number : p.number ≡ number_of k p.caller
+  pub due : DueReturns k p id
   pub each : EachIs k p (HasAddressOf free)
   pub next : (address : ℕ) → IsMember free address
       → (e : Entry) × IsNext k p e × (e.slot ≡ None) × (e.grown ≡ Zero)
@@ -145,17 +151,23 @@ pub record IsAddressNext (k : Known) (p : Parts) (free : NumberSet) : Type 0 whe
 -- entries that give back a block of a kind, and one that gives back none
 pub record IsBlockNext (k : Known) (p : Parts) (kind : Kind) : Type 0 where
   pub number : p.number ≡ number_of k p.caller
+  pub due : DueGives k p kind
   pub each : EachIs k p (GivesBlock k.state kind)
   pub none : (e : Entry) × IsNext k p e × (e.slot ≡ None) × (e.grown ≡ Zero)
   pub next : (block : ℕ) → IsAllFree k.state kind block
       → (e : Entry) × IsNext k p e × (e.slot ≡ None) × (e.grown ≡ Back block)
 
--- a slot of a line that states a block, and the new one, which is that block or the one before it
-pub record IsGrowing (k : Known) (p : Parts) (kind : Kind) (block from : ℕ) (slot : Slot) (new : ℕ) : Type 0 where
+-- a slot of a line that states a growth, of which no block has a use; the block that is looked at, from which
+-- number on the least one is looked for, and the new block
+pub record IsGrowing (k : Known) (p : Parts) (kind : Kind) (growth : Growth) (block from : ℕ) (slot : Slot) (new : ℕ)
+    : Type 0 where
   pub next : IsSlotNext k p kind
+  pub fits : FitsKind p.grown kind
   pub slot_is : p.slot ≡ Some slot
-  pub stated : IsStated p.grown block
-  pub is_new : IsStated p.grown new
+  pub new_is : first_stated p.grown ≡ Some new
+  pub wants : (s : Slot) → MayGive k.numbers k.state kind p.grown s → IsLeastUnused k.numbers k.state from block
+  pub other : (least : ℕ) → IsLeastUnused k.numbers k.state from least → block ≢ least
+      → IsLeastOf k p.grown growth least
   pub gives : IsLeastUnused k.numbers k.state from block → MayGive k.numbers k.state kind p.grown (first_slot new)
 
 -- ---- what is found in the input of `why`, its cause, and what is written of it

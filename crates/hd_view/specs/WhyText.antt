@@ -2,9 +2,12 @@
 use Rattle.std.specs.Prelude.{ℕ, ◌+◌, ◌/◌, ◌%◌, ◌==◌, ◌&&◌, nat_le, if◌then◌else◌, List, [], ◌∷◌, ◌++◌, flat_map, length, take, codes, decimal, Option, Some, None}
 use Rattle.std.specs.List.{before_first}
 use Rattle.hd_model.specs.declared.data.Entry.{Entry}
+use Rattle.hd_model.specs.declared.data.Kind.{Kind}
+use Rattle.hd_model.specs.declared.data.Kind.TheVariants as kind
 use Rattle.hd_model.specs.CommandText.{command_text, kind_name}
 use Rattle.hd_model.specs.FullText.{full_line}
 use Rattle.hd_model.specs.Grammar.{is_line_end}
+use Rattle.hd_model.specs.Step.{blocks_needed}
 use Rattle.hd_model.specs.Text.{newline}
 use Rattle.hd_audit.specs.Before.{end_after}
 use Rattle.hd_audit.specs.Known.{Known}
@@ -15,6 +18,8 @@ use Rattle.hd_view.specs.declared.cause.BlockCause.{BlockCause}
 use Rattle.hd_view.specs.declared.cause.BlockCause.TheVariants as by_blocks
 use Rattle.hd_view.specs.declared.cause.Cause.{Cause}
 use Rattle.hd_view.specs.declared.cause.Cause.TheVariants as cause
+use Rattle.hd_view.specs.declared.cause.Growth.{Growth}
+use Rattle.hd_view.specs.declared.cause.Growth.TheVariants as growth
 use Rattle.hd_view.specs.declared.cause.SlotCause.{SlotCause}
 use Rattle.hd_view.specs.declared.cause.SlotCause.TheVariants as by_slot
 use Rattle.hd_view.specs.declared.sets.NumberSet.{NumberSet}
@@ -142,17 +147,36 @@ slot_cause_word (by_slot.OtherKind slot kind) =
     codes "slot " ++ decimal slot.0 ++ codes " is in no block of kind " ++ kind_name kind
 slot_cause_word (by_slot.NotFirst block) = codes "the slot is not the first of block " ++ decimal block
 
+-- which block is meant, of one or of two
+abbrev pub growth_words : Growth → List ℕ
+growth_words growth.Only = codes "the least block without a use is "
+growth_words growth.First = codes "the first block is the least without a use: "
+growth_words growth.Second = codes "the second block is the least without a use after the first: "
+
+abbrev pub handle_words : Kind → List ℕ
+handle_words kind.Short = codes "a weak short handle"
+handle_words kind.Long = codes "a weak long handle"
+handle_words kind.Strong = codes "a strong handle"
+handle_words kind.Pinned = codes "a pinned handle"
+handle_words kind.Variable = codes "a variable handle"
+handle_words kind.Counted = codes "a ref-counted handle"
+handle_words kind.Dependent = codes "a dependent handle"
+
+abbrev pub too_few_words : ℕ → Kind → List ℕ
+too_few_words unused kind =
+    (codes "too few blocks are unused: " ++ decimal unused ++ codes ", and ") ++ handle_words kind
+    ++ (codes " needs " ++ decimal (blocks_needed kind))
+
 abbrev pub block_cause_word : BlockCause → List ℕ
 block_cause_word by_blocks.Missing = codes "blocks are missing"
 block_cause_word by_blocks.Needless = codes "blocks are needless"
 block_cause_word by_blocks.Other = codes "the blocks are others"
 block_cause_word (by_blocks.InUse block) = codes "block " ++ decimal block ++ codes " is in use"
-block_cause_word (by_blocks.NotLeast least) =
-    codes "the least block without a use is " ++ decimal least
-block_cause_word by_blocks.NoneUnused = codes "no block is without a use"
+block_cause_word (by_blocks.NotLeast which least) = growth_words which ++ decimal least
+block_cause_word (by_blocks.TooFew unused kind) = too_few_words unused kind
 block_cause_word (by_blocks.OtherKind block kind) =
     codes "block " ++ decimal block ++ codes " has no handles of kind " ++ kind_name kind
-block_cause_word (by_blocks.NotFree block) = codes "not all slots are free in block " ++ decimal block
+block_cause_word (by_blocks.NotFree block kind) = codes "not all slots are free in block " ++ decimal block
 
 abbrev pub cause_word : Cause → List ℕ
 cause_word cause.Missing = codes "the line is missing"

@@ -1,16 +1,16 @@
 // The lines that may come for a command that is due, as a set.
-ghost use Rattle.std.specs.Prelude.{◌≡◌, ℕ, ◌+◌, ◌<◌, ◌≤◌, ◌^◌, ◌↔◌, ◌⊎◌, true, drop, IfOk, IfSome};
+ghost use Rattle.std.specs.Prelude.{◌≡◌, ℕ, ◌+◌, ◌<◌, ◌≤◌, ◌^◌, ◌↔◌, ◌⊎◌, true, drop, IfOk, IfSome, IsTrue};
 ghost use Rattle.hd_model.specs.declared.limits.TheConstants.{BLOCKS, ROWS};
 ghost use Rattle.hd_model.specs.{RunTexts.cut_lines, PinnedAddresses.IsFreeAddress, Valid.IsValid};
 ghost use Rattle.hd_model.specs.State.{IsAllFree, IsFree};
 ghost use Rattle.hd_model.specs.Step.{blocks_needed};
 ghost use Rattle.hd_plain.specs.OneEntry.{HasExactly, HasOne, has_one_step};
 ghost use Rattle.hd_view.specs.{Inside.grown_by, Inside.meets, Inside.AreDueTo, Inside.AreValid, Inside.CoversTo, Accepted.AreDue, Accepted.IsFullOf};
-ghost use Rattle.hd_view.specs.{Accepted.IsEntryOf, Accepted.IsNamed, Accepted.IsSetOf, Inside.IsGrownOf, Inside.IsKnownOf, Inside.IsSlotOf};
-ghost use Rattle.hd_view.specs.Inside.{IsTextOf, IsThatSlot};
+ghost use Rattle.hd_view.specs.{Accepted.IsEntryOf, Accepted.IsNamed, Accepted.IsSetOf, Inside.IsGrownOf, Inside.IsKnownOf, Inside.IsFreeAs};
+ghost use Rattle.hd_view.specs.Inside.{Adds, Between, IsTextOf};
 ghost use Rattle.hd_view.specs.{Inside.Has, Sets.IsIn};
 
-use crate::sets::{NumberSet, Range, add_range, push};
+use crate::sets::{NumberSet, Range, Test, add_each, add_range, push};
 use hd_audit::{Before, Entries, PinnedCells, state_after};
 use hd_model::limits::ROWS;
 use hd_model::{Cmd, Entry, Grown, Id, Kind, Memory, Refusal, Reply, Slot};
@@ -220,8 +220,8 @@ fn full_entry(before: &Before, kind: Kind, caller: u32, cmd: Cmd) -> Option<Entr
     })
 }
 
-// The number of blocks by which the table grows for a kind.
-fn needed_blocks(kind: Kind) -> u32
+/// The number of blocks by which the table grows for a kind.
+pub(crate) fn needed_blocks(kind: Kind) -> u32
     ensures value { result ≡ blocks_needed kind }
     ensures few { result ≤ 2 }
 {
@@ -270,72 +270,80 @@ fn count_free(before: &Before, kind: Kind, first: u32) -> u32
 }
 
 // Adds the slots of a block that are free, or those that are not.
-fn add_slots(
-    before: &Before,
+fn add_slots<'a>(
+    before: &'a Before<'a>,
     kind: Kind,
     first: u32,
     is_free: bool,
     ranges: &mut Vec<Range>,
 ) -> Result<(), Memory>
-    requires { first + ROWS ≤ 2 ^ 32 }
-    ensures { let s = before.now.state in IfOk result (λ _. (x : ℕ) → IsIn ranges.new.items x
-        ↔ (IsIn ranges.old.items x ⊎ IsSlotOf s kind first is_free x)) }
+    requires { first + ROWS < 2 ^ 32 }
+    ensures { let free = IsFreeAs before.now.state kind is_free in IfOk result
+        (λ _. Adds ranges.old.items ranges.new.items (Between first (first + ROWS) free)) }
 {
-    for row in 0..ROWS {
-        add_slot(before, kind, Slot(first + row), is_free, ranges)?;
-    }
-    Ok(())
+    let slots = SlotTest {
+        before,
+        kind,
+        is_free,
+    };
+    add_each(&slots, first, first + ROWS, ranges)
 }
 
-// Adds a slot, if it is free, or if it is not.
-fn add_slot(
-    before: &Before,
+// Whether slots are free, or whether they are not.
+#[derive(Clone, Copy)]
+struct SlotTest<'a> {
+    before: &'a Before<'a>,
     kind: Kind,
-    slot: Slot,
     is_free: bool,
-    ranges: &mut Vec<Range>,
-) -> Result<(), Memory>
-    ensures { let s = before.now.state in IfOk result (λ _. (x : ℕ) → IsIn ranges.new.items x
-        ↔ (IsIn ranges.old.items x ⊎ IsThatSlot s kind slot is_free x)) }
-{
-    if before.is_free(kind, slot) == is_free {
-        add_range(ranges, slot.0, slot.0)
-    } else {
-        Ok(())
+}
+
+impl<'a> Test for SlotTest<'a> {
+    ghost use Rattle.hd_view.specs.Inside.{IsFreeAs};
+
+    ghost tells = { λ test. IsFreeAs test.before.now.state test.kind test.is_free };
+
+    fn has(&self, number: u32) -> bool {
+        is_free_as(self.before, self.kind, self.is_free, number)
     }
+}
+
+// Whether a slot is free, or whether it is not.
+fn is_free_as(before: &Before, kind: Kind, is_free: bool, number: u32) -> bool
+    ensures { IsTrue result ↔ IsFreeAs before.now.state kind is_free number }
+{
+    before.is_free(kind, Slot(number)) == is_free
 }
 
 // The blocks of a kind all of whose slots are free.
-fn free_blocks(alloc: Global, before: &Before, kind: Kind) -> Result<NumberSet, Memory>
-    ensures { IfOk result (λ set. Has set (λ x. IsAllFree before.now.state kind x)) }
+fn free_blocks<'a>(alloc: Global, before: &'a Before<'a>, kind: Kind) -> Result<NumberSet, Memory>
+    ensures { IfOk result (λ set. Has set (IsAllFree before.now.state kind)) }
 {
     let mut set = NumberSet::open(alloc);
-    for block in 0..before.blocks() + 1 {
-        add_free_block(before, kind, block, &mut set.within)?;
-    }
+    let blocks = before.blocks();
+    add_each(&BlockTest { before, kind }, 0, blocks + 1, &mut set.within)?;
     Ok(set)
 }
 
-// Adds a block, if all its slots are free.
-fn add_free_block(
-    before: &Before,
+// Whether all slots of blocks are free.
+#[derive(Clone, Copy)]
+struct BlockTest<'a> {
+    before: &'a Before<'a>,
     kind: Kind,
-    block: u32,
-    ranges: &mut Vec<Range>,
-) -> Result<(), Memory>
-    ensures { IfOk result (λ _. (x : ℕ) → IsIn ranges.new.items x
-        ↔ (IsIn ranges.old.items x ⊎ ((x ≡ block) × IsAllFree before.now.state kind x))) }
-{
-    if before.is_all_free(kind, block) {
-        add_range(ranges, block, block)
-    } else {
-        Ok(())
+}
+
+impl<'a> Test for BlockTest<'a> {
+    ghost use Rattle.hd_model.specs.State.{IsAllFree};
+
+    ghost tells = { λ test. IsAllFree test.before.now.state test.kind };
+
+    fn has(&self, number: u32) -> bool {
+        self.before.is_all_free(self.kind, number)
     }
 }
 
 // The addresses at which an object shares no cell with one that has a pinned address.
 fn free_addresses(alloc: Global, before: &Before, id: Id) -> Result<NumberSet, Memory>
-    ensures { IfOk result (λ set. Has set (λ x. IsFreeAddress before.now.state id x)) }
+    ensures { IfOk result (λ set. Has set (IsFreeAddress before.now.state id)) }
 {
     let mut set = NumberSet::open(alloc);
     add_range(&mut set.within, 0, u32::MAX)?;

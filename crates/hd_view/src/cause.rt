@@ -1,10 +1,13 @@
 // Why a line is not right: the first cause that is found.
-ghost use Rattle.std.specs.Prelude.{◌≡◌, ◌≢◌, ◌↔◌, ◌≤◌, ℕ, List, Some, None, false, true, Contains};
+ghost use Rattle.std.specs.Prelude.{◌≡◌, ◌≢◌, ◌↔◌, ◌≤◌, ◌<◌, ◌+◌, ◌-◌, ℕ, List, Some, None, false, true, Contains};
 ghost use Rattle.std.specs.Prelude.{IfSome, IfNone, IsTrue};
 ghost use Rattle.hd_model.specs.declared.limits.TheConstants.{BLOCKS};
+ghost use Rattle.hd_model.specs.declared.data.Id.{Id as IdValue};
 ghost use Rattle.hd_model.specs.declared.data.Grown.TheVariants.{Back, One, Two, Zero};
 ghost use Rattle.hd_model.specs.declared.data.Reply.TheVariants.{Value};
-ghost use Rattle.hd_model.specs.{State.first_slot, Step.IsLeastUnused};
+ghost use Rattle.hd_model.specs.{State.first_slot, State.given_of, Step.IsLeastUnused, Step.blocks_needed};
+ghost use Rattle.hd_model.specs.WellFormed.{IsWellFormed};
+ghost use Rattle.hd_view.specs.declared.cause.BlockCause.TheVariants.{TooFew};
 ghost use Rattle.hd_print.specs.VerdictLaws.{HasEnd};
 ghost use Rattle.hd_audit.specs.{Before.MayCome, Known.Known};
 ghost use Rattle.hd_view.specs.Accepted.{AreDue, IsDue};
@@ -12,9 +15,9 @@ ghost use Rattle.hd_view.specs.{Cause.is_end, Cause.EachLike, Cause.Holds, Cause
 ghost use Rattle.hd_view.specs.Inside.{IsBlockNext, IsDueOf, IsGrowing, IsOnly, IsOnlyLike, IsSlotNext};
 ghost use Rattle.hd_view.specs.Inside.{IsWrong};
 ghost use Rattle.hd_view.specs.{Inside.parts_in, Stated.HasReply, Stated.Parts};
-ghost use Rattle.hd_view.specs.declared.cause.Cause.TheVariants.{Spelled};
+ghost use Rattle.hd_view.specs.declared.cause.Cause.TheVariants.{Blocks, Spelled};
 
-use crate::accepted::{Accepted, Due};
+use crate::accepted::{Accepted, Due, needed_blocks};
 use crate::sets::NumberSet;
 use crate::stated::{Stated, begins, has_reply, parts_of};
 use hd_audit::{Before, cut_line};
@@ -81,13 +84,21 @@ pub(crate) enum BlockCause {
     Other,
     InUse(u32),
     /// The table grows by this block.
-    NotLeast(u32),
-    /// Each block has a use.
-    NoneUnused,
+    NotLeast(Growth, u32),
+    /// So many blocks are without a use, and a new row of the kind needs more.
+    TooFew(u32, Kind),
     /// The block has no handles of the kind.
     OtherKind(u32, Kind),
-    /// Some slot of the block is not free.
-    NotFree(u32),
+    /// Some slot of the block, which has handles of the kind, is not free.
+    NotFree(u32, Kind),
+}
+
+/// Which block of a growth is meant: the only one, or one of two.
+#[derive(Clone, Copy)]
+pub(crate) enum Growth {
+    Only,
+    First,
+    Second,
 }
 
 // With what an end line begins.
@@ -95,6 +106,7 @@ const END: &str = "end handles ";
 
 /// Why the first of the lines that are left may not come, or why there is none.
 pub(crate) fn cause_of(before: &Before, dues: &[Due]) -> Cause
+    requires sound { IsWellFormed before.now.numbers before.now.state }
     requires dues { AreDue before.now dues.now }
     requires wrong { IsWrong before.now }
     ensures { Holds before.now result }
@@ -109,6 +121,7 @@ pub(crate) fn cause_of(before: &Before, dues: &[Due]) -> Cause
 
 // Why the first of the lines that are left may not come.
 fn first_cause(before: &Before, dues: &[Due], line: &[u8]) -> Cause
+    requires sound { IsWellFormed before.now.numbers before.now.state }
     requires dues { AreDue before.now dues.now }
     requires wrong { MayCome before.now line.now → ⊥ }
     ensures { HoldsOn before.now line.now result }
@@ -150,6 +163,7 @@ fn end_cause(before: &Before) -> Cause
 
 // Why a line that does not may not come.
 fn line_cause(before: &Before, dues: &[Due], line: &[u8]) -> Cause
+    requires sound { IsWellFormed before.now.numbers before.now.state }
     requires dues { AreDue before.now dues.now }
     requires wrong { MayCome before.now line.now → ⊥ }
     requires begins { is_end line.now ≡ false }
@@ -187,6 +201,7 @@ fn find_due(dues: &[Due], caller: u32) -> Option<&Due>
 
 // Why a line of the caller of what is due may not come.
 fn number_cause(before: &Before, due: &Due, stated: Stated) -> Cause
+    requires sound { IsWellFormed before.now.numbers before.now.state }
     requires is_due { IsDue before.now due.now }
     requires caller { due.now.caller ≡ stated.caller }
     ensures { Explains before.now (parts_in stated.entry) result }
@@ -343,10 +358,14 @@ fn one_cause(before: &Before, kind: Kind, slot: Slot, block: u32) -> Cause
     ensures { (p : Parts) → IsSlotNext before.now p kind → p.slot ≡ Some slot → p.grown ≡ One block
         → Explains before.now p result }
 {
-    if kind.paired() {
+    if is_short(before, kind) {
+        too_few(before, kind)
+    } else if kind.paired() {
         Cause::Blocks(BlockCause::Other)
+    } else if before.has_use(block) {
+        Cause::Blocks(BlockCause::InUse(block))
     } else {
-        growth_cause(before, block, 1, slot, block)
+        least_cause(before, Growth::Only, 1, block, slot, block)
     }
 }
 
@@ -355,13 +374,36 @@ fn two_cause(before: &Before, kind: Kind, slot: Slot, block: u32, other: u32) ->
     ensures { (p : Parts) → IsSlotNext before.now p kind → p.slot ≡ Some slot
         → p.grown ≡ Two block other → Explains before.now p result }
 {
-    if !kind.paired() {
+    if is_short(before, kind) {
+        too_few(before, kind)
+    } else if !kind.paired() {
         Cause::Blocks(BlockCause::Other)
+    } else if before.has_use(block) {
+        Cause::Blocks(BlockCause::InUse(block))
+    } else if before.has_use(other) {
+        Cause::Blocks(BlockCause::InUse(other))
     } else if is_least(before, block) {
-        growth_cause(before, other, block + 1, slot, block)
+        least_cause(before, Growth::Second, block + 1, other, slot, block)
     } else {
-        growth_cause(before, block, 1, slot, block)
+        least_cause(before, Growth::First, 1, block, slot, block)
     }
+}
+
+// Whether fewer blocks are without a use than a new row of a kind may need.
+fn is_short(before: &Before, kind: Kind) -> bool
+    ensures { IsTrue result
+        ↔ (before.now.numbers.blocks < given_of before.now.state + blocks_needed kind) }
+{
+    before.blocks() < before.given() + needed_blocks(kind)
+}
+
+// That they are too few.
+fn too_few(before: &Before, kind: Kind) -> Cause
+    ensures { let unused = before.now.numbers.blocks - given_of before.now.state in
+        result ≡ Blocks (TooFew unused kind) }
+{
+    let unused = before.blocks().saturating_sub(before.given());
+    Cause::Blocks(BlockCause::TooFew(unused, kind))
 }
 
 // Whether a block is the least one without a use.
@@ -377,18 +419,22 @@ fn is_least(before: &Before, block: u32) -> bool
 
 // Why a block is not the least one without a use from a number on; or, where it is, why the slot is
 // not the first of the new block.
-fn growth_cause(before: &Before, block: u32, from: u32, slot: Slot, new: u32) -> Cause
-    ensures { (p : Parts) (kind : Kind) → IsGrowing before.now p kind block from slot new
+fn least_cause(
+    before: &Before,
+    growth: Growth,
+    from: u32,
+    block: u32,
+    slot: Slot,
+    new: u32,
+) -> Cause
+    ensures { (p : Parts) (kind : Kind) → IsGrowing before.now p kind growth block from slot new
         → Explains before.now p result }
 {
-    if before.has_use(block) {
-        return Cause::Blocks(BlockCause::InUse(block));
-    }
     let Some(least) = before.least_unused(from) else {
-        return Cause::Blocks(BlockCause::NoneUnused);
+        return Cause::Blocks(BlockCause::Other);
     };
     if least != block {
-        Cause::Blocks(BlockCause::NotLeast(least))
+        Cause::Blocks(BlockCause::NotLeast(growth, least))
     } else if is_first(slot, new) {
         Cause::Spelled
     } else {
@@ -406,7 +452,7 @@ fn is_first(slot: Slot, block: u32) -> bool
 // Why a line returns no address that is free.
 fn address_cause(free: &NumberSet, stated: Stated) -> Cause
     ensures { let p = parts_in stated.entry in
-        (k : Known) → IsAddressNext k p free.now → Explains k p result }
+        (k : Known) (id : IdValue) → IsAddressNext k p id free.now → Explains k p result }
 {
     if !begins(stated.tail, "addr ".as_bytes()) {
         Cause::Reply
@@ -469,7 +515,7 @@ fn given_cause(before: &Before, kind: Kind, block: u32) -> Cause
     if before.is_all_free(kind, block) {
         Cause::Spelled
     } else if before.is_of(kind, block) {
-        Cause::Blocks(BlockCause::NotFree(block))
+        Cause::Blocks(BlockCause::NotFree(block, kind))
     } else {
         Cause::Blocks(BlockCause::OtherKind(block, kind))
     }

@@ -1,5 +1,6 @@
 // Sets of numbers, by ranges.
-ghost use Rattle.std.specs.Prelude.{◌≡◌, ℕ, ◌+◌, ◌≤◌, ◌↔◌, ◌⊎◌, [], ◌++◌, ◌∷◌, max, IfOk, IsTrue};
+ghost use Rattle.std.specs.Prelude.{◌≡◌, ℕ, ◌+◌, ◌≤◌, ◌↔◌, [], ◌++◌, ◌∷◌, max, IfOk, IsTrue};
+ghost use Rattle.hd_view.specs.Inside.{Adds, Between};
 ghost use Rattle.hd_view.specs.Sets.{IsIn, IsMember};
 
 use hd_model::Memory;
@@ -80,8 +81,8 @@ fn is_in(ranges: &[Range], number: u32) -> bool
 /// Adds a range: to the last one, where it begins in that or behind it.
 pub(crate) fn add_range(ranges: &mut Vec<Range>, first: u32, last: u32) -> Result<(), Memory>
     requires { first ≤ last }
-    ensures { IfOk result (λ _. (x : ℕ) →
-        IsIn ranges.new.items x ↔ (IsIn ranges.old.items x ⊎ ((first ≤ x) × (x ≤ last)))) }
+    ensures { IfOk result (λ _. Adds ranges.old.items ranges.new.items
+        (λ x. (first ≤ x) × (x ≤ last))) }
 {
     let added = Range { first, last };
     match ranges.pop() {
@@ -91,6 +92,47 @@ pub(crate) fn add_range(ranges: &mut Vec<Range>, first: u32, last: u32) -> Resul
             push(ranges, added)
         }
         None => push(ranges, added),
+    }
+}
+
+/// A test of numbers.
+pub(crate) trait Test {
+    ghost use Rattle.std.specs.Prelude.{ℕ};
+
+    /// What it tells of a number.
+    ghost tells: { Self → ℕ → Type 0 };
+
+    /// Whether that is so.
+    fn has(&self, number: u32) -> bool
+        ensures { IsTrue result ↔ tells self.now number };
+}
+
+/// Adds the numbers from one up to another that pass a test.
+pub(crate) fn add_each<T: Test>(
+    test: &T,
+    first: u32,
+    end: u32,
+    ranges: &mut Vec<Range>,
+) -> Result<(), Memory>
+    requires { first ≤ end }
+    ensures { IfOk result (λ _. Adds ranges.old.items ranges.new.items
+        (Between first end (T.tells test.now))) }
+{
+    for number in first..end {
+        add_tested(test, number, ranges)?;
+    }
+    Ok(())
+}
+
+// Adds a number, if it passes a test.
+fn add_tested<T: Test>(test: &T, number: u32, ranges: &mut Vec<Range>) -> Result<(), Memory>
+    ensures { IfOk result (λ _. Adds ranges.old.items ranges.new.items
+        (λ x. (x ≡ number) × T.tells test.now x)) }
+{
+    if test.has(number) {
+        add_range(ranges, number, number)
+    } else {
+        Ok(())
     }
 }
 

@@ -5,13 +5,14 @@ ghost use Rattle.hd_model.specs.{CommandText.kind_name, Grammar.is_line_end, Val
 ghost use Rattle.hd_view.specs.Inside.{AreValid};
 ghost use Rattle.hd_view.specs.WhyText.{accepts_text, another_word, block_cause_word, blocks_text};
 ghost use Rattle.hd_view.specs.WhyText.{but_word, byte_word, cause_word, digit_of, due_text};
-ghost use Rattle.hd_view.specs.WhyText.{end_text, entry_line, escaped, letter_word, line_bytes};
+ghost use Rattle.hd_view.specs.WhyText.{end_text, entry_line, escaped, growth_words, handle_words};
+ghost use Rattle.hd_view.specs.WhyText.{letter_word, line_bytes, too_few_words};
 ghost use Rattle.hd_view.specs.WhyText.{numbers_word, only_number, printed_text, range_word, ranges_word};
 ghost use Rattle.hd_view.specs.WhyText.{set_line, slot_cause_word, slots_text, start_of_due};
 ghost use Rattle.hd_view.specs.WhyText.{why_text};
 
-use crate::accepted::{Accepted, Due};
-use crate::cause::{BlockCause, Cause, SlotCause};
+use crate::accepted::{Accepted, Due, needed_blocks};
+use crate::cause::{BlockCause, Cause, Growth, SlotCause};
 use crate::sets::{NumberSet, Range};
 use hd_audit::Before;
 use hd_model::{Entry, Kind, Memory};
@@ -404,16 +405,50 @@ fn push_block_cause(text: &mut Text, cause: BlockCause) -> Result<(), Memory>
         BlockCause::Needless => text.push("blocks are needless"),
         BlockCause::Other => text.push("the blocks are others"),
         BlockCause::InUse(block) => push_worded(text, "block ", block, " is in use"),
-        BlockCause::NotLeast(least) => {
-            push_numbered(text, "the least block without a use is ", least)
-        }
-        BlockCause::NoneUnused => text.push("no block is without a use"),
+        BlockCause::NotLeast(growth, least) => push_numbered(text, growth_words(growth), least),
+        BlockCause::TooFew(unused, kind) => push_too_few(text, unused, kind),
         BlockCause::OtherKind(block, kind) => {
             push_kinded(text, "block ", block, " has no handles of kind ", kind)
         }
-        BlockCause::NotFree(block) => {
+        BlockCause::NotFree(block, _) => {
             push_numbered(text, "not all slots are free in block ", block)
         }
+    }
+}
+
+// The words before the least block without a use.
+fn growth_words(growth: Growth) -> &'static str
+    ensures { result.now ≡ growth_words growth }
+{
+    match growth {
+        Growth::Only => "the least block without a use is ",
+        Growth::First => "the first block is the least without a use: ",
+        Growth::Second => "the second block is the least without a use after the first: ",
+    }
+}
+
+// That too few blocks are without a use.
+fn push_too_few(text: &mut Text, unused: u32, kind: Kind) -> Result<(), Memory>
+    ensures { IfOk result (λ _. text.new ≡ text.old ++ too_few_words unused kind) }
+{
+    push_worded(text, "too few blocks are unused: ", unused, ", and ")?;
+    text.push(handle_words(kind))?;
+    push_numbered(text, " needs ", needed_blocks(kind))?;
+    Ok(())
+}
+
+// A handle of a kind.
+fn handle_words(kind: Kind) -> &'static str
+    ensures { result.now ≡ handle_words kind }
+{
+    match kind {
+        Kind::Short => "a weak short handle",
+        Kind::Long => "a weak long handle",
+        Kind::Strong => "a strong handle",
+        Kind::Pinned => "a pinned handle",
+        Kind::Variable => "a variable handle",
+        Kind::Counted => "a ref-counted handle",
+        Kind::Dependent => "a dependent handle",
     }
 }
 

@@ -1,10 +1,9 @@
 use Rattle.std.proofs.lemmas.Result.{IfOk-weaker}
-use Rattle.std.proofs.Common.{ℕ, ◌*◌, ◌+◌, ◌⊎◌, false, refl, true}
-use Rattle.std.specs.Prelude.{◌↔◌}
+use Rattle.std.proofs.Common.{◌*◌, ◌+◌, false, true}
 use Rattle.hd_model.specs.declared.limits.TheConstants.{ROWS}
-use Rattle.hd_view.specs.Inside.{CoversTo, IsSlotOf}
-use Rattle.hd_view.specs.Sets.{IsIn}
+use Rattle.hd_view.specs.Inside.{Adds, Between, CoversTo, IsFreeAs}
 use Rattle.hd_view.specs.declared.sets.NumberSet.{NumberSet}
+use Rattle.hd_view.proofs.RangeSets.{adds_nothing}
 use Rattle.hd_view.proofs.SlotSets.{covers_listed, covers_named}
 use Rattle.hd_view.proofs.accepted.add_block.Goals as goal
 
@@ -15,7 +14,7 @@ returns-in_ok-add_range c =
     let old = c.args.set.now in
     let new : NumberSet = record { within = c.add_range.new.ranges; but = c.add_slots.new.ranges } in
     IfOk-weaker c.add_slots.result
-    (λ _. (x : ℕ) → IsIn new.but.items x ↔ (IsIn old.but.items x ⊎ IsSlotOf s c.args.kind first false x))
+    (λ _. Adds old.but.items new.but.items (Between first (first + ROWS) (IsFreeAs s c.args.kind false)))
     (λ _. CoversTo s c.args.kind (c.args.block + 1) new)
     (λ _ but. covers_named s c.args.kind c.args.block old new c.requires.below c.in_ok-add_range.ensures but)
     c.add_slots.ensures
@@ -27,7 +26,8 @@ returns-else-count_free c =
     let old = c.args.set.now in
     let new : NumberSet = record old { within = c.add_slots-else-count_free.new.ranges } in
     IfOk-weaker c.add_slots-else-count_free.result
-    (λ _. (x : ℕ) → IsIn new.within.items x ↔ (IsIn old.within.items x ⊎ IsSlotOf s c.args.kind first true x))
+    (λ _. Adds old.within.items new.within.items (Between first (first + ROWS) (IsFreeAs s c.args.kind true)))
     (λ _. CoversTo s c.args.kind (c.args.block + 1) new)
-    (λ _ within. covers_listed s c.args.kind c.args.block old new c.requires.below refl within)
+    (λ _ within. covers_listed s c.args.kind c.args.block old new c.requires.below
+    (adds_nothing old.but.items) within)
     c.add_slots-else-count_free.ensures

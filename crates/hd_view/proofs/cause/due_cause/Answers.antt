@@ -19,7 +19,7 @@ row_cause-requires-clause-other c =
 
 pub returns-in-Addresses : goal.returns-in-Addresses
 returns-in-Addresses c =
-    c.address_cause.ensures c.args.before.now
+    c.address_cause.ensures c.args.before.now _
     (address_next c.args.before.now (parts_in c.args.stated) c.args.due.now c.requires _ c.in-Addresses.free
     c.in-Addresses.is)
 

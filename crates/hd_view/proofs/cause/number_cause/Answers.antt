@@ -13,4 +13,5 @@ due_cause-requires c = record {
   is_due = c.requires.is_due;
   caller = c.requires.caller;
   number = sym c.if-stated-due.false;
+  sound = c.requires.sound;
 }
