@@ -25,6 +25,7 @@ static struct symbol *buckets[1024];
 static GC_push_other_roots_proc push_others;
 
 static void push_words(void) {
+    drop_dead(context);
     GC_push_all(words, words + top);
     if (push_others) push_others();
 }
@@ -59,8 +60,8 @@ static void make_box(slot dst, slot src) {
     at[0] = words[src];
     words[dst] = (word)at | OTHER;
 }
-static inline void box_get(slot dst, slot box) { words[dst] = fields_of(words[box])[0]; }
-static void box_set(slot box, slot src) { fields_of(words[box])[0] = words[src]; }
+static inline void box_get(slot dst, slot box, bool is_loaded) { (void)is_loaded, words[dst] = fields_of(words[box])[0]; }
+static void box_set(slot box, slot src, bool is_loaded) { (void)is_loaded, fields_of(words[box])[0] = words[src]; }
 static bool is_same(slot one, slot another) { return words[one] == words[another]; }
 
 static inline slot enter(slot base, unsigned size, unsigned count) {

@@ -10,33 +10,20 @@ enum { LOCALS = 16, NULL_LOCAL = 15, PLACES = 15 }; /* the last local of a conte
 enum { AT_HEAD = 3, AT_TAIL = 31, AT_CODE = 3, AT_FIRST = 19, AT_SECOND = 41, SORT = 3, PAYLOAD = 6, AT_BYTES = 31, END = 64 };
 enum { SPILLED = 0, YOUNG = 5000 }; /* a static; objects until the next collection: what follows is made where they were */
 enum sort { BOX, GUARDIAN, GUARDED }; /* of OTHER: in the three bits above the tag */
-/* A constant, or a global variable with its name: its handle is strong. */
-struct cell {
-    word now;
-    hdt_handle handle;
-    const char *name;
-};
-/* What goes with a handle: a symbol's is weak long, so that one that a guardian gives back gets no twin; a guard's is dependent. */
-struct note {
-    hdt_handle handle;
-    char *name; /* of a symbol */
-    uint32_t next; /* symbol of its bucket, 0 at the end */
-};
+struct cell { word now; hdt_handle handle; const char *name; }; /* a constant, or a global variable; its handle is strong */
+/* What goes with a handle: a symbol's is weak long, so that one that a guardian gives back gets no twin; a guard's is dependent.
+ * `next` is the next symbol of its bucket, 0 at the end. */
+static struct note { hdt_handle handle; char *name; uint32_t next; } *notes;
 static hdt_host host = HDT_CLOSED_HOST;
-static struct {
-    uint32_t cells, blocks, contexts;
-    bool is_stressed; /* a collection before each object */
-} of_host = { 4000000, 64, 256, false };
+static struct { uint32_t cells, blocks, contexts; bool is_stressed; } of_host = { 4000000, 64, 256, false };
 static const hdt_local none[1] = { NULL_LOCAL };
 static word *words;       /* by slot; of a context that was left for the next, its last is how many of its places are in use */
 static word (*spilled)[LOCALS]; /* words of contexts whose references are in an object */
 static size_t spilled_room;
 static uint32_t contexts; /* that procedures have; the next one is for work of the memory itself */
-static uint32_t context;  /* the present one, numbered on and on */
-static uint32_t oldest;   /* that is not spilled */
-static uint32_t newest, lowest; /* that were entered since dead places were cleared */
-static unsigned kept;     /* locals of the present context that a call is at work with */
-static struct note *notes;
+static uint32_t context, oldest; /* the present one, numbered on and on; the oldest that is not spilled */
+static uint32_t newest, lowest, dropped; /* present since locals were cleared; the lowest since what is dead was dropped */
+static unsigned kept;     /* locals of the present context that a call is at work with, though their words are immediate */
 static uint32_t buckets[1024], symbol_count, left; /* objects until the next collection */
 static inline hdt_context context_of(slot at) { return at / LOCALS; }
 static inline hdt_local local_of(slot at) { return at % LOCALS; }
@@ -62,12 +49,13 @@ static void clear_context(hdt_context c, unsigned used, unsigned at_work) {
 }
 /* What the program cannot come to any more is in no local. Contexts below the lowest that was entered are as they were. */
 static void clear_dead(slot top) {
+    drop_dead(dropped);
     for (uint32_t one = lowest > oldest ? lowest : oldest; one < context; one++)
         clear_context(one % contexts, live_in(one % contexts), 0);
     clear_context(context % contexts, local_of(top), kept);
     for (uint32_t one = context + 1; one <= newest && one < oldest + contexts; one++) clear_context(one % contexts, 0, 0);
     clear_context(contexts, 0, 0);
-    newest = lowest = context;
+    newest = lowest = dropped = context;
 }
 /* What is finalized stands for what is guarded: it goes to its guardian's list. */
 static void finalize(void) {
@@ -89,22 +77,19 @@ static uint32_t *bucket_of(const char *name) {
 }
 /* The name of a symbol is memory of C: it goes when the weak long handle is null. */
 static void forget_symbols(void) {
-    hdt_handle_info cleared[16];
+    hdt_handle_info cleared;
     size_t count;
-    uint32_t from = 0;
-    do {
-        must(hdt_handles_of(&host, 1u << HDT_WEAK_LONG, 1, from, cleared, 16, &count, &from), "symbols");
-        for (size_t i = 0; i < count; i++) {
-            struct note *note = &notes[note_of(cleared[i].handle)];
-            uint32_t *link = bucket_of(note->name);
-            while (*link != note_of(note->handle)) link = &notes[*link].next;
-            *link = note->next;
-            free(note->name);
-            must(hdt_handle_free(&host, note->handle), "a symbol's handle");
-            note->name = NULL;
-            symbol_count--;
-        }
-    } while (from != 0);
+    uint32_t next;
+    while (must(hdt_handles_of(&host, 1u << HDT_WEAK_LONG, 1, 0, &cleared, 1, &count, &next), "symbols"), count > 0) {
+        struct note *note = &notes[note_of(cleared.handle)];
+        uint32_t *link = bucket_of(note->name);
+        while (*link != note_of(note->handle)) link = &notes[*link].next;
+        *link = note->next;
+        free(note->name);
+        must(hdt_handle_free(&host, note->handle), "a symbol's handle");
+        note->name = NULL;
+        symbol_count--;
+    }
 }
 /* A collection of the young objects; of all if asked, or if over half of the heap is in use. If much stays, the next is later. */
 static void collect(slot top, bool is_full) {
@@ -114,9 +99,8 @@ static void collect(slot top, bool is_full) {
     if (!is_full) must(hdt_collect(&host, 0, &report), "a collection");
     must(hdt_stats(&host, &stats), "stats");
     if (is_full || stats.cells > of_host.cells / 2) must(hdt_collect(&host, 2, &report), "a full collection");
-    left = of_host.is_stressed ? 0 : YOUNG + 2 * (report.kept < YOUNG ? report.kept : YOUNG);
-    finalize();
-    forget_symbols();
+    left = of_host.is_stressed ? 0 : YOUNG + 3 * (report.kept < YOUNG ? report.kept : YOUNG);
+    finalize(), forget_symbols();
 }
 /* Room after so many refusals; all of the present context is taken to be in use. */
 static void make_room(unsigned refusals) {
@@ -124,22 +108,25 @@ static void make_room(unsigned refusals) {
     collect(context % contexts * LOCALS + PLACES, refusals > 0);
 }
 
-/* ---- objects. What a slot has is loaded into its local and its word */
+/* ---- objects. What a slot has is loaded into its local and its word; what finds no room is made later, after a collection */
+static __attribute__((noinline)) void make_later(slot dst, word value, uint32_t flags, const hdt_local *src, size_t fields) {
+    hdt_id id;
+    hdt_status status = HDT_HEAP_FULL;
+    for (unsigned refusals = 0; status == HDT_HEAP_FULL; refusals++) {
+        make_room(refusals);
+        status = hdt_object_make(&host, context_of(dst), local_of(dst), flags, value, src, fields, &id);
+    }
+    must(status, "an object");
+}
 static inline void make_object(slot dst, word value, uint32_t flags, const hdt_local *src, size_t fields) {
     hdt_id id;
-    hdt_status status;
-    unsigned refusals = 0;
-    if (left-- == 0) make_room(0);
-    while ((status = hdt_object_make(&host, context_of(dst), local_of(dst), flags, value, src, fields, &id)) == HDT_HEAP_FULL)
-        make_room(refusals++);
-    must(status, "an object");
+    if ((int32_t)--left < 0 || hdt_object_make(&host, context_of(dst), local_of(dst), flags, value, src, fields, &id) != HDT_OK)
+        make_later(dst, value, flags, src, fields);
     words[dst] = value;
 }
 static inline void load(slot dst, slot object, uint32_t field) {
     hdt_id id;
-    uint64_t value;
-    must(hdt_field_load(&host, context_of(dst), local_of(dst), local_of(object), field, &id, &value), "a field");
-    words[dst] = value;
+    must(hdt_field_load(&host, context_of(dst), local_of(dst), local_of(object), field, &id, &words[dst]), "a field");
 }
 static inline void copy(slot dst, slot src) {
     words[dst] = words[src];
@@ -151,19 +138,24 @@ static inline void pass(slot dst, slot src) {
     if (!is_reference(words[src])) return;
     must(hdt_local_pass(&host, context_of(dst), local_of(dst), context_of(src), local_of(src), &id), "a reference passed");
 }
-/* The slot's own local references its immediate, until the call is done. */
-static __attribute__((noinline)) void wrap(slot at) {
-    make_object(at, words[at], 0, none, 0);
-    kept |= 1u << local_of(at);
-}
 /* The part for what a slot has, which is in the next field if it is no immediate that fits. */
 static inline word put(slot from, unsigned at, unsigned end, hdt_local *src, size_t *fields) {
     word it = words[from];
     if (is_reference(it) || part_of(it << at, at, end) != it) {
-        if (!is_reference(it)) wrap(from), it = OTHER;
+        if (!is_reference(it)) kept |= 1u << local_of(from), it = OTHER;
         src[(*fields)++] = local_of(from);
     }
     return it << at & ~(word)0 >> (END - end);
+}
+/* Those that do not fit are objects of their own locals, until the call is done. */
+static __attribute__((noinline)) void wrap(slot context) {
+    for (unsigned at = 0; at < PLACES; at++)
+        if (kept >> at & 1) make_object(context + at, words[context + at], 0, none, 0);
+}
+static inline void make_parts(slot dst, word value, const hdt_local *src, size_t fields) {
+    if (kept != 0) wrap(dst - local_of(dst));
+    make_object(dst, value, 0, src, fields);
+    kept = 0;
 }
 static inline void get(slot dst, slot object, word part, uint32_t field) {
     if (is_reference(part)) load(dst, object, field);
@@ -174,33 +166,29 @@ static void make_pair(slot dst, slot head, slot tail) {
     size_t fields = 0;
     word value = PAIR | put(head, AT_HEAD, AT_TAIL, src, &fields);
     value |= put(tail, AT_TAIL, END, src, &fields);
-    make_object(dst, value, 0, src, fields);
-    kept = 0;
+    make_parts(dst, value, src, fields);
 }
 static inline void head_of(slot dst, slot pair) { get(dst, pair, part_of(words[pair], AT_HEAD, AT_TAIL), 0); }
 /* The tail without a load: an immediate, or of a reference its tag, and of a pair its head too if that is immediate. */
 static inline word tail_seen(slot pair) { return part_of(words[pair], AT_TAIL, END); }
-static inline void tail_of(slot dst, slot pair) {
-    get(dst, pair, tail_seen(pair), is_reference(words[pair] >> AT_HEAD));
-}
+static inline void tail_of(slot dst, slot pair) { get(dst, pair, tail_seen(pair), is_reference(words[pair] >> AT_HEAD)); }
 static inline void second_of(slot dst, slot pair) {
     const word second = part_of(tail_seen(pair), AT_HEAD, AT_TAIL);
     if (is_reference(second)) tail_of(dst, pair), head_of(dst, dst);
     else words[dst] = second;
 }
 /* What it captures from the third on is in fields alone. */
-static void make_procedure(slot dst, uint32_t code, slot base, const uint32_t *captured, unsigned count) {
+static __attribute__((noinline)) void make_procedure(slot dst, uint32_t code, slot base, const uint32_t *from, unsigned count) {
     hdt_local src[PLACES];
     size_t fields = 0;
     word value = (word)code << AT_CODE | PROCEDURE;
-    if (count > 0) value |= put(base + captured[0], AT_FIRST, AT_SECOND, src, &fields);
-    if (count > 1) value |= put(base + captured[1], AT_SECOND, END, src, &fields);
+    if (count > 0) value |= put(base + from[0], AT_FIRST, AT_SECOND, src, &fields);
+    if (count > 1) value |= put(base + from[1], AT_SECOND, END, src, &fields);
     for (unsigned i = 2; i < count; i++) {
-        if (!is_reference(words[base + captured[i]])) wrap(base + captured[i]);
-        src[fields++] = local_of(base + captured[i]);
+        if (!is_reference(words[base + from[i]])) kept |= 1u << local_of(base + from[i]);
+        src[fields++] = local_of(base + from[i]);
     }
-    make_object(dst, value, 0, src, fields);
-    kept = 0;
+    make_parts(dst, value, src, fields);
 }
 static inline uint32_t code_of(slot procedure) { return words[procedure] >> AT_CODE & 0xffff; }
 static inline void captured_of(slot dst, slot procedure, unsigned i) {
@@ -209,19 +197,21 @@ static inline void captured_of(slot dst, slot procedure, unsigned i) {
     else if (i == 1) get(dst, procedure, part_of(it, AT_SECOND, END), is_reference(first));
     else load(dst, procedure, is_reference(first) + is_reference(second) + i - 2);
 }
-/* A box has the value of a variable that is captured and set: immediate, or in its field. One in `dst` was just loaded. */
+/* A box has the value of a variable that is captured and set: immediate, or in its field. The word of one that was just loaded,
+ * and only of such a one, is true. */
 static void make_box(slot dst, slot src) {
     const hdt_local from[1] = { is_reference(words[src]) ? local_of(src) : NULL_LOCAL };
     make_object(dst, other(BOX, words[src]), 0, from, 1);
 }
-static inline void box_get(slot dst, slot box) {
+static inline void box_get(slot dst, slot box, bool is_loaded) {
     uint64_t value = words[box];
-    if (dst != box) must(hdt_value_get(&host, context_of(box), local_of(box), &value), "a variable");
+    if (!is_loaded) must(hdt_value_get(&host, context_of(box), local_of(box), &value), "a variable");
     get(dst, box, part_of(value, PAYLOAD, END), 0);
 }
-static void box_set(slot box, slot src) {
+static void box_set(slot box, slot src, bool is_loaded) {
     const hdt_local from = is_reference(words[src]) ? local_of(src) : NULL_LOCAL;
     must(hdt_value_set(&host, context_of(box), local_of(box), other(BOX, words[src])), "a variable");
+    if (is_loaded && from == NULL_LOCAL && !is_reference(words[box] >> PAYLOAD)) return;
     must(hdt_field_set(&host, context_of(box), local_of(box), 0, from), "a variable");
 }
 static bool is_same(slot one, slot another) {
@@ -233,26 +223,27 @@ static bool is_same(slot one, slot another) {
 }
 
 /* ---- places of procedures */
-/* The oldest context goes into an object, behind what went before it. */
+/* What the oldest context references goes into an object, behind what went before it. */
 static void spill(void) {
-    hdt_context c = oldest % contexts;
+    if (oldest >= dropped) drop_dead(dropped), dropped = context;
+    const hdt_context c = oldest % contexts;
     hdt_local src[LOCALS];
     size_t fields = 0;
     hdt_id id;
-    hdt_status status;
     if (oldest >= spilled_room) spilled = (word(*)[LOCALS])grown(spilled, &spilled_room, sizeof *spilled);
     memcpy(spilled[oldest], &words[c * LOCALS], sizeof *spilled);
     for (hdt_local at = 0; at < live_in(c); at++)
         if (is_reference(words[c * LOCALS + at])) src[fields++] = at;
-    src[fields++] = NULL_LOCAL;
-    for (unsigned refusals = 0;; make_room(refusals++)) {
+    src[fields] = NULL_LOCAL;
+    for (unsigned refusals = 0; fields > 0; make_room(refusals++)) {
         must(hdt_static_get(&host, c, NULL_LOCAL, SPILLED, &id), "frames");
-        status = hdt_object_make(&host, c, NULL_LOCAL, 0, 0, src, fields, &id);
-        if (status != HDT_HEAP_FULL) break;
+        hdt_status status = hdt_object_make(&host, c, NULL_LOCAL, 0, 0, src, fields + 1, &id);
+        if (status == HDT_HEAP_FULL) continue;
+        must(status, "an object for frames");
+        must(hdt_static_set(&host, c, SPILLED, NULL_LOCAL), "frames");
+        must(hdt_local_clear(&host, c, NULL_LOCAL), "clear");
+        break;
     }
-    must(status, "an object for frames");
-    must(hdt_static_set(&host, c, SPILLED, NULL_LOCAL), "frames");
-    must(hdt_locals_clear(&host, c, 0, LOCALS), "clear");
     oldest++;
 }
 static void restore(void) {
@@ -263,8 +254,8 @@ static void restore(void) {
     must(hdt_static_get(&host, c, NULL_LOCAL, SPILLED, &id), "frames");
     for (hdt_local at = 0; at < live_in(c); at++)
         if (is_reference(words[c * LOCALS + at])) must(hdt_field_get(&host, c, at, NULL_LOCAL, field++, &id), "a frame");
-    must(hdt_field_get(&host, c, NULL_LOCAL, NULL_LOCAL, field, &id), "frames");
-    must(hdt_static_set(&host, c, SPILLED, NULL_LOCAL), "frames");
+    if (field > 0) must(hdt_field_get(&host, c, NULL_LOCAL, NULL_LOCAL, field, &id), "frames");
+    if (field > 0) must(hdt_static_set(&host, c, SPILLED, NULL_LOCAL), "frames");
     must(hdt_local_clear(&host, c, NULL_LOCAL), "clear");
 }
 /* Of a callee whose places do not fit: the next context, to which its procedure and arguments are passed. */
@@ -281,10 +272,11 @@ static inline slot enter(slot base, unsigned size, unsigned count) {
     return local_of(base) + size <= PLACES ? base : next_context(base, count);
 }
 /* Back to the context before, with a result. What the callee left in its own is dead. */
-static void leave(slot dst, slot src) {
+static __attribute__((noinline)) void leave(slot dst, slot src) {
     if (context == oldest) restore();
     context--;
     if (context < lowest) lowest = context;
+    if (context < dropped) dropped = context;
     pass(dst, src);
 }
 
@@ -316,16 +308,15 @@ static void cell_set(struct cell *cell, slot src) {
 static void make_string(slot dst, const char *bytes) {
     const hdt_local src[1] = { local_of(dst) };
     const uint32_t length = (uint32_t)strlen(bytes);
-    uint64_t eight;
     for (uint32_t at = length > 4 ? 4 + (length - 5) / 8 * 8 : 0, rest = at; at > 0; at = at > 4 ? at - 8 : 0) {
-        eight = 0;
+        uint64_t eight = 0;
         memcpy(&eight, bytes + at, length - at < 8 ? length - at : 8);
         make_object(dst, eight, 0, src, at < rest);
         words[dst] = STRING;
     }
-    eight = 0;
-    memcpy(&eight, bytes, length < 4 ? length : 4);
-    make_object(dst, eight << AT_BYTES | (word)length << TAG_BITS | STRING, 0, src, length > 4);
+    uint32_t four = 0;
+    memcpy(&four, bytes, length < 4 ? length : 4);
+    make_object(dst, (word)four << AT_BYTES | (word)length << TAG_BITS | STRING, 0, src, length > 4);
 }
 /* A place to print from, with others behind it. */
 static slot to_print(slot at) { return pass(contexts * LOCALS, at), contexts * LOCALS; }
@@ -348,13 +339,9 @@ static void bytes_of(slot string, char *bytes) {
 static const char *symbol_name(slot symbol) { return notes[words[symbol] >> TAG_BITS].name; }
 static void make_symbol(slot dst, const char *name) {
     hdt_id id;
-    uint64_t value;
-    for (uint32_t at = *bucket_of(name); at != 0; at = notes[at].next) {
-        if (strcmp(notes[at].name, name) != 0) continue;
-        must(hdt_handle_load(&host, context_of(dst), notes[at].handle, local_of(dst), &id, &value), "a symbol");
-        words[dst] = value;
-        return;
-    }
+    uint32_t at = *bucket_of(name);
+    while (at != 0 && strcmp(notes[at].name, name) != 0) at = notes[at].next;
+    if (at != 0) return must(hdt_handle_load(&host, context_of(dst), notes[at].handle, local_of(dst), &id, &words[dst]), name);
     make_object(dst, SYMBOL, 0, none, 0);
     hdt_handle handle = handle_to(HDT_WEAK_LONG, dst, 0);
     words[dst] = (word)note_of(handle) << TAG_BITS | SYMBOL;
@@ -392,18 +379,16 @@ static void guarded(slot dst, slot guardian) {
     pass(dst, at_work + 1);
 }
 static void memo_set(slot key, slot value) {
-    if (!is_reference(words[value])) wrap(value);
-    kept = 0;
+    if (!is_reference(words[value])) make_object(value, words[value], 0, none, 0);
     must(hdt_table_set(&host, context_of(key), local_of(key), local_of(value)), "an entry");
 }
 /* What the table has of a key, or #f. */
 static void memo_get(slot dst, slot key) {
     hdt_id id;
-    uint64_t value = FALSE;
-    hdt_status status = hdt_table_find(&host, context_of(dst), local_of(dst), local_of(key), &id);
-    if (status != HDT_NONE) must(status, "an entry");
-    if (status == HDT_OK) must(hdt_value_get(&host, context_of(dst), local_of(dst), &value), "an entry");
-    words[dst] = value;
+    const hdt_status status = hdt_table_find(&host, context_of(dst), local_of(dst), local_of(key), &id);
+    words[dst] = FALSE;
+    if (status == HDT_NONE) return;
+    must(status, "an entry"), must(hdt_value_get(&host, context_of(dst), local_of(dst), &words[dst]), "its value");
 }
 
 /* ---- the whole */

@@ -3,7 +3,6 @@
  * Scheme there is. The memory is host.h, or another one with the same calls (benches/scheme_bdwgc.h). It is C11. */
 #include <inttypes.h>
 #include <stdbool.h>
-#include <stdint.h>
 #include <stdio.h>
 #include <stdlib.h>
 #include <string.h>
@@ -11,7 +10,7 @@ typedef uint64_t word;
 typedef uint32_t slot; /* a place, of which words[place] is what it has */
 enum tag { INTEGER, SPECIAL, PAIR, PROCEDURE, STRING, SYMBOL, OTHER, TAG_BITS = 3 };
 enum special { CONSTANT, CODE, PRIMITIVE, KIND = 16 + TAG_BITS }; /* kinds of special words, and where the kind is */
-enum { MOST_TEXT = 4096 }; /* bytes of a string or a name, and a zero */
+enum { MOST_TEXT = 4096, MOST_OWN = 64 }; /* bytes of a string or a name, and a zero; variables of a procedure */
 #define SPECIAL_OF(kind, number) ((word)(kind) << KIND | (word)(number) << TAG_BITS | SPECIAL)
 static const word NIL = SPECIAL_OF(CONSTANT, 0), FALSE = SPECIAL_OF(CONSTANT, 1), TRUE = SPECIAL_OF(CONSTANT, 2),
                   NOTHING = SPECIAL_OF(CONSTANT, 3), UNSET = SPECIAL_OF(CONSTANT, 4);
@@ -32,18 +31,15 @@ static void *grown(void *at, size_t *room, size_t each) {
     if (at == NULL) fail("no memory", "");
     return at;
 }
+static void drop_dead(uint32_t first_context);
 #ifndef MEMORY
 #define MEMORY "host.h"
 #endif
 #include MEMORY
 
 /* ---- what is read: it is memory of C until its form is done */
-struct datum {
-    enum is { IS_INTEGER, IS_NAME, IS_STRING, IS_PAIR, IS_NIL, IS_TRUE, IS_FALSE } is;
-    int64_t integer;
-    const char *text;
-    const struct datum *head, *tail;
-};
+enum is { IS_INTEGER, IS_NAME, IS_STRING, IS_PAIR, IS_NIL, IS_TRUE, IS_FALSE };
+struct datum { enum is is; int64_t integer; const char *text; const struct datum *head, *tail; };
 typedef const struct datum *form;
 static FILE *input;
 static void **taken;
@@ -116,7 +112,7 @@ static form read_form(void) {
     return start.tail;
 }
 
-/* ---- primitives: of at most two operands, in any places; `b` is the first unused place where there are fewer */
+/* ---- primitives: of at most two operands, in any places; without any, `a` is above all places that are used */
 static inline void need(bool is, const char *what) { if (!is) fail("a wrong operand", what); }
 static inline word integer(int64_t number) {
     need(number >= -((int64_t)1 << 54) && number < (int64_t)1 << 54, "an integer is too large");
@@ -126,11 +122,8 @@ static inline void need_a(enum tag tag, slot at) {
     static const char *const names[] = { "no integer", "", "no pair", "no procedure", "no string", "no symbol", "no object" };
     need(tag == OTHER ? is_reference(words[at]) : tag_of(words[at]) == tag, names[tag]);
 }
-#define DO(called, ...)                                 \
-    static inline void called(slot dst, slot a, slot b) { \
-        (void)dst, (void)a, (void)b;                    \
-        __VA_ARGS__;                                    \
-    }
+#define DO(called, ...) \
+    static inline void called(slot dst, slot a, slot b) { (void)dst, (void)a, (void)b; __VA_ARGS__; }
 #define IS(...) words[dst] = (__VA_ARGS__) ? TRUE : FALSE
 #define INTEGERS need_a(INTEGER, a); need_a(INTEGER, b)
 #define A integer_of(words[a])
@@ -189,11 +182,7 @@ static void print(slot at, unsigned depth) {
     printf("%s", text);
 }
 DO(display, print(to_print(a), 0); words[dst] = NOTHING)
-static const struct primitive {
-    const char *name;
-    unsigned operands;
-    void (*call)(slot dst, slot a, slot b);
-} primitives[] = {
+static const struct primitive { const char *name; unsigned operands; void (*call)(slot dst, slot a, slot b); } primitives[] = {
     { "+", 2, add }, { "-", 2, subtract }, { "<", 2, is_less }, { "=", 2, is_equal }, { "cdr", 1, cdr }, { "cons", 2, cons },
     { "car", 1, car }, { "null?", 1, is_null }, { "pair?", 1, is_pair }, { "not", 1, is_not }, { "cadr", 1, cadr },
     { " last?", 1, is_last }, { "eq?", 2, is_eq }, { "*", 2, multiply }, { ">", 2, is_more }, { "quotient", 2, quotient },
@@ -205,45 +194,31 @@ static const struct primitive {
 };
 enum { CDR = 4, CAR = 6, IS_NULL = 7, CADR = 10, IS_LAST = 11, PRIMITIVES = sizeof primitives / sizeof *primitives };
 
-/* ---- code: an operation and three places; or one, and a number */
+/* ---- code: an operation and three places; or one, and a number. After a call comes the set of places that are used after it */
 enum operation { CONST = PRIMITIVES, CELL, SET_CELL, MOVE, CAPTURED, MAKE_BOX, GET_BOX, SET_BOX, CLOSE, JUMP, JUMP_IF_NOT, CALL,
                  TAIL_CALL, RETURN };
-struct code {
-    uint32_t *words;
-    size_t count, room;
-    unsigned parameters, size, captured;
-};
-struct variable {
-    const char *name;
-    unsigned at;
-    bool is_boxed;
-};
+static struct code { uint32_t *words; size_t count, room; unsigned parameters, size, captured; } *codes;
+struct variable { const char *name; unsigned at; bool is_boxed; };
 /* A procedure while code is made of it: its variables, and those of procedures around it that it captures. */
 struct scope {
     struct scope *around;
     const char *self;
-    struct variable own[PLACES + 1], captured[PLACES + 1];
+    struct variable own[MOST_OWN], captured[PLACES];
     unsigned own_count, captured_count, code;
 };
-static struct code *codes;
 static struct cell *cells;
 static size_t code_count, code_room, cell_count, cell_room;
-static void emit(struct scope *s, unsigned operation, unsigned a, unsigned b, unsigned c) {
+static size_t emit(struct scope *s, unsigned operation, unsigned a, unsigned b, unsigned c) {
     struct code *code = &codes[s->code];
     if (code->count == code->room) code->words = (uint32_t *)grown(code->words, &code->room, sizeof *code->words);
     if (code->count > 0xffff || b > 0xffff || code_count > 0x10000) fail("too much code", "");
-    code->words[code->count++] = operation | a << 8 | b << 16 | c << 24;
-}
-/* A jump whose end is not known yet, and its end. */
-static size_t emit_jump(struct scope *s, unsigned operation, unsigned a) {
-    emit(s, operation, a, 0, 0);
-    return codes[s->code].count - 1;
+    code->words[code->count] = operation | a << 8 | b << 16 | c << 24;
+    return code->count++;
 }
 static void end_jump(struct scope *s, size_t jump) { codes[s->code].words[jump] |= (uint32_t)codes[s->code].count << 16; }
 static unsigned place(struct scope *s, unsigned at) {
-    struct code *code = &codes[s->code];
-    if (at + 1 > code->size) code->size = at + 1;
-    if (code->size > PLACES) fail("a procedure needs more than 15 places", "");
+    if (at >= PLACES) fail("a procedure needs more than 15 places", "");
+    if (at >= codes[s->code].size) codes[s->code].size = at + 1;
     return at;
 }
 static unsigned new_code(unsigned parameters) {
@@ -262,21 +237,37 @@ static unsigned cell_called(const char *called) {
     return new_cell(called, UNSET);
 }
 static void emit_word(struct scope *s, unsigned dst, word it) { emit(s, CONST, dst, new_cell("", it), 0); }
-/* Where a variable is; a procedure finds itself in its place 0, and what it has from around it is captured. */
-enum where { NOWHERE, HERE, OUTSIDE };
-static enum where find(struct scope *s, const char *called, struct variable *found) {
+/* A procedure's own variable, or null; it finds itself in its place 0. */
+static const struct variable *own_called(const struct scope *s, const char *called) {
+    static const struct variable itself = { "", 0, false };
     for (unsigned i = s->own_count; i-- > 0;)
-        if (strcmp(s->own[i].name, called) == 0) return *found = s->own[i], HERE;
-    *found = (struct variable){ called, 0, false };
-    if (s->self != NULL && strcmp(s->self, called) == 0) return HERE;
+        if (strcmp(s->own[i].name, called) == 0) return &s->own[i];
+    return s->self != NULL && strcmp(s->self, called) == 0 ? &itself : NULL;
+}
+enum where { NOWHERE, HERE, OUTSIDE }; /* a variable is; what a procedure has from around it is captured */
+static enum where find(struct scope *s, const char *called, struct variable *found) {
+    const struct variable *own = own_called(s, called);
+    if (own != NULL) return *found = *own, HERE;
     for (unsigned i = 0; i < s->captured_count; i++)
         if (strcmp(s->captured[i].name, called) == 0) return *found = s->captured[i], OUTSIDE;
     if (s->around == NULL || find(s->around, called, found) == NOWHERE) return NOWHERE;
     if (s->captured_count == PLACES - 2) fail("a procedure captures too much", called);
-    found->at = s->captured_count;
+    *found = (struct variable){ called, s->captured_count, found->is_boxed };
     return s->captured[s->captured_count++] = *found, OUTSIDE;
 }
+/* The places that a form's code may read, a bit for each: what is captured is read from place 0. */
+static unsigned read_by(const struct scope *s, form it) {
+    unsigned found = 0;
+    for (; it->is == IS_PAIR; it = it->tail) found |= read_by(s, it->head);
+    if (it->is != IS_NAME) return found;
+    const struct variable *own = own_called(s, it->text);
+    if (own != NULL) return 1u << own->at;
+    for (s = s->around; s != NULL; s = s->around)
+        if (own_called(s, it->text) != NULL) return 1;
+    return found;
+}
 static void add_own(struct scope *s, const char *called, unsigned at, bool is_boxed) {
+    if (s->own_count == MOST_OWN) fail("a procedure has too many variables", called);
     s->own[s->own_count++] = (struct variable){ called, place(s, at), is_boxed };
     if (is_boxed) emit(s, MAKE_BOX, at, at, 0);
 }
@@ -290,51 +281,72 @@ static unsigned uses(form it, const char *called, bool is_inside) {
     return found;
 }
 
-/* ---- forms, each for the place of its result, with the first place that is free; at the end of a procedure, with its return */
-static void gen(struct scope *s, form it, unsigned dst, unsigned free, bool is_last);
-static void gen_body(struct scope *s, form body, unsigned dst, unsigned free, bool is_last);
-/* The place of an operand: where the variable is, or the first free one. */
-static unsigned operand(struct scope *s, form it, unsigned *free) {
-    struct variable found;
-    if (it->is == IS_NAME && find(s, it->text, &found) == HERE && !found.is_boxed) return found.at;
-    return gen(s, it, *free, *free, false), (*free)++;
+/* ---- forms, each for the place of its result; what is used after it is in the `live` places; at a procedure's end it returns */
+static void gen(struct scope *s, form it, unsigned dst, unsigned live, bool is_last);
+static void gen_body(struct scope *s, form body, unsigned dst, unsigned live, bool is_last);
+/* The primitive that a form calls, or PRIMITIVES. */
+static unsigned primitive_of(struct scope *s, form it) {
+    if (it->is != IS_PAIR || it->head->is != IS_NAME || read_by(s, it->head) != 0) return PRIMITIVES;
+    const word now = cells[cell_called(it->head->text)].now;
+    return is_special(now, PRIMITIVE) ? number_in(now) : PRIMITIVES;
 }
-static void gen_lambda(struct scope *s, form it, const char *self, unsigned dst, unsigned free) {
+static bool is_call(struct scope *s, form it) {
+    return it->is == IS_PAIR && !begins(it, "quote") && !begins(it, "lambda") && primitive_of(s, it) == PRIMITIVES;
+}
+/* A place besides those that are used: for a call, which leaves its value where it was, above them all; else the first. */
+static unsigned place_for(struct scope *s, bool is_left, unsigned used) {
+    return place(s, !is_left ? (unsigned)__builtin_ctz(~used) : used == 0 ? 0 : 32 - (unsigned)__builtin_clz(used));
+}
+/* Where a form's value is already, or PLACES. */
+static unsigned place_of(const struct scope *s, form it) {
+    const struct variable *own = it->is == IS_NAME ? own_called(s, it->text) : NULL;
+    return own != NULL && !own->is_boxed ? own->at : PLACES;
+}
+static unsigned operand(struct scope *s, form it, unsigned live) {
+    unsigned at = place_of(s, it);
+    if (at == PLACES) gen(s, it, at = place_for(s, is_call(s, it), live), live, false);
+    return at;
+}
+static void gen_lambda(struct scope *s, form it, const char *self, unsigned dst, unsigned live) {
     struct scope inner = { .around = s, .self = self, .code = new_code(length_of(part(it, 1))) };
     struct variable found;
     unsigned from[PLACES];
+    live |= read_by(s, it);
     for (form one = part(it, 1); one->is == IS_PAIR; one = one->tail)
         add_own(&inner, one->head->text, inner.own_count + 1, uses(after(it, 2), one->head->text, false) == 3);
-    gen_body(&inner, after(it, 2), 0, inner.own_count + 1, true);
+    gen_body(&inner, after(it, 2), 0, 0, true);
     const unsigned count = codes[inner.code].captured = inner.captured_count;
     if (count == 0) emit_word(s, dst, SPECIAL_OF(CODE, inner.code));
     for (unsigned i = 0; i < count; i++) {
         bool is_here = find(s, inner.captured[i].name, &found) == HERE;
-        from[i] = is_here ? found.at : place(s, free++);
+        from[i] = is_here ? found.at : place_for(s, false, live);
+        live |= 1u << from[i];
         if (!is_here) emit(s, CAPTURED, from[i], found.at, 0);
     }
     if (count > 0) emit(s, CLOSE, dst, inner.code, 0);
     for (unsigned i = 0; i < count; i++) emit(s, from[i], 0, 0, 0);
 }
 /* The variables are there while their values are made; one that a value before its own has is in a box too. */
-static void gen_letrec(struct scope *s, form bindings, form body, unsigned dst, unsigned free, bool is_last) {
-    unsigned first = s->own_count, one = first;
-    for (form it = bindings; it->is == IS_PAIR; it = it->tail, free++) {
+static void gen_letrec(struct scope *s, form bindings, form body, unsigned dst, unsigned live, bool is_last) {
+    unsigned first = s->own_count, one = first, used = live | read_by(s, bindings) | read_by(s, body);
+    for (form it = bindings; it->is == IS_PAIR; it = it->tail) {
         const char *called = part(it->head, 0)->text;
         bool is_boxed = (uses(bindings, called, true) | uses(body, called, true)) & 1;
-        if (!begins(part(it->head, 1), "lambda")) is_boxed |= uses(part(it->head, 1), called, true) != 0;
-        for (form one = bindings; one != it; one = one->tail) is_boxed |= uses(part(one->head, 1), called, true) != 0;
-        emit_word(s, free, UNSET);
-        add_own(s, called, free, is_boxed);
+        for (form one = bindings; one != it->tail; one = one->tail)
+            if (one != it || !begins(part(it->head, 1), "lambda")) is_boxed |= uses(part(one->head, 1), called, true) != 0;
+        const unsigned at = place_for(s, false, used);
+        used |= 1u << at;
+        emit_word(s, at, UNSET);
+        add_own(s, called, at, is_boxed);
     }
     for (form it = bindings; it->is == IS_PAIR; it = it->tail, one++) {
         const struct variable own = s->own[one];
-        unsigned to = own.is_boxed ? place(s, free) : own.at;
-        if (begins(part(it->head, 1), "lambda")) gen_lambda(s, part(it->head, 1), own.is_boxed ? NULL : own.name, to, free + 1);
-        else gen(s, part(it->head, 1), to, free, false);
+        unsigned to = own.is_boxed ? place_for(s, is_call(s, part(it->head, 1)), used) : own.at;
+        if (begins(part(it->head, 1), "lambda")) gen_lambda(s, part(it->head, 1), own.is_boxed ? NULL : own.name, to, used);
+        else gen(s, part(it->head, 1), to, used, false);
         if (own.is_boxed) emit(s, SET_BOX, own.at, to, 0);
     }
-    gen_body(s, body, dst, free, is_last);
+    gen_body(s, body, dst, live, is_last);
     s->own_count = first;
 }
 static form binding_of(form definition) {
@@ -342,67 +354,72 @@ static form binding_of(form definition) {
     if (target->is == IS_NAME) return definition->tail;
     return list(target->head, pair(name("lambda"), pair(target->tail, after(definition, 2))), NULL);
 }
-static void gen_body(struct scope *s, form body, unsigned dst, unsigned free, bool is_last) {
+static void gen_body(struct scope *s, form body, unsigned dst, unsigned live, bool is_last) {
     struct datum bindings = { .tail = atom(IS_NIL) }, *last = &bindings;
     for (; s->around != NULL && begins(part(body, 0), "define"); body = body->tail) {
         struct datum *next = pair(binding_of(body->head), atom(IS_NIL));
         last->tail = next;
         last = next;
     }
-    if (last != &bindings) return gen_letrec(s, bindings.tail, body, dst, free, is_last);
-    for (; body->tail->is == IS_PAIR; body = body->tail) gen(s, body->head, free, free, false);
-    gen(s, body->head, dst, free, is_last);
+    if (last != &bindings) return gen_letrec(s, bindings.tail, body, dst, live, is_last);
+    for (; body->tail->is == IS_PAIR; body = body->tail) operand(s, body->head, live | read_by(s, body->tail));
+    gen(s, body->head, dst, live, is_last);
 }
-static void gen_let(struct scope *s, form it, unsigned dst, unsigned free, bool is_last) {
-    unsigned outer = s->own_count, first = free;
-    for (form one = part(it, 1); one->is == IS_PAIR; one = one->tail, free++) gen(s, part(one->head, 1), free, free, false);
+static void gen_let(struct scope *s, form it, unsigned dst, unsigned live, bool is_last) {
+    unsigned outer = s->own_count, at[PLACES + 1], count = 0, made = live;
+    const form body = after(it, 2);
+    for (form one = part(it, 1); one->is == IS_PAIR; one = one->tail) {
+        const unsigned used = made | read_by(s, one->tail) | read_by(s, body);
+        const bool is_left = is_call(s, part(one->head, 1));
+        at[count] = is_left || used >> dst & 1 ? place_for(s, is_left, used) : dst;
+        gen(s, part(one->head, 1), at[count], used, false);
+        made |= 1u << at[count++];
+    }
+    count = 0;
     for (form one = part(it, 1); one->is == IS_PAIR; one = one->tail)
-        add_own(s, part(one->head, 0)->text, first++, uses(after(it, 2), part(one->head, 0)->text, false) == 3);
-    gen_body(s, after(it, 2), dst, free, is_last);
+        add_own(s, part(one->head, 0)->text, at[count++], uses(body, part(one->head, 0)->text, false) == 3);
+    gen_body(s, body, dst, live, is_last);
     s->own_count = outer;
 }
-/* A procedure in the first free place, its arguments behind it; at the end of another one it is made last, in place 0. */
-static void gen_call(struct scope *s, form it, unsigned dst, unsigned free, bool is_last) {
-    struct variable found;
-    unsigned first = 1; /* of the arguments that are no variables in their own places already */
-    form one = it->tail;
-    for (; is_last && one->is == IS_PAIR && one->head->is == IS_NAME; one = one->tail, first++)
-        if (find(s, one->head->text, &found) != HERE || found.is_boxed || found.at != first) break;
-    const unsigned at = is_last ? free - first : place(s, free++);
-    if (!is_last) gen(s, it->head, at, at, false);
-    for (; one->is == IS_PAIR; one = one->tail, free++) gen(s, one->head, free, free, false);
-    if (is_last) gen(s, it->head, 0, free, false);
-    emit(s, is_last ? TAIL_CALL : CALL, at, length_of(it) - 1, first);
+/* What is called and then its arguments, from `at` on; at the end of a procedure they take its own places. First is made what
+ * calls leave, then the rest from the last on, as variables mostly move up; to a place that is still read it is moved last. */
+static void gen_call(struct scope *s, form it, unsigned dst, unsigned live, bool is_last) {
+    const unsigned count = length_of(it), lowest = place_for(s, true, live), at = is_last ? 0 : dst > lowest ? dst : lowest;
+    unsigned from[PLACES], made = 0, used = live;
+    place(s, at + count - 1);
+    for (unsigned turn = 0; turn < 2 * count; turn++) {
+        const unsigned i = turn < count ? turn : 2 * count - 1 - turn;
+        if (is_call(s, part(it, i)) != (turn < count)) continue;
+        unsigned later = 0;
+        made |= 1u << i;
+        for (unsigned other = 0; other < count; other++)
+            if (!(made >> other & 1)) later |= read_by(s, part(it, other));
+        const bool is_taken = later >> (at + i) & 1 && place_of(s, part(it, i)) != at + i;
+        from[i] = is_taken ? place_for(s, true, used | later | ((1u << count) - 1) << at) : at + i;
+        gen(s, part(it, i), from[i], used | later, false);
+        used |= 1u << from[i];
+    }
+    for (unsigned i = 0; i < count; i++)
+        if (from[i] != at + i) emit(s, MOVE, at + i, from[i], 0);
+    emit(s, is_last ? TAIL_CALL : CALL, at, count - 1, 0), emit(s, live, 0, 0, 0);
     if (!is_last && dst != at) emit(s, MOVE, dst, at, 0);
 }
-/* The primitive that a form calls, or PRIMITIVES. */
-static unsigned primitive_of(struct scope *s, form it) {
-    struct variable found;
-    if (it->is != IS_PAIR || it->head->is != IS_NAME || find(s, it->head->text, &found) != NOWHERE) return PRIMITIVES;
-    const word now = cells[cell_called(it->head->text)].now;
-    return is_special(now, PRIMITIVE) ? number_in(now) : PRIMITIVES;
-}
-static bool gen_primitive(struct scope *s, form it, unsigned dst, unsigned free, bool is_last) {
+static void gen_primitive(struct scope *s, form it, unsigned dst, unsigned live) {
     unsigned number = primitive_of(s, it);
-    if (number == PRIMITIVES) return false;
     if ((number == CAR || number == IS_NULL) && primitive_of(s, part(it, 1)) == CDR) number += CADR - CAR, it = part(it, 1);
     const unsigned count = length_of(it) - 1;
     if (count != primitives[number].operands) fail("a wrong number of operands", it->head->text);
-    const bool is_turned = count > 1 && primitive_of(s, part(it, 1)) <= IS_LAST; /* what has no effect is done last */
-    unsigned b = is_turned ? operand(s, part(it, 2), &free) : place(s, free);
-    unsigned a = count > 0 ? operand(s, part(it, 1), &free) : b;
-    if (count > 1 && !is_turned) b = operand(s, part(it, 2), &free);
+    unsigned a = count > 0 ? operand(s, part(it, 1), live | read_by(s, after(it, 2))) : place_for(s, true, live);
+    unsigned b = count > 1 ? operand(s, part(it, 2), live | 1u << a) : a;
     emit(s, number, dst, a, b);
-    if (is_last) emit(s, RETURN, 0, 0, 0);
-    return true;
 }
-static void gen_if(struct scope *s, form it, unsigned dst, unsigned free, bool is_last) {
-    unsigned inside = free, test = operand(s, part(it, 1), &inside);
-    size_t to_else = emit_jump(s, JUMP_IF_NOT, test), to_end = 0;
-    gen(s, part(it, 2), dst, free, is_last);
-    if (!is_last) to_end = emit_jump(s, JUMP, 0);
+static void gen_if(struct scope *s, form it, unsigned dst, unsigned live, bool is_last) {
+    unsigned test = operand(s, part(it, 1), live | read_by(s, after(it, 2)));
+    size_t to_else = emit(s, JUMP_IF_NOT, test, 0, 0), to_end = 0;
+    gen(s, part(it, 2), dst, live, is_last);
+    if (!is_last) to_end = emit(s, JUMP, 0, 0, 0);
     end_jump(s, to_else);
-    gen(s, length_of(it) > 3 ? part(it, 3) : list(name("begin"), atom(IS_FALSE), NULL), dst, free, is_last);
+    gen(s, length_of(it) > 3 ? part(it, 3) : atom(IS_FALSE), dst, live, is_last);
     if (!is_last) end_jump(s, to_end);
 }
 static void gen_name(struct scope *s, const char *called, unsigned dst) {
@@ -411,19 +428,20 @@ static void gen_name(struct scope *s, const char *called, unsigned dst) {
     if (where == NOWHERE) emit(s, CELL, dst, cell_called(called), 0);
     else if (where == OUTSIDE) emit(s, CAPTURED, dst, found.at, 0);
     else if (!found.is_boxed && found.at != dst) emit(s, MOVE, dst, found.at, 0);
-    if (where != NOWHERE && found.is_boxed) emit(s, GET_BOX, dst, where == HERE ? found.at : dst, 0);
+    if (where != NOWHERE && found.is_boxed) emit(s, GET_BOX, dst, where == HERE ? found.at : dst, where == OUTSIDE);
 }
-static void gen_set(struct scope *s, form it, unsigned dst, unsigned free) {
+static void gen_set(struct scope *s, form it, unsigned dst, unsigned live) {
     struct variable found;
     bool is_definition = begins(it, "define");
     if (is_definition && s->around != NULL) fail("a definition is not at the beginning of a body", "");
     form binding = is_definition ? binding_of(it) : it->tail;
     const char *called = part(binding, 0)->text;
     enum where where = is_definition ? NOWHERE : find(s, called, &found);
-    unsigned value = operand(s, part(binding, 1), &free);
+    unsigned value = operand(s, part(binding, 1), live |= read_by(s, part(binding, 0)));
     if (where == NOWHERE) emit(s, SET_CELL, value, cell_called(called), 0);
-    if (where == OUTSIDE) emit(s, CAPTURED, place(s, free), found.at, 0);
-    if (where != NOWHERE) emit(s, found.is_boxed ? SET_BOX : MOVE, where == HERE ? found.at : free, value, 0);
+    unsigned to = where == HERE ? found.at : place_for(s, false, live | 1u << value);
+    if (where == OUTSIDE) emit(s, CAPTURED, to, found.at, 0);
+    if (where != NOWHERE) emit(s, found.is_boxed ? SET_BOX : MOVE, to, value, where == OUTSIDE);
     emit_word(s, dst, NOTHING);
 }
 static form column(form bindings, unsigned number) {
@@ -434,7 +452,7 @@ static form column(form bindings, unsigned number) {
 static form unfolded(form it) {
     form rest = it->is == IS_PAIR ? after(it, 2) : it;
     if (begins(it, "cond")) {
-        if (length_of(it) == 1) return list(name("begin"), atom(IS_FALSE), NULL);
+        if (length_of(it) == 1) return atom(IS_FALSE);
         form body = pair(name("begin"), part(it, 1)->tail);
         if (is_name(part(it, 1)->head, "else")) return body;
         return pair(name("if"), list(part(it, 1)->head, body, pair(name("cond"), rest)));
@@ -446,7 +464,7 @@ static form unfolded(form it) {
         return list(name("let"), list(list(name(" it"), part(it, 1), NULL), NULL, NULL), either);
     }
     if (begins(it, "list")) {
-        if (length_of(it) == 1) return list(name("quote"), atom(IS_NIL), NULL);
+        if (length_of(it) == 1) return atom(IS_NIL);
         return list(name("cons"), part(it, 1), pair(name("list"), rest));
     }
     if (!begins(it, "let") || part(it, 1)->is != IS_NAME) return NULL;
@@ -464,21 +482,20 @@ static void build(slot dst, form it) {
         make_pair(dst, dst + 1, dst);
     }
 }
-static void gen(struct scope *s, form it, unsigned dst, unsigned free, bool is_last) {
+static void gen(struct scope *s, form it, unsigned dst, unsigned live, bool is_last) {
     form known = unfolded(it);
-    place(s, dst), place(s, free);
-    if (known != NULL) return gen(s, known, dst, free, is_last);
-    if (begins(it, "if")) return gen_if(s, it, dst, free, is_last);
-    if (begins(it, "begin")) return gen_body(s, it->tail, dst, free, is_last);
-    if (begins(it, "letrec")) return gen_letrec(s, part(it, 1), after(it, 2), dst, free, is_last);
-    if (begins(it, "let")) return gen_let(s, it, dst, free, is_last);
-    if (begins(it, "lambda")) gen_lambda(s, it, NULL, dst, free);
-    else if (begins(it, "set!") || begins(it, "define")) gen_set(s, it, dst, free);
+    place(s, dst);
+    if (known != NULL) return gen(s, known, dst, live, is_last);
+    if (begins(it, "if")) return gen_if(s, it, dst, live, is_last);
+    if (begins(it, "begin")) return gen_body(s, it->tail, dst, live, is_last);
+    if (begins(it, "letrec")) return gen_letrec(s, part(it, 1), after(it, 2), dst, live, is_last);
+    if (begins(it, "let")) return gen_let(s, it, dst, live, is_last);
+    if (begins(it, "lambda")) gen_lambda(s, it, NULL, dst, live);
+    else if (begins(it, "set!") || begins(it, "define")) gen_set(s, it, dst, live);
+    else if (is_call(s, it)) return gen_call(s, it, dst, live, is_last);
     else if (it->is == IS_NAME) gen_name(s, it->text, dst);
-    else if (it->is == IS_PAIR && !begins(it, "quote")) {
-        if (!gen_primitive(s, it, dst, free, is_last)) gen_call(s, it, dst, free, is_last);
-        return;
-    } else {
+    else if (it->is == IS_PAIR && !begins(it, "quote")) gen_primitive(s, it, dst, live);
+    else {
         build(0, it->is == IS_PAIR ? part(it, 1) : it);
         emit_word(s, dst, NIL);
         cell_set(&cells[cell_count - 1], 0);
@@ -487,14 +504,16 @@ static void gen(struct scope *s, form it, unsigned dst, unsigned free, bool is_l
 }
 
 /* ---- what does it */
-struct frame {
-    const struct code *code;
-    const uint32_t *next;
-    slot base;
-    uint32_t context;
-};
-static struct frame *frames;
+static struct frame { const struct code *code; const uint32_t *next; slot base; uint32_t context; } *frames;
 static size_t frame_count, frame_room;
+/* What frames of this context and those after it have no use for any more becomes immediate. */
+static void drop_dead(uint32_t first) {
+    for (size_t i = frame_count; i > 0 && frames[i - 1].context >= first; i--) {
+        const uint32_t *call = frames[i - 1].next - 2;
+        for (unsigned dead = ~call[1] & ((1u << (call[0] >> 8 & 0xff)) - 1); dead != 0; dead &= dead - 1)
+            words[frames[i - 1].base + (unsigned)__builtin_ctz(dead)] = NIL;
+    }
+}
 static inline const struct code *code_called(slot at, unsigned count) {
     word it = words[at];
     if (tag_of(it) != PROCEDURE && !is_special(it, CODE)) fail("what is called is no procedure", "");
@@ -525,31 +544,27 @@ static void run(const struct code *code) {
         case MOVE: copy(base + a, base + b); break;
         case CAPTURED: captured_of(base + a, base, b); break;
         case MAKE_BOX: make_box(base + a, base + b); break;
-        case GET_BOX: box_get(base + a, base + b); break;
-        case SET_BOX: box_set(base + a, base + b); break;
+        case GET_BOX: box_get(base + a, base + b, c); break;
+        case SET_BOX: box_set(base + a, base + b, c); break;
         case CLOSE: make_procedure(base + a, number, base, next, codes[number].captured), next += codes[number].captured; break;
         case JUMP_IF_NOT: if (words[base + a] != FALSE) break; /* fall through */
         case JUMP: next = code->words + number; break;
         case CALL:
+            next++;
             if (call_primitive(base + a, b)) break;
             if (frame_count == frame_room) frames = (struct frame *)grown(frames, &frame_room, sizeof *frames);
             frames[frame_count++] = (struct frame){ code, next, base, context };
-            code = code_called(base + a, b);
-            base = enter(base + a, code->size, b + 1);
-            next = code->words;
+            code = code_called(base + a, b), base = enter(base + a, code->size, b + 1), next = code->words;
             break;
         case TAIL_CALL:
-            for (unsigned i = c; i <= b; i++) copy(base + i, base + a + i);
             if (!call_primitive(base, b)) {
-                code = code_called(base, b);
-                base = enter(base, code->size, b + 1);
-                next = code->words;
+                code = code_called(base, b), base = enter(base, code->size, b + 1), next = code->words;
                 break;
             } /* fall through */
         case RETURN:
             if (frame_count == 0) return;
             const struct frame *frame = &frames[--frame_count];
-            if (frame->context != context) leave(frame->base + (frame->next[-1] >> 8 & 0xff), base);
+            if (frame->context != context) leave(frame->base + (frame->next[-2] >> 8 & 0xff), base);
             code = frame->code, next = frame->next, base = frame->base;
         }
     }
