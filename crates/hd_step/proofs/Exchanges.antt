@@ -1,16 +1,17 @@
 -- Exchanges, journals and counts that grow by one.
-use Rattle.std.proofs.Common.{◌≡◌, ℕ, ◌+◌, ◌==◌, ◌||◌, Bool, false, cond, List, [], ◌∷◌, ◌++◌, map, refl, sym, ap, ◌∙◌, append-nil, append_assoc, arith, codes, decimal, count_by}
+use Rattle.std.proofs.Common.{◌≡◌, ℕ, ◌+◌, ◌<◌, ◌≤◌, ◌==◌, ⊎_elim, Bool, false, true, cond, Contains, List, [], ◌∷◌, ◌++◌, length, length-append, map, refl, subst, sym, ap, take, take_all, ◌∙◌, append-nil, append_assoc, arith, codes, decimal, count_by}
+use Rattle.std.proofs.lemmas.Bool.{cases_lt}
 use Rattle.std.proofs.lemmas.Grind.{common_steps}
-use Rattle.std.proofs.lemmas.List.{map-append}
+use Rattle.std.proofs.lemmas.List.{get_or_append_left, get_or_push, map-append, take-append-le}
+use Rattle.std.proofs.lemmas.List.Elements.{Contains-append_left, Contains-push, Contains-push_cases}
 use Rattle.std.proofs.lemmas.List.Folds.{concat-append}
 use Rattle.std.proofs.lemmas.List.Sums.{fold-append}
-use Rattle.std.proofs.lemmas.Bool.{or_parts}
 use Rattle.std.specs.List.{concat}
 use Rattle.hd_model.specs.declared.data.Entry.{Entry}
 use Rattle.hd_model.specs.declared.data.Reply.{Reply}
 use Rattle.hd_model.specs.Grammar.{words_of}
 use Rattle.hd_model.specs.Text.{entry_text, lines_of, numbered_after, newline, reply_text}
-use Rattle.hd_step.specs.Dialogue.{Exchange, Said, after_words, has_own, is_own, lines_of_all, replies_of_all, reply_in, said_by, text_of_all}
+use Rattle.hd_step.specs.Dialogue.{Exchange, HasFaulty, Said, after_words, exchange_at, is_own, lines_of_all, replies_of_all, reply_in, said_by, text_of_all}
 
 -- the line of an entry goes by its caller and its reply
 pub same_text : (d e : Entry) (n : ℕ) → d.caller ≡ e.caller → d.reply ≡ e.reply
@@ -69,10 +70,39 @@ module _ (xs : List Exchange) (x : Exchange) where
   pub replies_push : replies_of_all (xs ++ x ∷ []) ≡ replies_of_all xs ++ reply_in x
   replies_push = ap concat (map-append reply_in xs (x ∷ [])) ∙ concat_push (map reply_in xs) (reply_in x)
 
-pub own_push : (xs : List Exchange) (x : Exchange) → has_own (xs ++ x ∷ []) ≡ false
-    → (has_own xs ≡ false) × (is_own (words_of x.line) ≡ false)
-own_push [] x none = (refl, (or_parts (is_own (words_of x.line)) false none).0)
-own_push (y ∷ ys) x none =
-    let both = or_parts (is_own (words_of y.line)) (has_own (ys ++ x ∷ [])) none in
-    let later = own_push ys x both.1 in
-    (ap (λ (t : Bool). t || has_own ys) both.0 ∙ later.0, later.1)
+-- what holds of each exchange behind those before it
+module _ (P : List Exchange → Exchange → Type 0) (xs : List Exchange) (x : Exchange) where
+  pub each_push : ((k : ℕ) → k < length xs → P (take k xs) (exchange_at xs k)) → P xs x
+      → (k : ℕ) → k < length (xs ++ x ∷ []) → P (take k (xs ++ x ∷ [])) (exchange_at (xs ++ x ∷ []) k)
+  each_push each last k within =
+      ⊎_elim
+      (λ (old : k < length xs).
+      subst (λ before. P before (exchange_at (xs ++ x ∷ []) k))
+      (sym (take-append-le k xs (x ∷ []) (omega (arith, old))))
+      (subst (λ y. P (take k xs) y) (sym (get_or_append_left xs (x ∷ []) none k old)) (each k old)))
+      (λ (past : length xs ≤ k).
+      let at : length xs ≡ k = omega (arith, past, within, length-append xs (x ∷ [])) in
+      subst (λ j. P (take j (xs ++ x ∷ [])) (exchange_at (xs ++ x ∷ []) j)) at
+      (subst (λ before. P before (exchange_at (xs ++ x ∷ []) (length xs)))
+      (sym (take-append-le (length xs) xs (x ∷ []) (omega arith) ∙ take_all (length xs) xs (omega arith)))
+      (subst (λ y. P xs y) (sym (get_or_push xs x none (length xs) refl)) last)))
+      (cases_lt k (length xs))
+    where
+      none : Exchange
+      none = record { line = []; text = [] }
+
+-- the faulty ones among exchanges and one more
+module _ (F : List (List ℕ) → Type 0) (xs : List Exchange) (x : Exchange) where
+  pub faulty_more : HasFaulty F xs → HasFaulty F (xs ++ x ∷ [])
+  faulty_more has = (has.0, Contains-append_left xs (x ∷ []) has.0 has.1, has.2, has.3)
+
+  pub faulty_last : is_own (words_of x.line) ≡ true → F (words_of x.line) → HasFaulty F (xs ++ x ∷ [])
+  faulty_last own fault = (x, Contains-push xs x, own, fault)
+
+  pub faulty_before : (is_own (words_of x.line) ≡ true → F (words_of x.line) → ⊥) → HasFaulty F (xs ++ x ∷ [])
+      → HasFaulty F xs
+  faulty_before sound has =
+      ⊎_elim (λ before. (has.0, before, has.2, has.3))
+      (λ same. absurd (sound (subst (λ (y : Exchange). is_own (words_of y.line) ≡ true) (sym same) has.2)
+      (subst (λ (y : Exchange). F (words_of y.line)) (sym same) has.3)))
+      (Contains-push_cases xs x has.0 has.1)

@@ -1,5 +1,5 @@
 -- A dialogue from its first line to its last.
-use Rattle.std.proofs.Common.{◌≡◌, ℕ, ◌+◌, ◌<◌, ◌≤◌, Bool, true, false, not, cond, List, [], ◌∷◌, ◌++◌, map, length, take, drop, position, Option, Some, None, MatchOption, Err, IsErrOf, refl, sym, ap, subst, ◌∙◌, append-nil, append_assoc, arith, zero, suc, length-append, take_all}
+use Rattle.std.proofs.Common.{◌≡◌, ℕ, ◌+◌, ◌<◌, ◌≤◌, Bool, true, false, not, cond, List, [], ◌∷◌, ◌++◌, map, length, take, drop, position, Option, Some, None, MatchOption, Err, IsErrOf, refl, sym, ap, subst, ◌∙◌, ⊎_elim, inl, inr, append-nil, append_assoc, arith, zero, suc, length-append, take_all}
 use Rattle.std.proofs.lemmas.List.{drop_all, drop-append-le, take-append-le}
 use Rattle.std.specs.List.{before_first}
 use Rattle.std.specs.Io.KnownBytes.{IsAtEnd}
@@ -21,9 +21,9 @@ use Rattle.hd_step.specs.declared.progress.Progress.{Progress}
 use Rattle.hd_step.specs.declared.stop.Stop.{Stop}
 use Rattle.hd_step.specs.declared.stop.Stop.TheVariants as stop
 use Rattle.hd_step.specs.Dialogue.{Exchange, IsOfRun, lines_of_all, text_of_all, turn_of}
-use Rattle.hd_step.specs.Ending.{Conversed, Replied, StoppedIn}
+use Rattle.hd_step.specs.Ending.{AreFirst, Conversed, Replied, StoppedIn}
 use Rattle.hd_step.specs.{Inside.Filled, Inside.IsFirst, Hand.Hand}
-use Rattle.hd_step.specs.Inside.{AfterWords, AreCounts, LineDone, LineStopped, stop_of}
+use Rattle.hd_step.specs.Inside.{AfterWords, AreCounts, LineStopped, stop_of}
 use Rattle.hd_step.specs.Machine.{IsNew, MachineView}
 use Rattle.hd_step.specs.Inside.{IsOver}
 use Rattle.hd_step.proofs.LineSteps.{HasDoneLines}
@@ -42,10 +42,10 @@ pub record HasRead (lines : List (List ℕ)) (h : Hand) (before after : SourceVi
   pub end : h.ended ≡ true → IsAtEnd after.left
 
 -- within a dialogue, between two lines
-pub record IsTalking (n : Numbers) (h : Hand) (w : MachineView) (p : Progress)
-    (source after : SourceView) (out new : SinkView) : Type 0 where
+pub record IsTalking (A : MachineView → List (List ℕ) → List ℕ → Type 0) (F : List (List ℕ) → Type 0) (n : Numbers)
+    (h : Hand) (w : MachineView) (p : Progress) (source after : SourceView) (out new : SinkView) : Type 0 where
   pub exchanges : List Exchange
-  pub done : HasDoneLines n exchanges w p
+  pub done : HasDoneLines A F n exchanges w p
   pub read : HasRead (lines_of_all exchanges) h source after
   pub wrote : Took out new (text_of_all exchanges)
 
@@ -204,6 +204,15 @@ module _ {ls : List (List ℕ)} {h : Hand} {a b : SourceView} (r : HasRead ls h 
     end = r.end;
   }
 
+  pub first_taken : (n : ℕ) → IsFirst h n → 0 < n
+      → (rest : List (List ℕ)) × (lines_in r.bytes ≡ (ls ++ line_in h.bytes n ∷ []) ++ rest)
+  first_taken n first some = (
+    lines_in (drop n h.bytes ++ []),
+    ap lines_in (sym (append-nil r.bytes)) ∙ r.cut [] (λ ended. refl)
+        ∙ ap (λ (l : List (List ℕ)). ls ++ l) (first_cut h n first some [] (λ ended. refl))
+        ∙ sym (append_assoc ls (line_in h.bytes n ∷ []) (lines_in (drop n h.bytes ++ []))),
+  )
+
   -- no byte is left
   at_last : IsFirst h 0 → (h.ended ≡ true) × (h.bytes ≡ [])
   at_last first = by (position is_line_end h.bytes) first
@@ -222,8 +231,22 @@ module _ {ls : List (List ℕ)} {h : Hand} {a b : SourceView} (r : HasRead ls h 
             ∙ ap (λ (l : List ℕ). ls ++ lines_in (l ++ [])) last.1 ∙ append-nil ls,
       )
 
+  -- the lines that were taken are the first, whatever is read besides
+  pub first_of : (more : List ℕ) → (h.ended ≡ true → more ≡ []) → (rest : List (List ℕ))
+      × (lines_in (r.bytes ++ more) ≡ ls ++ rest)
+  first_of more last = (lines_in (h.bytes ++ more), r.cut more last)
+
+  pub first_now : (rest : List (List ℕ)) × (lines_in r.bytes ≡ ls ++ rest)
+  first_now = (lines_in (h.bytes ++ []), ap lines_in (sym (append-nil r.bytes)) ∙ r.cut [] (λ ended. refl))
+
+  pub few_read : length r.bytes ≤ MOST_BYTES
+  few_read = omega (arith, r.room)
+
+  abbrev read_now : GaveCount a b (λ count. count ≤ MOST_BYTES)
+  read_now = record { bytes = r.bytes; gave = r.gave; count = few_read }
+
   -- not all was read
-  read_count : (c : SourceView) (IsCount Whole : ℕ → Type 0)
+  abbrev read_count : (c : SourceView) (IsCount Whole : ℕ → Type 0)
       → ((n : ℕ) → IsCount n → Whole (length r.bytes + n)) → GaveCount b c IsCount → GaveCount a c Whole
   read_count c IsCount Whole fits then = record {
     bytes = r.bytes ++ then.bytes;
@@ -231,7 +254,7 @@ module _ {ls : List (List ℕ)} {h : Hand} {a b : SourceView} (r : HasRead ls h 
     count = subst Whole (sym (length-append r.bytes then.bytes)) (fits (length then.bytes) then.count);
   }
 
-  read_broke : (c : SourceView) → ReadBrokeOff b c h.room → ReadBrokeOff a c MOST_BYTES
+  abbrev read_broke : (c : SourceView) → ReadBrokeOff b c h.room → ReadBrokeOff a c MOST_BYTES
   read_broke c broke = record {
     before = broke.before;
     gave = read_count broke.before (λ n. n ≤ h.room) (λ n. n ≤ MOST_BYTES)
@@ -239,16 +262,21 @@ module _ {ls : List (List ℕ)} {h : Hand} {a b : SourceView} (r : HasRead ls h 
     failed = broke.failed;
   }
 
-  read_long : (c : SourceView) → GaveCount b c (λ n. n ≡ h.room + 1)
+  abbrev read_long : (c : SourceView) → GaveCount b c (λ n. n ≡ h.room + 1)
       → GaveCount a c (λ n. n ≡ MOST_BYTES + 1)
   read_long c long =
       read_count c (λ n. n ≡ h.room + 1) (λ n. n ≡ MOST_BYTES + 1) (λ n is. omega (arith, is, r.room)) long
 
+  abbrev read_short : (c : SourceView) → GaveCount b c (λ n. n ≤ h.room) → GaveCount a c (λ n. n ≤ MOST_BYTES)
+  read_short c short =
+      read_count c (λ n. n ≤ h.room) (λ n. n ≤ MOST_BYTES) (λ n is. omega (arith, is, r.room)) short
+
 -- ---- the dialogue
 
-module _ {w : MachineView} {p : Progress} (new : IsNew w) (first : p.caller ≡ 0)
+module _ (A : MachineView → List (List ℕ) → List ℕ → Type 0) (F : List (List ℕ) → Type 0)
+    {w : MachineView} {p : Progress} (new : IsNew w) (first : p.caller ≡ 0)
     (slots : length p.counts ≡ CALLERS) (counts : AreCounts [] p.counts) (good : p.is_bad ≡ false) where
-  none_done : HasDoneLines w.numbers [] w p
+  none_done : HasDoneLines A F w.numbers [] w p
   none_done = record {
     ready = record {
       callers = new.callers;
@@ -262,16 +290,21 @@ module _ {w : MachineView} {p : Progress} (new : IsNew w) (first : p.caller ≡ 
       run = run;
       turns = ap (map turn_of) new.empty;
       text = sym (ap lines_of new.empty);
-      throughout = λ k. subst (IsOfRun w.numbers) (sym (take_all k [] (omega arith))) (record {
+      answered = λ k within. absurd (omega (arith, within));
+      throughout = λ k. subst (IsOfRun A F w.numbers) (sym (take_all k [] (omega arith))) (record {
         journal = w.journal;
         state = w.state;
         run = run;
         turns = ap (map turn_of) new.empty;
         text = sym (ap lines_of new.empty);
+        answered = λ k within. absurd (omega (arith, within));
       });
     };
     caller = sym first;
-    bad = record { left_out = λ is. absurd (not_both false is refl); exactly = λ none. good };
+    bad = (
+      λ is. absurd (not_both p.is_bad is good),
+      λ has. ⊎_elim (λ out. absurd (not_both false out refl)) (λ one. absurd (omega (arith, one.1.1))) has,
+    );
   }
     where
       run : Run w.numbers w.journal w.state
@@ -279,7 +312,7 @@ module _ {w : MachineView} {p : Progress} (new : IsNew w) (first : p.caller ≡ 
           (subst (λ s. Run w.numbers [] s) (sym new.state) stay)
 
   pub begun : (h : Hand) → h ≡ record { bytes = []; room = MOST_BYTES; ended = false } → (a : SourceView)
-      (o : SinkView) → IsTalking w.numbers h w p a a o o
+      (o : SinkView) → IsTalking A F w.numbers h w p a a o o
   begun h is a o = record {
     exchanges = [];
     done = none_done;
@@ -291,11 +324,12 @@ words_of_line : (bytes : List ℕ) → words_at bytes ≡ words_of (before_first
 unfolding words_at
 words_of_line bytes = refl
 
-module _ {n : Numbers} {h : Hand} {w : MachineView} {p : Progress} {a b : SourceView} {o u : SinkView}
-    (t : IsTalking n h w p a b o u) where
+module _ {A : MachineView → List (List ℕ) → List ℕ → Type 0} {F : List (List ℕ) → Type 0}
+    {n : Numbers} {h : Hand} {w : MachineView} {p : Progress} {a b : SourceView} {o u : SinkView}
+    (t : IsTalking A F n h w p a b o u) where
   -- more was read
   pub found : (k : Hand) (c : SourceView) → Filled h k b c → (h.ended ≡ true → (k ≡ h) × (c ≡ b))
-      → (h.ended ≡ false → k.ended ≡ true → IsAtEnd c.left) → IsTalking n k w p a c o u
+      → (h.ended ≡ false → k.ended ≡ true → IsAtEnd c.left) → IsTalking A F n k w p a c o u
   found k c f still ends = record {
     exchanges = t.exchanges;
     done = t.done;
@@ -304,7 +338,7 @@ module _ {n : Numbers} {h : Hand} {w : MachineView} {p : Progress} {a b : Source
   }
 
   -- the number of a line is nothing that replies depend on
-  pub numbered : (lines : ℕ) → IsTalking n h w (record p { lines = lines }) a b o u
+  pub numbered : (lines : ℕ) → IsTalking A F n h w (record p { lines = lines }) a b o u
   numbered lines = record {
     exchanges = t.exchanges;
     done = record {
@@ -324,99 +358,147 @@ module _ {n : Numbers} {h : Hand} {w : MachineView} {p : Progress} {a b : Source
   }
 
   -- one line more was done
-  pub taken : (m : ℕ) (line : List ℕ) (v : MachineView) (q : Progress) (x : SinkView) → IsFirst h m → 0 < m
-      → line ≡ take m h.bytes → LineDone (words_at line) w v p q u x → (k : Hand)
-      → k ≡ record h { bytes = drop m h.bytes } → IsTalking n k v q a b o x
-  taken m line v q x first some line_is done k is =
-      let exchange : Exchange = record { line = line_in h.bytes m; text = done.text } in
-      let words = ap words_at line_is ∙ words_of_line (take m h.bytes) in
+  module _ (m : ℕ) (line : List ℕ) (v : MachineView) (q : Progress) (first : IsFirst h m) (some : 0 < m)
+      (line_is : line ≡ take m h.bytes) (text : List ℕ) (after : AfterWords A F (words_at line) w v p q text) where
+    abbrev exchange : Exchange
+    exchange = record { line = line_in h.bytes m; text = text }
+
+    abbrev more : List Exchange
+    more = t.exchanges ++ exchange ∷ []
+
+    more_done : HasDoneLines A F n more v q
+    more_done =
+        line_done t.done exchange v q
+        (subst (λ (l : List (List ℕ)). AfterWords A F l w v p q text)
+        (ap words_at line_is ∙ words_of_line (take m h.bytes)) after)
+
+    more_read : HasRead (lines_of_all more) (record h { bytes = drop m h.bytes }) a b
+    more_read =
+        subst (λ l. HasRead l (record h { bytes = drop m h.bytes }) a b)
+        (sym (all_lines_push t.exchanges exchange)) (read_line t.read m first some)
+
+    pub taken : (x : SinkView) → Took u x text → (k : Hand) → k ≡ record h { bytes = drop m h.bytes }
+        → IsTalking A F n k v q a b o x
+    taken x took k is = record {
+      exchanges = more;
+      done = more_done;
+      read = subst (λ (j : Hand). HasRead (lines_of_all more) j a b) (sym is) more_read;
+      wrote = subst (Took o x) (sym (text_push t.exchanges exchange))
+          (took_more o u x (text_of_all t.exchanges) text t.wrote took);
+    }
+
+    more_first : AreFirst t.read.bytes more
+    more_first =
+        subst (λ (l : List (List ℕ)). (rest : List (List ℕ)) × (lines_in t.read.bytes ≡ l ++ rest))
+        (sym (all_lines_push t.exchanges exchange)) (first_taken t.read m first some)
+
+    -- a write of its text failed
+    write_stopped : (x : SinkView) → WriteBrokeOff u x text → StoppedIn A F n a b o x stop.Unwritten
+    write_stopped x broke = (
+      read_now t.read,
       record {
-        exchanges = t.exchanges ++ exchange ∷ [];
-        done = line_done t.done exchange v q
-            (subst (λ (l : List (List ℕ)). AfterWords l w v p q done.text) words done.after);
-        read = subst (λ (j : Hand). HasRead (lines_of_all (t.exchanges ++ exchange ∷ [])) j a b) (sym is)
-            (subst (λ l. HasRead l (record h { bytes = drop m h.bytes }) a b)
-            (sym (all_lines_push t.exchanges exchange)) (read_line t.read m first some));
-        wrote = subst (Took o x) (sym (text_push t.exchanges exchange))
-            (took_more o u x (text_of_all t.exchanges) done.text t.wrote done.took);
-      }
+        exchanges = t.exchanges;
+        throughout = t.done.ran.throughout;
+        text = text;
+        next = inl (exchange, refl, more_first, more_done.ran.throughout);
+        broke = broke_after o u x (text_of_all t.exchanges) text t.wrote broke;
+      },
+    )
 
   -- the last one was
-  pub over : (m : ℕ) → m ≡ 0 → IsFirst h m → IsOver n a b o u w p.is_bad
+  pub over : (m : ℕ) → m ≡ 0 → IsFirst h m → IsOver A F n a b o u w p.is_bad
   over m none first =
       let all = read_all t.read (subst (IsFirst h) none first) in
       record {
         exchanges = t.exchanges;
         bytes = t.read.bytes;
         read = all.0;
+        within = few_read t.read;
         lines = all.1;
         ran = t.done.ran;
         is_bad = t.done.bad;
         wrote = t.wrote;
       }
 
-  replied : Replied n o u
-  replied = record {
+  replied : (bytes : List ℕ) → AreFirst bytes t.exchanges → Replied A F n bytes o u
+  replied bytes first = record {
     exchanges = t.exchanges;
+    first = first;
     throughout = t.done.ran.throughout;
     wrote = t.wrote;
   }
 
   -- not all was read
-  stopped_by : (c : SourceView) (f : ReadFault)
-      → (IsErrOf {T = ℕ} (Err f) fault.Failed → ReadBrokeOff b c h.room)
-      → (IsErrOf {T = ℕ} (Err f) fault.TooLong → GaveCount b c (λ m. m ≡ h.room + 1))
-      → StoppedIn n a c o u (stop_of f)
-  stopped_by c fault.Failed broke long = (read_broke t.read c (broke refl), replied)
-  stopped_by c fault.TooLong broke long = (read_long t.read c (long refl), replied)
-  stopped_by c fault.Memory broke long = replied
+  module _ (c : SourceView) (going : h.ended ≡ false) where
+    replied_and : (more : List ℕ) → Replied A F n (t.read.bytes ++ more) o u
+    replied_and more =
+        replied (t.read.bytes ++ more) (first_of t.read more (λ ended. absurd (not_both h.ended ended going)))
 
-  pub read_stopped : (c : SourceView) (f : ReadFault) (s : Stop) → s ≡ stop_of f
-      → (IsErrOf {T = ℕ} (Err f) fault.Failed → ReadBrokeOff b c h.room)
-      → (IsErrOf {T = ℕ} (Err f) fault.TooLong → GaveCount b c (λ m. m ≡ h.room + 1))
-      → StoppedIn n a c o u s
-  read_stopped c f s is broke long = subst (StoppedIn n a c o u) (sym is) (stopped_by c f broke long)
+    stopped_by : (f : ReadFault)
+        → (IsErrOf {T = ℕ} (Err f) fault.Failed → ReadBrokeOff b c h.room)
+        → (IsErrOf {T = ℕ} (Err f) fault.TooLong → GaveCount b c (λ m. m ≡ h.room + 1))
+        → (IsErrOf {T = ℕ} (Err f) fault.Memory → GaveCount b c (λ m. m ≤ h.room))
+        → StoppedIn A F n a c o u (stop_of f)
+    stopped_by fault.Failed broke long short =
+        (read_broke t.read c (broke refl), replied_and (broke refl).gave.bytes)
+    stopped_by fault.TooLong broke long short = (read_long t.read c (long refl), replied_and (long refl).bytes)
+    stopped_by fault.Memory broke long short = (read_short t.read c (short refl), replied_and (short refl).bytes)
+
+    pub read_stopped : (f : ReadFault) (s : Stop) → s ≡ stop_of f
+        → (IsErrOf {T = ℕ} (Err f) fault.Failed → ReadBrokeOff b c h.room)
+        → (IsErrOf {T = ℕ} (Err f) fault.TooLong → GaveCount b c (λ m. m ≡ h.room + 1))
+        → (IsErrOf {T = ℕ} (Err f) fault.Memory → GaveCount b c (λ m. m ≤ h.room))
+        → StoppedIn A F n a c o u s
+    read_stopped f s is broke long short =
+        subst (StoppedIn A F n a c o u) (sym is) (stopped_by f broke long short)
 
   -- a line was not done to its end
-  pub line_stopped : (words : List (List ℕ)) (v : MachineView) (q : Progress) (x : SinkView) (s : Stop)
-      → LineStopped words w v p q u x s → StoppedIn n a b o x s
-  line_stopped words v q x stop.Unread none = absurd none
-  line_stopped words v q x stop.TooLong none = absurd none
-  line_stopped words v q x stop.Memory same = subst (Replied n o) (sym same) replied
-  line_stopped words v q x stop.Unwritten line = record {
-    exchanges = t.exchanges;
-    throughout = t.done.ran.throughout;
-    text = line.text;
-    broke = broke_after o u x (text_of_all t.exchanges) line.text t.wrote line.broke;
+  pub line_stopped : (m : ℕ) (line : List ℕ) (v : MachineView) (q : Progress) (x : SinkView) (s : Stop)
+      → IsFirst h m → 0 < m → line ≡ take m h.bytes → LineStopped A F (words_at line) w v p q u x s
+      → StoppedIn A F n a b o x s
+  line_stopped m line v q x stop.Unread first some same_line none = absurd none
+  line_stopped m line v q x stop.TooLong first some same_line none = absurd none
+  line_stopped m line v q x stop.Memory first some same_line same =
+      subst (λ (k : SinkView). StoppedIn A F n a b o k stop.Memory) (sym same)
+      (read_now t.read, replied t.read.bytes (first_now t.read))
+  line_stopped m line v q x stop.Unwritten first some same_line broke =
+      write_stopped m line v q first some same_line broke.text broke.after x broke.broke
+
+module _ {A : MachineView → List (List ℕ) → List ℕ → Type 0} {F : List (List ℕ) → Type 0}
+    {n : Numbers} {w : MachineView} {a b : SourceView} {o u : SinkView} {bad : Bool}
+    (i : IsOver A F n a b o u w bad) (x : SinkView) (end : List ℕ) (is : end ≡ end_of w.journal w.state) where
+  abbrev whole : IsOfRun A F n i.exchanges
+  whole = record {
+    journal = w.journal;
+    state = w.state;
+    run = i.ran.run;
+    turns = i.ran.turns;
+    text = i.ran.text;
+    answered = i.ran.answered;
   }
 
-module _ {n : Numbers} {w : MachineView} {a b : SourceView} {o u : SinkView} {bad : Bool}
-    (i : IsOver n a b o u w bad) (x : SinkView) (end : List ℕ) where
   -- the end line was written
-  pub ended : end ≡ end_of w.journal w.state → Took u x end → Conversed n a b o x bad
-  ended is took = record {
+  pub ended : Took u x end → Conversed A F n a b o x bad
+  ended took = record {
     bytes = i.bytes;
     read = i.read;
     exchanges = i.exchanges;
     lines = i.lines;
     throughout = i.ran.throughout;
-    whole = record {
-      journal = w.journal;
-      state = w.state;
-      run = i.ran.run;
-      turns = i.ran.turns;
-      text = i.ran.text;
-    };
+    whole = whole;
     wrote = subst (λ l. Took o x (text_of_all i.exchanges ++ l)) is
         (took_more o u x (text_of_all i.exchanges) end i.wrote took);
-    left_out = i.is_bad.left_out;
-    exactly = i.is_bad.exactly;
+    is_bad = i.is_bad;
   }
 
-  pub end_broke : WriteBrokeOff u x end → StoppedIn n a b o x stop.Unwritten
-  end_broke broke = record {
-    exchanges = i.exchanges;
-    throughout = i.ran.throughout;
-    text = end;
-    broke = broke_after o u x (text_of_all i.exchanges) end i.wrote broke;
-  }
+  pub end_broke : WriteBrokeOff u x end → StoppedIn A F n a b o x stop.Unwritten
+  end_broke broke = (
+    record { bytes = i.bytes; gave = i.read.gave; count = i.within },
+    record {
+      exchanges = i.exchanges;
+      throughout = i.ran.throughout;
+      text = end;
+      next = inr (i.read.end, i.lines, (whole, is));
+      broke = broke_after o u x (text_of_all i.exchanges) end i.wrote broke;
+    },
+  )

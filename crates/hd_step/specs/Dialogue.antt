@@ -1,6 +1,6 @@
 -- A dialogue: lines, and what is written after each of them.
-use Rattle.std.specs.Prelude.{◌≡◌, ℕ, Bool, true, false, ◌||◌, nat_lt, if◌then◌else◌, List, [], ◌∷◌, ◌++◌, map, fold, length, take, bytes_eq, codes, Option, Some, None}
-use Rattle.std.specs.List.{concat, list_any}
+use Rattle.std.specs.Prelude.{◌≡◌, ℕ, ◌<◌, ◌⊎◌, Bool, true, false, nat_lt, if◌then◌else◌, List, [], ◌∷◌, ◌++◌, map, fold, length, take, slice_index_or, bytes_eq, codes, Option, Some, None, Contains, is_some}
+use Rattle.std.specs.List.{concat}
 use Rattle.hd_model.specs.declared.command.Cmd.{Cmd}
 use Rattle.hd_model.specs.declared.data.Entry.{Entry}
 use Rattle.hd_model.specs.declared.limits.TheConstants.{MOST_COMMANDS}
@@ -8,18 +8,34 @@ use Rattle.hd_model.specs.Grammar.{Reading, blank, caller, command, reading_of, 
 use Rattle.hd_model.specs.State.{Numbers, State}
 use Rattle.hd_model.specs.Run.{Run}
 use Rattle.hd_model.specs.Text.{lines_of}
+use Rattle.hd_step.specs.Machine.{MachineView}
+use Rattle.hd_step.specs.declared.own.Answer.{Answer}
+use Rattle.hd_step.specs.declared.own.Answer.TheVariants as answer
+use Rattle.hd_step.specs.declared.own.Own.{Own}
+use Rattle.hd_step.specs.declared.own.Own.TheVariants as own
 
 -- a line, without its end, and what was written after it
 pub record Exchange : Type 0 where
   pub line : List ℕ
   pub text : List ℕ
 
--- whether the words of a line are those of a dialogue alone: `show`, or `path` or `slot` with one word
+-- what the words of a line ask for that a dialogue alone has: `show`, or `path` or `slot` with one word
+abbrev pub asked : List (List ℕ) → Option Own
+asked [] = None
+asked (word ∷ []) = if bytes_eq word (codes "show") then Some own.Show else None
+asked (word ∷ other ∷ []) =
+    if bytes_eq word (codes "path") then Some own.Path
+    else if bytes_eq word (codes "slot") then Some own.Slot
+    else None
+asked (word ∷ other ∷ more ∷ words) = None
+
 abbrev pub is_own : List (List ℕ) → Bool
-is_own [] = false
-is_own (word ∷ []) = bytes_eq word (codes "show")
-is_own (word ∷ other ∷ []) = bytes_eq word (codes "path") || bytes_eq word (codes "slot")
-is_own (word ∷ other ∷ more ∷ words) = false
+is_own words = is_some (asked words)
+
+-- an answer is a text of which P holds, or an operand is at fault
+abbrev pub IsAnswerOf : (List ℕ → Type 0) → Type 0 → Answer → Type 0
+IsAnswerOf P Fault (answer.Text text) = (Fault → ⊥) × P text.items
+IsAnswerOf P Fault (answer.Fault why) = Fault
 
 -- whose commands follow, the turns so far, each a caller and a command, and whether a line was left out
 pub record Said : Type 0 where
@@ -58,22 +74,52 @@ reply_in x = if is_own (words_of x.line) then [] else x.text
 abbrev pub replies_of_all : List Exchange → List ℕ
 replies_of_all exchanges = concat (map reply_in exchanges)
 
--- whether a line has a dialogue's own words
-abbrev pub has_own : List Exchange → Bool
-has_own exchanges = list_any (λ (x : Exchange). is_own (words_of x.line)) exchanges
-
 -- the turn of an entry
 abbrev pub turn_of : Entry → ℕ × Cmd
 turn_of e = (e.caller, e.cmd)
 
--- the replies are the lines of a run, whose turns are those that the lines say, in their order
-pub record IsOfRun (n : Numbers) (exchanges : List Exchange) : Type 0 where
+-- an exchange of own words behind others, within a journal: its text is the answer of a machine that the others
+-- lead to, or empty where the operand is at fault
+pub record IsAnswered (A : MachineView → List (List ℕ) → List ℕ → Type 0) (F : List (List ℕ) → Type 0) (n : Numbers)
+    (journal : List Entry) (before : List Exchange) (x : Exchange) : Type 0 where
+  pub machine : MachineView
+  pub later : List Entry
+  pub parts : journal ≡ machine.journal ++ later
+  pub turns : map turn_of machine.journal ≡ (said_by (lines_of_all before)).turns
+  pub numbers : machine.numbers ≡ n
+  pub run : Run n machine.journal machine.state
+  pub says : (F (words_of x.line) × (x.text ≡ []))
+      ⊎ ((F (words_of x.line) → ⊥) × A machine (words_of x.line) x.text)
+
+abbrev pub exchange_at : List Exchange → ℕ → Exchange
+exchange_at exchanges k = slice_index_or exchanges k (record { line = []; text = [] })
+
+abbrev pub AreAnswered : (MachineView → List (List ℕ) → List ℕ → Type 0) → (List (List ℕ) → Type 0) → Numbers
+    → List Entry → List Exchange → Type 0
+AreAnswered A F n journal exchanges =
+    (k : ℕ) → k < length exchanges → is_own (words_of (exchange_at exchanges k).line) ≡ true
+    → IsAnswered A F n journal (take k exchanges) (exchange_at exchanges k)
+
+-- the replies are the lines of a run, whose turns are those that the lines say, in their order, and each of the
+-- own words is answered
+pub record IsOfRun (A : MachineView → List (List ℕ) → List ℕ → Type 0) (F : List (List ℕ) → Type 0) (n : Numbers)
+    (exchanges : List Exchange) : Type 0 where
   pub journal : List Entry
   pub state : State
   pub run : Run n journal state
   pub turns : map turn_of journal ≡ (said_by (lines_of_all exchanges)).turns
   pub text : replies_of_all exchanges ≡ lines_of journal
+  pub answered : AreAnswered A F n journal exchanges
 
 -- so after each line
-abbrev pub IsOfRunThroughout : Numbers → List Exchange → Type 0
-IsOfRunThroughout n exchanges = (k : ℕ) → IsOfRun n (take k exchanges)
+abbrev pub IsOfRunThroughout : (MachineView → List (List ℕ) → List ℕ → Type 0) → (List (List ℕ) → Type 0)
+    → Numbers → List Exchange → Type 0
+IsOfRunThroughout A F n exchanges = (k : ℕ) → IsOfRun A F n (take k exchanges)
+
+-- a line was left out, or an operand of own words was at fault
+abbrev pub HasFaulty : (List (List ℕ) → Type 0) → List Exchange → Type 0
+HasFaulty F exchanges =
+    (x : Exchange) × Contains exchanges x × (is_own (words_of x.line) ≡ true) × F (words_of x.line)
+
+abbrev pub HasBad : (List (List ℕ) → Type 0) → List Exchange → Type 0
+HasBad F exchanges = ((said_by (lines_of_all exchanges)).left_out ≡ true) ⊎ HasFaulty F exchanges

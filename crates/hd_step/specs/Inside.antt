@@ -1,12 +1,12 @@
 -- What private clauses alone cite.
-use Rattle.std.specs.Prelude.{◌≡◌, ℕ, ◌+◌, true, List, ◌++◌, length, position, IsSome, MatchOption, ◌<◌, false, [], Option, Some, None, slice_index, slice_set, count_by, IsTrue, ◌==◌, Bool, map}
+use Rattle.std.specs.Prelude.{◌≡◌, ◌↔◌, ℕ, ◌+◌, ◌≤◌, ◌⊎◌, true, List, ◌++◌, length, position, IsSome, MatchOption, ◌<◌, false, [], Option, Some, None, slice_index, slice_set, count_by, ◌==◌, Bool, map}
 use Rattle.hd_io.specs.Source.{SourceView, Gave, GaveAll}
 use Rattle.hd_model.specs.Grammar.{is_line_end, Reading, blank, caller, command, reading_of, lines_in}
 use Rattle.hd_io.specs.Sink.{SinkView, Took, WriteBrokeOff}
 use Rattle.hd_io.specs.declared.source.ReadFault.{ReadFault}
-use Rattle.hd_model.specs.{declared.command.Cmd.Cmd, declared.data.Entry.Entry, declared.data.Reply.Reply, declared.limits.TheConstants.CALLERS, declared.limits.TheConstants.MOST_COMMANDS, Text.entry_text, Text.lines_of, Run.Run, State.Numbers}
+use Rattle.hd_model.specs.{declared.command.Cmd.Cmd, declared.data.Entry.Entry, declared.data.Reply.Reply, declared.limits.TheConstants.CALLERS, declared.limits.TheConstants.MOST_BYTES, declared.limits.TheConstants.MOST_COMMANDS, Text.entry_text, Text.lines_of, Run.Run, State.Numbers}
 use Rattle.hd_step.specs.{Hand.Hand, declared.progress.Progress.Progress, declared.stop.Stop.Stop, Machine.MachineView, Machine.HasDone}
-use Rattle.hd_step.specs.Dialogue.{is_own, Exchange, IsOfRunThroughout, lines_of_all, replies_of_all, text_of_all, said_by, has_own, turn_of}
+use Rattle.hd_step.specs.Dialogue.{is_own, AreAnswered, Exchange, HasBad, IsOfRunThroughout, lines_of_all, replies_of_all, text_of_all, said_by, turn_of}
 use Rattle.hd_io.specs.declared.source.ReadFault.TheVariants as fault
 use Rattle.hd_step.specs.declared.stop.Stop.TheVariants as stop
 
@@ -78,39 +78,41 @@ AfterReading (Some blank) w v p q text = Noted p.caller w v p q text
 AfterReading (Some (caller n)) w v p q text = Noted n w v p q text
 AfterReading (Some (command c)) w v p q text = Commanded c w v p q text
 
--- one of a dialogue's own words was answered, which changes nothing; or its operand was at fault
-pub record Answered (w v : MachineView) (p q : Progress) : Type 0 where
+-- one of a dialogue's own words was answered, or its operand was at fault, which changes nothing else
+pub record Answered (A : MachineView → List (List ℕ) → List ℕ → Type 0) (F : List (List ℕ) → Type 0)
+    (words : List (List ℕ)) (w v : MachineView) (p q : Progress) (text : List ℕ) : Type 0 where
   pub machine : v ≡ w
   pub progress : q ≡ record p { is_bad = q.is_bad }
-  pub bad : IsTrue p.is_bad → IsTrue q.is_bad
+  pub says : (F words × (q.is_bad ≡ true) × (text ≡ []))
+      ⊎ ((F words → ⊥) × (q.is_bad ≡ p.is_bad) × A w words text)
 
 -- what a line with these words does
-pub record AfterWords (words : List (List ℕ)) (w v : MachineView) (p q : Progress) (text : List ℕ) : Type 0
-  where
-    pub own : is_own words ≡ true → Answered w v p q
-    pub other : is_own words ≡ false → AfterReading (reading_of words) w v p q text
+pub record AfterWords (A : MachineView → List (List ℕ) → List ℕ → Type 0) (F : List (List ℕ) → Type 0)
+    (words : List (List ℕ)) (w v : MachineView) (p q : Progress) (text : List ℕ) : Type 0 where
+  pub own : is_own words ≡ true → Answered A F words w v p q text
+  pub other : is_own words ≡ false → AfterReading (reading_of words) w v p q text
 
 -- a line was done, and its text was written
-pub record LineDone (words : List (List ℕ)) (w v : MachineView) (p q : Progress) (old new : SinkView) :
-    Type 0 where
+pub record LineDone (A : MachineView → List (List ℕ) → List ℕ → Type 0) (F : List (List ℕ) → Type 0)
+    (words : List (List ℕ)) (w v : MachineView) (p q : Progress) (old new : SinkView) : Type 0 where
   pub text : List ℕ
-  pub after : AfterWords words w v p q text
+  pub after : AfterWords A F words w v p q text
   pub took : Took old new text
 
 -- a line was done, and a write of its text failed
-pub record LineBroke (words : List (List ℕ)) (w v : MachineView) (p q : Progress) (old new : SinkView) :
-    Type 0 where
+pub record LineBroke (A : MachineView → List (List ℕ) → List ℕ → Type 0) (F : List (List ℕ) → Type 0)
+    (words : List (List ℕ)) (w v : MachineView) (p q : Progress) (old new : SinkView) : Type 0 where
   pub text : List ℕ
-  pub after : AfterWords words w v p q text
+  pub after : AfterWords A F words w v p q text
   pub broke : WriteBrokeOff old new text
 
 -- why a line was not done to its end: out of memory comes before anything is written
-abbrev pub LineStopped : List (List ℕ) → MachineView → MachineView → Progress → Progress → SinkView
-    → SinkView → Stop → Type 0
-LineStopped words w v p q old new stop.Unread = ⊥
-LineStopped words w v p q old new stop.TooLong = ⊥
-LineStopped words w v p q old new stop.Memory = new ≡ old
-LineStopped words w v p q old new stop.Unwritten = LineBroke words w v p q old new
+abbrev pub LineStopped : (MachineView → List (List ℕ) → List ℕ → Type 0) → (List (List ℕ) → Type 0)
+    → List (List ℕ) → MachineView → MachineView → Progress → Progress → SinkView → SinkView → Stop → Type 0
+LineStopped A F words w v p q old new stop.Unread = ⊥
+LineStopped A F words w v p q old new stop.TooLong = ⊥
+LineStopped A F words w v p q old new stop.Memory = new ≡ old
+LineStopped A F words w v p q old new stop.Unwritten = LineBroke A F words w v p q old new
 
 -- the end of a dialogue where not all was read
 abbrev pub stop_of : ReadFault → Stop
@@ -120,26 +122,24 @@ stop_of fault.Memory = stop.Memory
 
 -- ---- how far the lines of a dialogue have come
 
--- whether a line was bad is known: one that was left out is, and without own words no other is
-pub record IsBad (exchanges : List Exchange) (bad : Bool) : Type 0 where
-  pub left_out : (said_by (lines_of_all exchanges)).left_out ≡ true → bad ≡ true
-  pub exactly : has_own exchanges ≡ false → bad ≡ (said_by (lines_of_all exchanges)).left_out
-
 -- a machine's journal is the run of these lines, and what was written are its lines
-pub record IsRunBy (n : Numbers) (exchanges : List Exchange) (w : MachineView) : Type 0 where
+pub record IsRunBy (A : MachineView → List (List ℕ) → List ℕ → Type 0) (F : List (List ℕ) → Type 0) (n : Numbers)
+    (exchanges : List Exchange) (w : MachineView) : Type 0 where
   pub numbers : w.numbers ≡ n
   pub run : Run n w.journal w.state
   pub turns : map turn_of w.journal ≡ (said_by (lines_of_all exchanges)).turns
   pub text : replies_of_all exchanges ≡ lines_of w.journal
-  pub throughout : IsOfRunThroughout n exchanges
+  pub answered : AreAnswered A F n w.journal exchanges
+  pub throughout : IsOfRunThroughout A F n exchanges
 
 -- behind the last line
-pub record IsOver (n : Numbers) (source after : SourceView) (out new : SinkView) (w : MachineView)
-    (bad : Bool) : Type 0 where
+pub record IsOver (A : MachineView → List (List ℕ) → List ℕ → Type 0) (F : List (List ℕ) → Type 0) (n : Numbers)
+    (source after : SourceView) (out new : SinkView) (w : MachineView) (bad : Bool) : Type 0 where
   pub exchanges : List Exchange
   pub bytes : List ℕ
   pub read : GaveAll source after bytes
+  pub within : length bytes ≤ MOST_BYTES
   pub lines : lines_in bytes ≡ lines_of_all exchanges
-  pub ran : IsRunBy n exchanges w
-  pub is_bad : IsBad exchanges bad
+  pub ran : IsRunBy A F n exchanges w
+  pub is_bad : (bad ≡ true) ↔ HasBad F exchanges
   pub wrote : Took out new (text_of_all exchanges)

@@ -70,6 +70,7 @@ impl Reader {
             → IsAtEnd (S.seen source.new).left) }
         ensures unread { HasLine self.old →
             (self.new ≡ self.old) × (S.seen source.new ≡ S.seen source.old) }
+        ensures going { IfErr result (λ _. self.old.ended ≡ false) }
         ensures failed { IsErrOf result ReadFault.Failed →
             ReadBrokeOff (S.seen source.old) (S.seen source.new) self.old.room }
         ensures too_long { IsErrOf result ReadFault.TooLong →

@@ -1,9 +1,9 @@
 // A dialogue: each line is done, and its reply is written, before the next one is read.
-ghost use Rattle.std.specs.Prelude.{◌≡◌, ◌<◌, false, IfOk, IfErr, OnErr};
+ghost use Rattle.std.specs.Prelude.{◌≡◌, ◌<◌, Some, IfOk, IfErr};
 ghost use Rattle.hd_model.specs.Grammar.{reading_of};
 ghost use Rattle.hd_model.specs.Valid.{IsValid};
 ghost use Rattle.hd_script.specs.Words.{words_at};
-ghost use Rattle.hd_step.specs.Dialogue.{is_own};
+ghost use Rattle.hd_step.specs.Dialogue.{asked};
 ghost use Rattle.hd_step.specs.Ending.{Conversed, StoppedIn};
 ghost use Rattle.hd_step.specs.Inside.{AfterReading, Answered, Called, IsReady, LeftOut, LineDone, LineStopped};
 ghost use Rattle.hd_step.specs.Machine.{IsNew};
@@ -35,10 +35,12 @@ pub fn converse<M: Machine, W: Words<M>, S: Source, K: Sink, E: Sink>(
     is_prompting: bool,
 ) -> Result<bool, Stop>
     requires { IsNew (M.seen machine.old) }
-    ensures done { IfOk result (Conversed (M.seen machine.old).numbers (S.seen source.old)
-        (S.seen source.new) (K.seen out.old) (K.seen out.new)) }
-    ensures stopped { IfErr result (StoppedIn (M.seen machine.old).numbers (S.seen source.old)
-        (S.seen source.new) (K.seen out.old) (K.seen out.new)) }
+    ensures done { IfOk result (Conversed (W.answers words.now) (W.faults words.now)
+        (M.seen machine.old).numbers (S.seen source.old) (S.seen source.new) (K.seen out.old)
+        (K.seen out.new)) }
+    ensures stopped { IfErr result (StoppedIn (W.answers words.now) (W.faults words.now)
+        (M.seen machine.old).numbers (S.seen source.old) (S.seen source.new) (K.seen out.old)
+        (K.seen out.new)) }
 {
     let is_bad = talk(alloc, machine, words, source, out, errors, is_prompting)?;
     match write_all(out, machine.end_line().as_bytes()) {
@@ -58,10 +60,12 @@ fn talk<M: Machine, W: Words<M>, S: Source, K: Sink, E: Sink>(
     is_prompting: bool,
 ) -> Result<bool, Stop>
     requires { IsNew (M.seen machine.old) }
-    ensures done { IfOk result (IsOver (M.seen machine.old).numbers (S.seen source.old)
-        (S.seen source.new) (K.seen out.old) (K.seen out.new) (M.seen machine.new)) }
-    ensures stopped { IfErr result (StoppedIn (M.seen machine.old).numbers (S.seen source.old)
-        (S.seen source.new) (K.seen out.old) (K.seen out.new)) }
+    ensures done { IfOk result (IsOver (W.answers words.now) (W.faults words.now)
+        (M.seen machine.old).numbers (S.seen source.old) (S.seen source.new) (K.seen out.old)
+        (K.seen out.new) (M.seen machine.new)) }
+    ensures stopped { IfErr result (StoppedIn (W.answers words.now) (W.faults words.now)
+        (M.seen machine.old).numbers (S.seen source.old) (S.seen source.new) (K.seen out.old)
+        (K.seen out.new)) }
 {
     let mut reader = Reader::open(alloc);
     let mut progress = Progress::new();
@@ -94,10 +98,12 @@ fn take_line<M: Machine, W: Words<M>, K: Sink, E: Sink>(
     errors: &mut E,
 ) -> Result<(), Stop>
     requires { IsReady (M.seen machine.old) progress.old }
-    ensures done { IfOk result (λ _. LineDone (words_at line.now) (M.seen machine.old)
-        (M.seen machine.new) progress.old progress.new (K.seen out.old) (K.seen out.new)) }
-    ensures stopped { IfErr result (LineStopped (words_at line.now) (M.seen machine.old)
-        (M.seen machine.new) progress.old progress.new (K.seen out.old) (K.seen out.new)) }
+    ensures done { IfOk result (λ _. LineDone (W.answers words.now) (W.faults words.now)
+        (words_at line.now) (M.seen machine.old) (M.seen machine.new) progress.old progress.new
+        (K.seen out.old) (K.seen out.new)) }
+    ensures stopped { IfErr result (LineStopped (W.answers words.now) (W.faults words.now)
+        (words_at line.now) (M.seen machine.old) (M.seen machine.new) progress.old progress.new
+        (K.seen out.old) (K.seen out.new)) }
 {
     let written = match asked_by(line) {
         Some(own) => {
@@ -132,16 +138,18 @@ fn answer<M: Machine, W: Words<M>, E: Sink>(
     line: &[u8],
     errors: &mut E,
 ) -> Result<Vec<u8>, Memory>
-    ensures { Answered (M.seen machine.now) (M.seen machine.now) progress.old progress.new }
+    requires { asked (words_at line.now) ≡ Some own }
+    ensures { IfOk result (λ text. Answered (W.answers words.now) (W.faults words.now)
+        (words_at line.now) (M.seen machine.now) (M.seen machine.now) progress.old progress.new
+        text.items) }
 {
-    match words.answer(alloc, machine, progress.lines, own, line) {
-        Ok(Answer::Text(text)) => Ok(text),
-        Ok(Answer::Fault(why)) => {
+    match words.answer(alloc, machine, progress.lines, own, line)? {
+        Answer::Text(text) => Ok(text),
+        Answer::Fault(why) => {
             progress.is_bad = true;
             let _ = write_all(errors, &why);
             Ok(Vec::new(alloc))
         }
-        Err(Memory) => Err(Memory),
     }
 }
 

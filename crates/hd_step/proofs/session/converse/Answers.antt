@@ -9,4 +9,5 @@ returns-in-Ok-clause-done g c =
 
 pub returns-in-Err-clause-stopped : goal.returns-in-Err-clause-stopped
 returns-in-Err-clause-stopped g c =
-    end_broke c.in_ok-is_bad.ensures.done _ c.as_bytes.result.now c.in-Err.ensures.broke_off
+    end_broke c.in_ok-is_bad.ensures.done _ c.as_bytes.result.now (c.as_bytes.ensures ∙ c.end_line.ensures)
+    c.in-Err.ensures.broke_off
