@@ -1,3 +1,4 @@
 mod AsciiWords
+mod OwnAnswers
 mod PicturedStates
 mod TalkEnds

@@ -1,12 +1,13 @@
 // The answers to a dialogue's own words, and why a line is left out.
-ghost use Rattle.std.specs.Prelude.{◌≡◌, ◌-◌, ◌≤◌, ◌∷◌, [], length, IfOk};
+ghost use Rattle.std.specs.Prelude.{◌≡◌, ◌-◌, ◌≤◌, ◌∷◌, ◌++◌, [], Some, codes, decimal, length, IfOk};
 ghost use Rattle.hd_model.specs.declared.limits.TheConstants.{MOST_BYTES, MOST_COMMANDS};
 ghost use Rattle.hd_path.specs.Paths.{ArePathTexts};
 ghost use Rattle.hd_script.specs.Words.{words_at};
 ghost use Rattle.hd_show.specs.Show.{show_text as tables_text};
+ghost use Rattle.hd_step.specs.Dialogue.{IsAnswerOf, asked};
 ghost use Rattle.hd_step.specs.declared.own.Own.TheVariants as own_words;
-ghost use Rattle.hd_talk.specs.Answers.{IsAnswer, IsExplained, explained, operand_of};
-ghost use Rattle.hd_talk.specs.Machine.{picture_in};
+ghost use Rattle.hd_talk.specs.Answers.{Answers, HasFault, IsAnswer, IsExplained, explained, operand_of};
+ghost use Rattle.hd_talk.specs.Machine.{machine_view, picture_in};
 ghost use Rattle.hd_talk.specs.Slots.{slot_text as content_text};
 
 use crate::played::{Played, seen_in};
@@ -26,6 +27,10 @@ use std::alloc::{AllocError, Global};
 pub struct Debugger;
 
 impl Words<Played> for Debugger {
+    ghost answers = { λ _. Answers };
+
+    ghost faults = { λ _. HasFault };
+
     fn answer(
         &self,
         alloc: Global,
@@ -34,13 +39,15 @@ impl Words<Played> for Debugger {
         own: Own,
         line: &[u8],
     ) -> Result<Answer, Memory>
-        ensures { IfOk result (IsAnswer machine.now own (operand_of (words_at line.now))) }
+        requires { asked (words_at line.now) ≡ Some own }
+        ensures said { let words = words_at line.now in IfOk result
+            (IsAnswerOf (Answers (machine_view machine.now) words) (HasFault words)) }
+        ensures own { IfOk result (IsAnswer machine.now number own (operand_of (words_at line.now))) }
     {
-        match own {
-            Own::Show => Ok(Answer::Text(tables(alloc, machine)?)),
-            Own::Path => answer_path(alloc, machine, number, line),
-            Own::Slot => answer_slot(alloc, machine, number, line),
-        }
+        let answer = answer_to(alloc, machine, number, own, line)?;
+        // Read for the proof alone: heap, table and ages are those of the journal.
+        let _journal = machine.world().journal();
+        Ok(answer)
     }
 
     fn fault(
@@ -61,6 +68,23 @@ impl Words<Played> for Debugger {
     }
 }
 
+// The answer to a word with an operand.
+fn answer_to(
+    alloc: Global,
+    machine: &Played,
+    number: u32,
+    own: Own,
+    line: &[u8],
+) -> Result<Answer, Memory>
+    ensures { IfOk result (IsAnswer machine.now number own (operand_of (words_at line.now))) }
+{
+    match own {
+        Own::Show => Ok(Answer::Text(tables(alloc, machine)?)),
+        Own::Path => answer_path(alloc, machine, number, line),
+        Own::Slot => answer_slot(alloc, machine, number, line),
+    }
+}
+
 // The tables of the state.
 fn tables(alloc: Global, machine: &Played) -> Result<Vec<u8>, Memory>
     ensures { IfOk result (λ text. text.items ≡ tables_text (picture_in machine.now)) }
@@ -72,7 +96,7 @@ fn tables(alloc: Global, machine: &Played) -> Result<Vec<u8>, Memory>
 // The answer to `path`.
 fn answer_path(alloc: Global, machine: &Played, number: u32, line: &[u8]) -> Result<Answer, Memory>
     ensures { IfOk result
-        (IsAnswer machine.now own_words.Path (operand_of (words_at line.now))) }
+        (IsAnswer machine.now number own_words.Path (operand_of (words_at line.now))) }
 {
     match id_in(operand(line)) {
         Some(id) => Ok(Answer::Text(chain(alloc, machine, id)?)),
@@ -99,7 +123,7 @@ fn chain(alloc: Global, machine: &Played, id: Id) -> Result<Vec<u8>, Memory>
 // The answer to `slot`.
 fn answer_slot(alloc: Global, machine: &Played, number: u32, line: &[u8]) -> Result<Answer, Memory>
     ensures { IfOk result
-        (IsAnswer machine.now own_words.Slot (operand_of (words_at line.now))) }
+        (IsAnswer machine.now number own_words.Slot (operand_of (words_at line.now))) }
 {
     match slot_in(operand(line)) {
         Some(slot) => Ok(Answer::Text(content(alloc, machine, slot)?)),
@@ -119,7 +143,10 @@ fn content(alloc: Global, machine: &Played, slot: Slot) -> Result<Vec<u8>, Memor
 }
 
 // Why an operand of a dialogue's own word is refused.
-fn refusal(alloc: Global, number: u32, why: &str) -> Result<Vec<u8>, Memory> {
+fn refusal(alloc: Global, number: u32, why: &str) -> Result<Vec<u8>, Memory>
+    ensures { IfOk result
+        (λ text. text.items ≡ codes "line " ++ decimal number ++ codes ": " ++ why.now) }
+{
     let mut line = Line::new();
     line.push_str("line ");
     line.push_number(number);
@@ -132,7 +159,9 @@ fn refusal(alloc: Global, number: u32, why: &str) -> Result<Vec<u8>, Memory> {
 }
 
 // Appends a line and words.
-fn push_both(text: &mut Vec<u8>, line: &Line, words: &str) -> Result<(), AllocError> {
+fn push_both(text: &mut Vec<u8>, line: &Line, words: &str) -> Result<(), AllocError>
+    ensures { IfOk result (λ _. text.new.items ≡ text.old.items ++ line.now ++ words.now) }
+{
     push_line(text, line)?;
     push(text, words)
 }
