@@ -13,7 +13,6 @@ use Rattle.hd_model.specs.declared.data.Kind.{Kind}
 use Rattle.hd_model.specs.declared.data.Refusal.TheVariants as refusal
 use Rattle.hd_model.specs.declared.data.Reply.TheVariants as reply
 use Rattle.hd_model.specs.declared.data.Slot.{Slot}
-use Rattle.hd_model.specs.Kinds.{is_paired}
 use Rattle.hd_model.specs.PinnedAddresses.{IsFreeAddress}
 use Rattle.hd_model.specs.State.{Numbers, State, IsAllFree, IsFree, first_slot, given_of, use_of}
 use Rattle.hd_model.specs.Step.{IsLeastUnused, MayGive, blocks_needed}

@@ -1,17 +1,19 @@
 -- What is due of a line's caller, by the entries that are named.
 use Rattle.std.proofs.Common.{List, None, Option, Some, [], ap, arith, eqb, length, refl, subst, sym, true, ℕ, ◌∙◌, ◌∷◌, ◌≡◌}
-use Rattle.std.specs.Prelude.{Contains, ◌≢◌}
-use Rattle.std.proofs.lemmas.Bool.{eqb-true}
+use Rattle.std.specs.Prelude.{Contains, ◌≢◌, ◌↔◌}
+use Rattle.std.proofs.lemmas.Bool.{eq-eqb, eqb-true}
 use Rattle.std.proofs.lemmas.Option.{same_Some}
 use mathlib.Core.Logic.{inl}
 use Rattle.hd_model.specs.declared.data.Entry.{Entry}
 use Rattle.hd_model.specs.declared.command.Cmd.{Cmd}
+use Rattle.hd_model.specs.declared.data.Reply.{Reply}
+use Rattle.hd_model.specs.declared.data.Reply.TheVariants as reply
 use Rattle.hd_model.specs.FullText.{full_line}
 use Rattle.hd_model.specs.RunTexts.{cut_lines}
 use Rattle.hd_audit.specs.Before.{MayCome, due_of, number_of}
 use Rattle.hd_audit.specs.Known.{Known}
 use Rattle.hd_view.specs.Accepted.{AreDue, IsEntryOf, IsNamed, IsSetOf}
-use Rattle.hd_view.specs.{Inside.Explains, Inside.IsDueOf, Inside.IsOnly, Inside.IsOnlyLike, Inside.IsWrong, Cause.Holds, Cause.HoldsOn, Cause.IsNext, Cause.IsSpelled, Cause.missing, Cause.of_line}
+use Rattle.hd_view.specs.{Inside.Explains, Inside.IsDueOf, Inside.IsOnly, Inside.IsOnlyLike, Inside.IsWrong, Cause.Holds, Cause.IsCause, Cause.IsLike, Cause.IsNext, Cause.IsSpelled, Cause.NoneLike, Cause.missing, Cause.of_line}
 use Rattle.hd_view.specs.Stated.{HasReply, Parts}
 use Rattle.hd_view.specs.declared.accepted.Accepted.TheVariants as accepted
 use Rattle.hd_view.specs.declared.accepted.Due.{Due}
@@ -57,11 +59,12 @@ only_one k p due of entry is = record {
 
 -- a line that reads as an entry's, and may not come, has other bytes
 pub spelled : (k : Known) (line : List ℕ) (p : Parts) (entry : Entry) → IsNext k p entry
-    → p.number ≡ number_of k p.caller → p.slot ≡ entry.slot → p.grown ≡ entry.grown
+    → p.number ≡ number_of k p.caller → IsLike p entry.reply → p.slot ≡ entry.slot → p.grown ≡ entry.grown
     → (MayCome k line → ⊥) → IsSpelled k line p
-spelled k line p entry next number slot grown wrong = record {
+spelled k line p entry next number like slot grown wrong = record {
   entry = entry;
   next = next;
+  like = like;
   slot = slot;
   grown = grown;
   differs = λ same. wrong (inl (record {
@@ -75,11 +78,12 @@ spelled k line p entry next number slot grown wrong = record {
 
 -- and so that is a cause
 pub reads_as : (k : Known) (p : Parts) (entry : Entry) → IsNext k p entry → p.number ≡ number_of k p.caller
-    → p.slot ≡ entry.slot → p.grown ≡ entry.grown → Explains k p cause.Spelled
-reads_as k p entry next number slot grown = λ line _ wrong. spelled k line p entry next number slot grown wrong
+    → IsLike p entry.reply → p.slot ≡ entry.slot → p.grown ≡ entry.grown → Explains k p cause.Spelled
+reads_as k p entry next number like slot grown = λ line _ wrong.
+    spelled k line p entry next number like slot grown wrong
 
 -- the only entry that may come is the only one that goes on as the line does
-pub only_like : (k : Known) (p : Parts) (entry : Entry) → IsOnly k p entry → HasReply p.tail entry.reply
+pub only_like : (k : Known) (p : Parts) (entry : Entry) → IsOnly k p entry → IsLike p entry.reply
     → IsOnlyLike k p entry
 only_like k p entry only like = record {
   next = only.next;
@@ -87,6 +91,26 @@ only_like k p entry only like = record {
   like = like;
   only = λ e next _. only.only e next;
 }
+
+-- an address is the line's where the line has it and it is the one that is read off
+pub like_place : (p : Parts) (r : Reply) (address : ℕ) → r ≡ reply.Place address → HasReply p.tail r
+    → (eqb address p.address ≡ true) ↔ IsLike p r
+like_place p r address is has = (
+  λ same. (
+    has,
+    λ a its.
+        let both : reply.Place a ≡ reply.Place address = sym its ∙ is in
+        let at : a ≡ address = cc in
+        at ∙ eqb-true address p.address same,
+  ),
+  λ like. eq-eqb address p.address (like.1 address is),
+)
+
+-- and where it does not go on so, none does
+pub only_unlike : (k : Known) (p : Parts) (entry : Entry) → IsOnly k p entry → (IsLike p entry.reply → ⊥)
+    → NoneLike k p
+only_unlike k p entry only none = λ e next like.
+    none (subst (λ (x : Entry). IsLike p x.reply) (only.only e next) like)
 
 -- ---- line by line
 
@@ -100,9 +124,9 @@ no_rest k rest same none = missing (sym same ∙ nothing rest none)
 
 -- a cause of the first line that is left
 pub on_line : (k : Known) (rest line after : List ℕ) (c : Cause) → rest ≡ k.rest
-    → cut_lines rest ≡ line ∷ cut_lines after → HoldsOn k line c → Holds k c
-on_line k rest line after c same next holds =
-    of_line (subst (λ (l : List ℕ). cut_lines l ≡ line ∷ cut_lines after) same next) holds
+    → cut_lines rest ≡ line ∷ cut_lines after → IsCause k line c → Holds k c
+on_line k rest line after c same next is =
+    of_line (subst (λ (l : List ℕ). cut_lines l ≡ line ∷ cut_lines after) same next) is
 
 -- the line may not come
 pub line_wrong : (k : Known) (rest line after : List ℕ) → rest ≡ k.rest → cut_lines rest ≡ line ∷ cut_lines after

@@ -15,7 +15,7 @@ use Rattle.hd_audit.specs.Before.{GivesBlock, ReturnsFree, TakesSlot, due_of}
 use Rattle.hd_plain.specs.OneEntry.{HasExactly}
 use Rattle.hd_audit.specs.Known.{Known}
 use Rattle.hd_view.specs.Accepted.{IsEntryOf, IsNamed, IsSetOf}
-use Rattle.hd_view.specs.{Inside.IsAddressNext, Inside.IsBlockNext, Inside.IsDueOf, Inside.IsOnlyLike, Inside.IsSlotNext, Cause.DueHas, Cause.IsNext}
+use Rattle.hd_view.specs.{Inside.IsAddressNext, Inside.IsBlockNext, Inside.IsDueOf, Inside.IsOnlyLike, Inside.IsSlotNext, Cause.DueHas, Cause.IsLike, Cause.IsNext}
 use Rattle.hd_view.specs.Stated.{HasReply, Parts}
 use Rattle.hd_view.specs.declared.accepted.Accepted.TheVariants as accepted
 use Rattle.hd_view.specs.declared.accepted.Due.{Due}
@@ -57,7 +57,7 @@ module _ (k : Known) (p : Parts) (due : Due) (of : IsDueOf k p due) (kind : Kind
   by_row e next = next_is k p due of (TakesSlot k.numbers k.state kind) own.0 e next
 
   -- where the line has the reply of a full table
-  pub full_only : (entry : Entry) → full ≡ Some entry → HasReply p.tail entry.reply → IsOnlyLike k p entry
+  pub full_only : (entry : Entry) → full ≡ Some entry → IsLike p entry.reply → IsOnlyLike k p entry
   full_only entry some like = record {
     next = named_next k p due of entry its (subst (λ a. IsNamed a entry) (sym is) (inr (inr some)));
     number = number_is k p due of;
@@ -68,20 +68,19 @@ module _ (k : Known) (p : Parts) (due : Due) (of : IsDueOf k p due) (kind : Kind
       its : IsEntryOf due.caller due.cmd entry
       its = subst (λ (o : Option Entry). IfSome o (IsEntryOf due.caller due.cmd)) some own.2
 
-      by : (e : Entry) → IsNext k p e → HasReply p.tail e.reply → TakesSlot k.numbers k.state kind e
+      by : (e : Entry) → IsNext k p e → IsLike p e.reply → TakesSlot k.numbers k.state kind e
           → e ≡ entry
       by e next has (inl g) =
           let refused = (own.1 entry its.caller_is its.command).1 some in
-          absurd (full_apart p.tail (given_of k.state) (subst (λ r. HasReply p.tail r) refused.1 like)
-          (subst (λ r. HasReply p.tail r) g.3 has))
+          absurd (full_apart p.tail (given_of k.state) (subst (λ r. HasReply p.tail r) refused.1 like.0)
+          (subst (λ r. HasReply p.tail r) g.3 has.0))
       by e next has (inr f) =
           same_Some e entry (sym ((own.1 e (next.caller ∙ sym of.caller) (next_cmd k p due of e next)).0 f) ∙ some)
 
   -- and where it has not
-  pub slot_next : ((entry : Entry) → full ≡ Some entry → HasReply p.tail entry.reply → ⊥)
+  pub slot_next : ((entry : Entry) → full ≡ Some entry → IsLike p entry.reply → ⊥)
       → IsSlotNext k p kind
   slot_next none = record {
-    sound = of.sound;
     number = number_is k p due of;
     due = due_has k p due of (TakesSlot k.numbers k.state kind) own.0;
     each = λ e next has. by e next has (by_row e next);
@@ -92,10 +91,11 @@ module _ (k : Known) (p : Parts) (due : Due) (of : IsDueOf k p due) (kind : Kind
           is_next k p due of (TakesSlot k.numbers k.state kind) own.0 e refl refl (inl (slot, refl, may, refl)),
           refl,
           refl,
+          refl,
         );
   }
     where
-      by : (e : Entry) → IsNext k p e → HasReply p.tail e.reply → TakesSlot k.numbers k.state kind e
+      by : (e : Entry) → IsNext k p e → IsLike p e.reply → TakesSlot k.numbers k.state kind e
           → (slot : Slot) × (e.slot ≡ Some slot) × MayGive k.numbers k.state kind e.grown slot
           × (e.reply ≡ reply.Done)
       by e next has (inl g) = g
@@ -122,6 +122,7 @@ address_next k p due of id free is = record {
         named_next k p due of e its (subst (λ a. IsNamed a e) (sym is) (address, member, refl, refl, refl)),
         refl,
         refl,
+        refl,
       );
 }
 
@@ -141,11 +142,13 @@ block_next k p due of kind free is = record {
     is_next k p due of (GivesBlock k.state kind) own (value_entry due 0 Zero) refl refl (inr (refl, refl, refl)),
     refl,
     refl,
+    refl,
   );
   next = λ block free_block. (
     value_entry due 1 (Back block),
     is_next k p due of (GivesBlock k.state kind) own (value_entry due 1 (Back block)) refl refl
         (inl (block, free_block, refl, refl, refl)),
+    refl,
     refl,
     refl,
   );

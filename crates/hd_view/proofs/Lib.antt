@@ -13,6 +13,7 @@ pub mod CauseFacts
 pub mod ReplyWords
 pub mod DueCauses
 pub mod RowCauses
+pub mod OrderCauses
 pub mod WhyClaims
 mod LinesBefore
 mod ShownClaims

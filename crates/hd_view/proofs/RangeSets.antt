@@ -1,5 +1,5 @@
 -- Ranges, one after another.
-use Rattle.std.proofs.Common.{List, [], ap, arith, get_or, length, max, subst, suc, sym, take, zero, ℕ, ⊎_elim, ◌∙◌, ◌++◌, ◌+◌, ◌<◌, ◌∷◌, ◌≡◌, ◌≤◌, ◌⊎◌}
+use Rattle.std.proofs.Common.{Bool, List, MatchOption, None, Option, Some, [], ap, arith, get_or, is_some, length, max, subst, suc, sym, take, true, true≢false, zero, ℕ, ⊎_elim, ◌∙◌, ◌++◌, ◌+◌, ◌<◌, ◌∷◌, ◌≡◌, ◌≤◌, ◌⊎◌}
 use Rattle.std.specs.Prelude.{◌↔◌}
 use mathlib.Core.Logic.{inl, inr}
 use Rattle.std.proofs.lemmas.Bool.{cases_lt}
@@ -134,3 +134,12 @@ pub none_next : (ranges : List Range) (i : ℕ) (d : Range) (x : ℕ) → i < le
 none_next ranges i d x low before here h =
     ⊎_elim before here
     ((in_more (take i ranges) (get_or ranges i d) x).0 (subst (λ l. IsIn l x) (take_more ranges i d low) h))
+
+-- the first number below an end that passes a test is one that does, where none does beyond it
+pub any_to : (P : ℕ → Type 0) (end : ℕ) → ((x : ℕ) → P x → x < end) → (o : Option ℕ) (t : Bool) → t ≡ is_some o
+    → MatchOption o ((x : ℕ) → x < end → P x → ⊥) P → (t ≡ true) ↔ ((x : ℕ) × P x)
+any_to P end low (Some x) t is found = (λ _. (x, found), λ _. is)
+any_to P end low None t is none = (
+  λ yes. absurd (true≢false (sym yes ∙ is)),
+  λ some. absurd (none some.0 (low some.0 some.1) some.1),
+)

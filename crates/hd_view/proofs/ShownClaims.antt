@@ -1,5 +1,5 @@
 -- What is promised of a state that is shown.
-use Rattle.std.proofs.Common.{Err, List, Ok, Option, Result, [], ◌∙◌, arith, lit<, refl, subst, sym, ℕ, ◌≡◌}
+use Rattle.std.proofs.Common.{Err, List, Ok, Option, Result, [], arith, lit<, refl, subst, sym, ℕ, ◌≡◌}
 use Rattle.std.specs.Prelude.{IfErr, IfOk, MatchResult}
 use mathlib.Core.Logic.{inl, inr}
 use Rattle.hd_heap.specs.Sound.{IsSound}

@@ -83,15 +83,16 @@ module _ (s : State) (kind : Kind) where
     free = λ x low. absurd (omega (arith, low));
   }
 
+  pub free_below : (blocks : ℕ) → ((block : ℕ) → IsSome (use_of s block) → block ≤ blocks) → (x : ℕ)
+      → IsFree s kind (slot x) → x < (blocks + 1) * ROWS
+  free_below blocks used x f = omega (arith, used (block_of (slot x)) (ap is_some f.of_kind))
+
   pub covers_all : (set : NumberSet) (blocks : ℕ) → CoversTo s kind (blocks + 1) set
       → ((block : ℕ) → IsSome (use_of s block) → block ≤ blocks) → Has set (λ x. IsFree s kind (slot x))
   covers_all set blocks covers used = λ x. (
     λ m. (covers.free x (covers.within x m.within)).0 m,
-    λ f. (covers.free x (low x f)).1 f,
+    λ f. (covers.free x (free_below blocks used x f)).1 f,
   )
-    where
-      low : (x : ℕ) → IsFree s kind (slot x) → x < (blocks + 1) * ROWS
-      low x f = omega (arith, used (block_of (slot x)) (ap is_some f.of_kind))
 
   module _ (block : ℕ) (old new : NumberSet) (covers : CoversTo s kind block old) where
     -- slots of the block are added, of which the free ones are within and not among the others

@@ -6,8 +6,6 @@ use Rattle.std.proofs.lemmas.List.{at_drop_all, drop_more, take_all, take_more}
 use Rattle.hd_model.specs.declared.command.Cmd.{Cmd}
 use Rattle.hd_model.specs.RunTexts.{AreRight, IsNoRun, cut_lines, missing, so_far, wrong}
 use Rattle.hd_model.specs.State.{Numbers}
-use Rattle.hd_model.specs.WellFormed.{IsWellFormed}
-use Rattle.hd_model.proofs.WellFormedSteps.{run_is_well_formed}
 use Rattle.hd_audit.specs.Before.{IsBefore}
 use Rattle.hd_audit.specs.Known.{Known}
 use Rattle.hd_audit.specs.RightVerdicts.{numbers_of}
@@ -90,13 +88,6 @@ module _ (n : Numbers) (lists : List (List Cmd)) (bytes : List ℕ) (count : ℕ
             ap (λ (l : List (List ℕ)). length l)
                 (sym (at_drop_all (λ (l : List (List ℕ)). l) (cut_lines bytes) count past) ∙ sym rest_is ∙ next),
           ))
-
--- the state before it is one of a run
-pub is_sound : (n : Numbers) (lists : List (List Cmd)) (lines : List (List ℕ)) (k : Known)
-    → IsBefore n lists lines k → IsWellFormed k.numbers k.state
-is_sound n lists lines k before =
-    subst (λ m. IsWellFormed m k.state) (sym before.numbers)
-    (run_is_well_formed n before.journal k.state before.along.run)
 
 -- the lines that are named are exactly those with which the lines before are still right
 pub named_right : (n : Numbers) (lists : List (List Cmd)) (lines : List (List ℕ)) (k : Known)

@@ -1,6 +1,6 @@
 -- Why a line may not come. Each cause says something of the line and of the state before it, and is tied to the
 -- command that is due of the line's caller: an entry that has what the cause wants is none that the line could be.
-use Rattle.std.specs.Prelude.{◌≡◌, ◌≢◌, ℕ, ◌+◌, ◌-◌, ◌^◌, ◌<◌, ◌≤◌, ◌⊎◌, Bool, true, false, List, [], ◌∷◌, codes, Option, Some, None, IsSome}
+use Rattle.std.specs.Prelude.{◌≡◌, ◌≢◌, ℕ, ◌+◌, ◌-◌, ◌<◌, ◌≤◌, ◌⊎◌, Bool, true, false, List, [], ◌∷◌, codes, Option, Some, None, IsSome}
 use Rattle.std.specs.FinMap.{get}
 use Rattle.hd_model.specs.declared.command.Cmd.{Cmd}
 use Rattle.hd_model.specs.declared.data.Entry.{Entry}
@@ -8,6 +8,7 @@ use Rattle.hd_model.specs.declared.data.Grown.{Grown}
 use Rattle.hd_model.specs.declared.data.Grown.TheVariants.{Zero, One, Two, Back}
 use Rattle.hd_model.specs.declared.data.Id.{Id}
 use Rattle.hd_model.specs.declared.data.Kind.{Kind}
+use Rattle.hd_model.specs.declared.data.Reply.{Reply}
 use Rattle.hd_model.specs.declared.data.Reply.TheVariants as reply
 use Rattle.hd_model.specs.declared.data.Slot.{Slot}
 use Rattle.hd_model.specs.Command.{idle_slot}
@@ -40,12 +41,32 @@ pub record IsNext (k : Known) (p : Parts) (e : Entry) : Type 0 where
   pub after : State
   pub step : Step k.numbers k.state e after
 
+-- a reply is the line's: the line has it, and an address is the one that is read off the line
+abbrev pub IsLike : Parts → Reply → Type 0
+IsLike p r = HasReply p.tail r × ((address : ℕ) → r ≡ reply.Place address → address ≡ p.address)
+
 -- each entry of what is due of the line's caller is so, and each of those with the line's reply
 abbrev pub EachIs : Known → Parts → (Entry → Type 0) → Type 0
 EachIs k p P = (e : Entry) → IsNext k p e → P e
 
 abbrev pub EachLike : Known → Parts → (Entry → Type 0) → Type 0
-EachLike k p P = (e : Entry) → IsNext k p e → HasReply p.tail e.reply → P e
+EachLike k p P = (e : Entry) → IsNext k p e → IsLike p e.reply → P e
+
+-- none of them has the line's reply
+abbrev pub NoneLike : Known → Parts → Type 0
+NoneLike k p = EachIs k p (λ e. IsLike p e.reply → ⊥)
+
+-- one has the line's reply, and one its blocks too
+pub record IsReplied (k : Known) (p : Parts) : Type 0 where
+  pub entry : Entry
+  pub next : IsNext k p entry
+  pub like : IsLike p entry.reply
+
+pub record IsGrown (k : Known) (p : Parts) : Type 0 where
+  pub entry : Entry
+  pub next : IsNext k p entry
+  pub like : IsLike p entry.reply
+  pub grown : entry.grown ≡ p.grown
 
 -- the command that is due of the line's caller has exactly these entries
 abbrev pub DueHas : Known → Parts → (Entry → Type 0) → Type 0
@@ -80,6 +101,7 @@ first_stated (Back b) = None
 pub record IsSpelled (k : Known) (line : List ℕ) (p : Parts) : Type 0 where
   pub entry : Entry
   pub next : IsNext k p entry
+  pub like : IsLike p entry.reply
   pub slot : p.slot ≡ entry.slot
   pub grown : p.grown ≡ entry.grown
   pub differs : line ≢ full_line entry p.number
@@ -96,9 +118,10 @@ pub record IsNoneOfDue (k : Known) (p : Parts) (slot : Slot) : Type 0 where
   pub stated : p.slot ≡ Some slot
   pub none : EachLike k p (λ e. e.slot ≡ Some slot → e.grown ≢ p.grown)
 
--- each entry that grows has the stated blocks, and the slot is another than the first of the new block
+-- the command puts a new row, and the slot is another than the first of the new block
 pub record IsNotFirst (k : Known) (p : Parts) (block : ℕ) : Type 0 where
-  pub growth : EachLike k p (λ e. e.grown ≢ Zero → e.grown ≡ p.grown)
+  pub kind : Kind
+  pub due : DueTakes k p kind
   pub first : first_stated p.grown ≡ Some block
   pub other : p.slot ≢ Some (first_slot block)
 
@@ -155,9 +178,6 @@ BlocksHold k p (by_blocks.InUse block) =
     IsStated p.grown block × IsSome (use_of k.state block) × IsOtherGrowth k p
 BlocksHold k p (by_blocks.NotLeast which least) =
     IsLeastOf k p.grown which least × IsOtherGrowth k p
-BlocksHold k p (by_blocks.TooFew unused kind) =
-    DueTakes k p kind × (unused ≡ k.numbers.blocks - given_of k.state) × (unused < blocks_needed kind)
-    × (p.grown ≢ Zero) × EachLike k p (λ e. e.grown ≢ p.grown)
 BlocksHold k p (by_blocks.OtherKind block kind) =
     IsNotGiven k p block kind × (use_of k.state block ≢ Some (handles_of kind))
 BlocksHold k p (by_blocks.NotFree block kind) =
@@ -166,10 +186,19 @@ BlocksHold k p (by_blocks.NotFree block kind) =
 
 -- ---- all causes
 
+-- the command puts a new row of a kind, which needs more blocks than are without a use; the line states a growth,
+-- and no entry has its reply
+pub record IsTooFew (k : Known) (p : Parts) (unused : ℕ) (kind : Kind) : Type 0 where
+  pub none : NoneLike k p
+  pub due : DueTakes k p kind
+  pub grows : first_stated p.grown ≢ None
+  pub unused_is : unused ≡ k.numbers.blocks - given_of k.state
+  pub few : unused < blocks_needed kind
+
 -- an address is asked for of an object that has none, and at this one it is not apart from all that are pinned
 pub record IsTakenAddress (k : Known) (p : Parts) (address : ℕ) : Type 0 where
+  pub none : NoneLike k p
   pub stated : p.address ≡ address
-  pub small : address < 2 ^ 32
   pub object : Id
   pub due : DueReturns k p object
   pub taken : IsFreeAddress k.state object address → ⊥
@@ -185,12 +214,12 @@ HoldsOf k line p cause.OnlyEnd = k.left ≡ 0
 HoldsOf k line p (cause.NoCaller caller) = (p.caller ≡ caller) × (k.numbers.callers ≤ caller)
 HoldsOf k line p (cause.ListEnd caller) = (p.caller ≡ caller) × (due_of k caller ≡ None)
 HoldsOf k line p (cause.Number number) = (number ≡ number_of k p.caller) × (p.number ≢ number)
-HoldsOf k line p cause.Reply = EachIs k p (λ e. HasReply p.tail e.reply → ⊥)
-HoldsOf k line p (cause.Pinned address) =
-    EachIs k p (λ e. (e.reply ≡ reply.Place address) × (HasReply p.tail e.reply → ⊥))
+HoldsOf k line p cause.Reply = NoneLike k p
+HoldsOf k line p (cause.Pinned address) = NoneLike k p × EachIs k p (λ e. e.reply ≡ reply.Place address)
 HoldsOf k line p (cause.AddressTaken address) = IsTakenAddress k p address
-HoldsOf k line p (cause.Slot c) = SlotHolds k p c
-HoldsOf k line p (cause.Blocks c) = BlocksHold k p c
+HoldsOf k line p (cause.TooFew unused kind) = IsTooFew k p unused kind
+HoldsOf k line p (cause.Blocks c) = IsReplied k p × BlocksHold k p c
+HoldsOf k line p (cause.Slot c) = IsGrown k p × SlotHolds k p c
 HoldsOf k line p cause.Spelled = IsSpelled k line p
 
 -- whether a line begins as the end line
@@ -206,8 +235,34 @@ pub data HoldsOn (k : Known) (line : List ℕ) : Cause → Type 0 where
   end_counts : is_end line ≡ true → k.left ≡ 0 → line ≢ end_after k → HoldsOn k line cause.EndCounts
   of_parts : {p : Parts} {c : Cause} → stated_in line ≡ Some p → HoldsOf k line p c → HoldsOn k line c
 
--- a cause holds of the first of the lines that are left, or none is left
+-- ---- the order in which causes are looked for: the caller, the number, the reply, the blocks, the slot
+
+abbrev pub rank : Cause → ℕ
+rank cause.Missing = 0
+rank cause.AfterEnd = 1
+rank cause.NoEnd = 2
+rank cause.NoLine = 3
+rank (cause.EndTooEarly left) = 3
+rank cause.EndCounts = 3
+rank cause.OnlyEnd = 4
+rank (cause.NoCaller caller) = 5
+rank (cause.ListEnd caller) = 6
+rank (cause.Number number) = 7
+rank cause.Reply = 8
+rank (cause.Pinned address) = 8
+rank (cause.AddressTaken address) = 8
+rank (cause.TooFew unused kind) = 8
+rank (cause.Blocks c) = 9
+rank (cause.Slot c) = 10
+rank cause.Spelled = 11
+
+-- a cause is that of a line: it holds, and none before it does
+pub record IsCause (k : Known) (line : List ℕ) (c : Cause) : Type 0 where
+  pub holds : HoldsOn k line c
+  pub first : (d : Cause) → rank d < rank c → HoldsOn k line d → ⊥
+
+-- and that of the first of the lines that are left, or none is left
 pub data Holds (k : Known) : Cause → Type 0 where
   missing : k.rest ≡ [] → Holds k cause.Missing
   of_line : {line : List ℕ} {after : List (List ℕ)} {c : Cause} → cut_lines k.rest ≡ line ∷ after
-      → HoldsOn k line c → Holds k c
+      → IsCause k line c → Holds k c

@@ -3,14 +3,13 @@ use Rattle.std.specs.Prelude.{ℕ, ◌↔◌, ◌≡◌, ◌≢◌, ◌+◌, ◌
 use Rattle.hd_model.specs.{declared.command.Cmd.Cmd, declared.data.Entry.Entry, declared.data.Grown.Grown, declared.data.Id.Id, declared.data.Grown.TheVariants.Zero, declared.data.Grown.TheVariants.Back, declared.data.Kind.Kind, declared.data.Slot.Slot, declared.limits.TheConstants.BLOCKS, declared.limits.TheConstants.ROWS, PinnedAddresses.Meet, Step.MayGive, Step.IsLeastUnused, Valid.IsValid}
 use Rattle.hd_model.specs.RunTexts.{AreRight, cut_lines, IsNoRun, IsRunText}
 use Rattle.hd_model.specs.State.{State, IsFree, first_slot, IsAllFree, Numbers}
-use Rattle.hd_model.specs.WellFormed.{IsWellFormed}
 use Rattle.hd_audit.specs.Before.{IsBefore, due_of, GivesBlock, MayCome, number_of}
 use Rattle.hd_audit.specs.{RightVerdicts.numbers_of, Known.Known, declared.entry_choice.PinnedCells.PinnedCells}
 use Rattle.hd_io.specs.Source.{SourceView}
 use Rattle.hd_run.specs.{Ending.CauseOfFault, declared.fault.Fault.Fault}
 use Rattle.hd_view.specs.{declared.sets.NumberSet.NumberSet, declared.sets.Range.Range, Sets.IsMember, Sets.IsIn, declared.accepted.Due.Due, declared.accepted.Judgement.Judgement, Accepted.IsDue, Accepted.HasAddressOf, declared.stated.Stated.Stated, declared.cause.Cause.Cause, declared.cause.Growth.Growth, declared.finding.Finding.Finding, Findings.IsWhy, Script.IsBadLine}
-use Rattle.hd_view.specs.Stated.{Parts, HasReply, stated_in}
-use Rattle.hd_view.specs.Cause.{DueGives, DueReturns, DueTakes, IsNext, EachIs, EachLike, FitsKind, HoldsOf, IsLeastOf, first_stated}
+use Rattle.hd_view.specs.Stated.{Parts, stated_in}
+use Rattle.hd_view.specs.Cause.{DueGives, DueReturns, DueTakes, IsLike, IsNext, EachIs, EachLike, FitsKind, HoldsOf, IsLeastOf, first_stated, rank}
 use Rattle.hd_view.specs.declared.finding.Finding.TheVariants.{NoRun, Refused, Run}
 use Rattle.hd_model.specs.declared.data.Reply.TheVariants as reply
 
@@ -105,6 +104,12 @@ IsGrownOf k kind caller c found =
 abbrev pub Explains : Known → Parts → Cause → Type 0
 Explains k p c = (line : List ℕ) → stated_in line ≡ Some p → (MayCome k line → ⊥) → HoldsOf k line p c
 
+-- and no cause before it does
+abbrev pub ExplainsFirst : Known → Parts → Cause → Type 0
+ExplainsFirst k p c =
+    (line : List ℕ) → stated_in line ≡ Some p → (MayCome k line → ⊥)
+    → HoldsOf k line p c × ((d : Cause) → rank d < rank c → HoldsOf k line p d → ⊥)
+
 -- an entry may come, with the number that the line states, and it is the only one, or the only one that goes
 -- on as the line does
 pub record IsOnly (k : Known) (p : Parts) (entry : Entry) : Type 0 where
@@ -115,7 +120,7 @@ pub record IsOnly (k : Known) (p : Parts) (entry : Entry) : Type 0 where
 pub record IsOnlyLike (k : Known) (p : Parts) (entry : Entry) : Type 0 where
   pub next : IsNext k p entry
   pub number : p.number ≡ number_of k p.caller
-  pub like : HasReply p.tail entry.reply
+  pub like : IsLike p entry.reply
   pub only : EachLike k p (λ e. e ≡ entry)
 
 -- the first of the lines that are left may not come
@@ -128,17 +133,25 @@ pub record IsDueOf (k : Known) (p : Parts) (due : Due) : Type 0 where
   pub is_due : IsDue k due
   pub caller : due.caller ≡ p.caller
   pub number : due.number ≡ p.number
-  pub sound : IsWellFormed k.numbers k.state
+
+-- a new row of a kind may get a slot
+abbrev pub MayGiveSome : Known → Kind → Type 0
+MayGiveSome k kind = (slot : Slot) × ((grown : Grown) × MayGive k.numbers k.state kind grown slot)
 
 -- entries that give a new row of a kind a slot may come, and of the others none that goes on as the line does
 pub record IsSlotNext (k : Known) (p : Parts) (kind : Kind) : Type 0 where
-  pub sound : IsWellFormed k.numbers k.state
   pub number : p.number ≡ number_of k p.caller
   pub due : DueTakes k p kind
   pub each : EachLike k p (λ e. (slot : Slot) × (e.slot ≡ Some slot)
       × MayGive k.numbers k.state kind e.grown slot × (e.reply ≡ reply.Done))
   pub next : (slot : Slot) (grown : Grown) → MayGive k.numbers k.state kind grown slot
-      → (e : Entry) × IsNext k p e × (e.slot ≡ Some slot) × (e.grown ≡ grown)
+      → (e : Entry) × IsNext k p e × (e.slot ≡ Some slot) × (e.grown ≡ grown) × (e.reply ≡ reply.Done)
+
+-- the line has the reply of a done one, and one may come
+pub record IsDoneNext (k : Known) (p : Parts) (kind : Kind) : Type 0 where
+  pub next : IsSlotNext k p kind
+  pub like : IsLike p reply.Done
+  pub some : MayGiveSome k kind
 
 -- entries that return an address of a set
 pub record IsAddressNext (k : Known) (p : Parts) (id : Id) (free : NumberSet) : Type 0 where
@@ -146,24 +159,22 @@ pub record IsAddressNext (k : Known) (p : Parts) (id : Id) (free : NumberSet) : 
   pub due : DueReturns k p id
   pub each : EachIs k p (HasAddressOf free)
   pub next : (address : ℕ) → IsMember free address
-      → (e : Entry) × IsNext k p e × (e.slot ≡ None) × (e.grown ≡ Zero)
+      → (e : Entry) × IsNext k p e × (e.slot ≡ None) × (e.grown ≡ Zero) × (e.reply ≡ reply.Place address)
 
 -- entries that give back a block of a kind, and one that gives back none
 pub record IsBlockNext (k : Known) (p : Parts) (kind : Kind) : Type 0 where
   pub number : p.number ≡ number_of k p.caller
   pub due : DueGives k p kind
   pub each : EachIs k p (GivesBlock k.state kind)
-  pub none : (e : Entry) × IsNext k p e × (e.slot ≡ None) × (e.grown ≡ Zero)
+  pub none : (e : Entry) × IsNext k p e × (e.slot ≡ None) × (e.grown ≡ Zero) × (e.reply ≡ reply.Value 0)
   pub next : (block : ℕ) → IsAllFree k.state kind block
-      → (e : Entry) × IsNext k p e × (e.slot ≡ None) × (e.grown ≡ Back block)
+      → (e : Entry) × IsNext k p e × (e.slot ≡ None) × (e.grown ≡ Back block) × (e.reply ≡ reply.Value 1)
 
--- a slot of a line that states a growth, of which no block has a use; the block that is looked at, from which
--- number on the least one is looked for, and the new block
-pub record IsGrowing (k : Known) (p : Parts) (kind : Kind) (growth : Growth) (block from : ℕ) (slot : Slot) (new : ℕ)
-    : Type 0 where
-  pub next : IsSlotNext k p kind
+-- a line that states a growth, of which no block has a use; the block that is looked at, from which number on the
+-- least one is looked for, and the new block
+pub record IsGrowing (k : Known) (p : Parts) (kind : Kind) (growth : Growth) (block from new : ℕ) : Type 0 where
+  pub done : IsDoneNext k p kind
   pub fits : FitsKind p.grown kind
-  pub slot_is : p.slot ≡ Some slot
   pub new_is : first_stated p.grown ≡ Some new
   pub wants : (s : Slot) → MayGive k.numbers k.state kind p.grown s → IsLeastUnused k.numbers k.state from block
   pub other : (least : ℕ) → IsLeastUnused k.numbers k.state from least → block ≢ least

@@ -173,7 +173,6 @@ block_cause_word by_blocks.Needless = codes "blocks are needless"
 block_cause_word by_blocks.Other = codes "the blocks are others"
 block_cause_word (by_blocks.InUse block) = codes "block " ++ decimal block ++ codes " is in use"
 block_cause_word (by_blocks.NotLeast which least) = growth_words which ++ decimal least
-block_cause_word (by_blocks.TooFew unused kind) = too_few_words unused kind
 block_cause_word (by_blocks.OtherKind block kind) =
     codes "block " ++ decimal block ++ codes " has no handles of kind " ++ kind_name kind
 block_cause_word (by_blocks.NotFree block kind) = codes "not all slots are free in block " ++ decimal block
@@ -193,6 +192,7 @@ cause_word cause.Reply = codes "the reply is another"
 cause_word (cause.Pinned address) = codes "the object is pinned at " ++ decimal address
 cause_word (cause.AddressTaken address) =
     codes "an object with a pinned address is at " ++ decimal address
+cause_word (cause.TooFew unused kind) = too_few_words unused kind
 cause_word (cause.Slot c) = slot_cause_word c
 cause_word (cause.Blocks c) = block_cause_word c
 cause_word cause.Spelled = codes "it reads as a line that may come, but has other bytes"

@@ -1,5 +1,6 @@
 // The lines that may come for a command that is due, as a set.
 ghost use Rattle.std.specs.Prelude.{◌≡◌, ℕ, ◌+◌, ◌<◌, ◌≤◌, ◌^◌, ◌↔◌, ◌⊎◌, true, drop, IfOk, IfSome, IsTrue};
+ghost use Rattle.hd_model.specs.declared.data.Slot.{Slot as SlotValue};
 ghost use Rattle.hd_model.specs.declared.limits.TheConstants.{BLOCKS, ROWS};
 ghost use Rattle.hd_model.specs.{RunTexts.cut_lines, PinnedAddresses.IsFreeAddress, Valid.IsValid};
 ghost use Rattle.hd_model.specs.State.{IsAllFree, IsFree};
@@ -10,7 +11,7 @@ ghost use Rattle.hd_view.specs.{Accepted.IsEntryOf, Accepted.IsNamed, Accepted.I
 ghost use Rattle.hd_view.specs.Inside.{Adds, Between, IsTextOf};
 ghost use Rattle.hd_view.specs.{Inside.Has, Sets.IsIn};
 
-use crate::sets::{NumberSet, Range, Test, add_each, add_range, push};
+use crate::sets::{NumberSet, Range, Test, add_each, add_range, first_of, push};
 use hd_audit::{Before, Entries, PinnedCells, state_after};
 use hd_model::limits::ROWS;
 use hd_model::{Cmd, Entry, Grown, Id, Kind, Memory, Refusal, Reply, Slot};
@@ -287,6 +288,25 @@ fn add_slots<'a>(
         is_free,
     };
     add_each(&slots, first, first + ROWS, ranges)
+}
+
+/// Whether a slot is a free one of a kind.
+pub(crate) fn any_free<'a>(before: &'a Before<'a>, kind: Kind) -> bool
+    ensures { IsTrue result ↔ ((slot : SlotValue) × IsFree before.now.state kind slot) }
+{
+    let slots = SlotTest {
+        before,
+        kind,
+        is_free: true,
+    };
+    first_of(&slots, (before.blocks() + 1) * ROWS).is_some()
+}
+
+/// Whether all slots of a block are free ones of a kind.
+pub(crate) fn any_whole<'a>(before: &'a Before<'a>, kind: Kind) -> bool
+    ensures { IsTrue result ↔ ((block : ℕ) × IsAllFree before.now.state kind block) }
+{
+    first_of(&BlockTest { before, kind }, before.blocks() + 1).is_some()
 }
 
 // Whether slots are free, or whether they are not.

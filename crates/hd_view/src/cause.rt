@@ -1,23 +1,23 @@
 // Why a line is not right: the first cause that is found.
-ghost use Rattle.std.specs.Prelude.{◌≡◌, ◌≢◌, ◌↔◌, ◌≤◌, ◌<◌, ◌+◌, ◌-◌, ℕ, List, Some, None, false, true, Contains};
+ghost use Rattle.std.specs.Prelude.{◌≡◌, ◌≢◌, ◌↔◌, ◌≤◌, ◌<◌, ◌-◌, ℕ, List, Some, None, false, true, Contains, is_some};
 ghost use Rattle.std.specs.Prelude.{IfSome, IfNone, IsTrue};
 ghost use Rattle.hd_model.specs.declared.limits.TheConstants.{BLOCKS};
-ghost use Rattle.hd_model.specs.declared.data.Id.{Id as IdValue};
+ghost use Rattle.hd_model.specs.declared.data.Entry.{Entry as EntryValue};
 ghost use Rattle.hd_model.specs.declared.data.Grown.TheVariants.{Back, One, Two, Zero};
+ghost use Rattle.hd_model.specs.declared.data.Id.{Id as IdValue};
 ghost use Rattle.hd_model.specs.declared.data.Reply.TheVariants.{Value};
-ghost use Rattle.hd_model.specs.{State.first_slot, State.given_of, Step.IsLeastUnused, Step.blocks_needed};
-ghost use Rattle.hd_model.specs.WellFormed.{IsWellFormed};
-ghost use Rattle.hd_view.specs.declared.cause.BlockCause.TheVariants.{TooFew};
+ghost use Rattle.hd_model.specs.{State.IsAllFree, State.first_slot, State.given_of, Step.IsLeastUnused};
 ghost use Rattle.hd_print.specs.VerdictLaws.{HasEnd};
 ghost use Rattle.hd_audit.specs.{Before.MayCome, Known.Known};
 ghost use Rattle.hd_view.specs.Accepted.{AreDue, IsDue};
-ghost use Rattle.hd_view.specs.{Cause.is_end, Cause.EachLike, Cause.Holds, Cause.HoldsOn, Inside.Explains, Inside.IsAddressNext};
-ghost use Rattle.hd_view.specs.Inside.{IsBlockNext, IsDueOf, IsGrowing, IsOnly, IsOnlyLike, IsSlotNext};
-ghost use Rattle.hd_view.specs.Inside.{IsWrong};
-ghost use Rattle.hd_view.specs.{Inside.parts_in, Stated.HasReply, Stated.Parts};
-ghost use Rattle.hd_view.specs.declared.cause.Cause.TheVariants.{Blocks, Spelled};
+ghost use Rattle.hd_view.specs.Cause.{DueTakes, EachLike, Holds, IsCause, IsGrown, IsLike, IsNotGiven};
+ghost use Rattle.hd_view.specs.Cause.{IsReplied, NoneLike, first_stated, is_end};
+ghost use Rattle.hd_view.specs.Inside.{Explains, ExplainsFirst, IsAddressNext, IsBlockNext, IsDoneNext};
+ghost use Rattle.hd_view.specs.Inside.{IsDueOf, IsGrowing, IsOnly, IsOnlyLike, IsSlotNext, IsWrong};
+ghost use Rattle.hd_view.specs.Inside.{MayGiveSome, parts_in};
+ghost use Rattle.hd_view.specs.Stated.{Parts};
 
-use crate::accepted::{Accepted, Due, needed_blocks};
+use crate::accepted::{Accepted, Due, any_free, any_whole, needed_blocks};
 use crate::sets::NumberSet;
 use crate::stated::{Stated, begins, has_reply, parts_of};
 use hd_audit::{Before, cut_line};
@@ -51,10 +51,12 @@ pub(crate) enum Cause {
     Pinned(u32),
     /// An object that has a pinned address is there.
     AddressTaken(u32),
-    /// By its slot.
-    Slot(SlotCause),
+    /// So many blocks are without a use, and a new row of the kind needs more.
+    TooFew(u32, Kind),
     /// By its blocks.
     Blocks(BlockCause),
+    /// By its slot.
+    Slot(SlotCause),
     /// It reads as a line that may come, but has other bytes.
     Spelled,
 }
@@ -85,8 +87,6 @@ pub(crate) enum BlockCause {
     InUse(u32),
     /// The table grows by this block.
     NotLeast(Growth, u32),
-    /// So many blocks are without a use, and a new row of the kind needs more.
-    TooFew(u32, Kind),
     /// The block has no handles of the kind.
     OtherKind(u32, Kind),
     /// Some slot of the block, which has handles of the kind, is not free.
@@ -106,7 +106,6 @@ const END: &str = "end handles ";
 
 /// Why the first of the lines that are left may not come, or why there is none.
 pub(crate) fn cause_of(before: &Before, dues: &[Due]) -> Cause
-    requires sound { IsWellFormed before.now.numbers before.now.state }
     requires dues { AreDue before.now dues.now }
     requires wrong { IsWrong before.now }
     ensures { Holds before.now result }
@@ -121,10 +120,9 @@ pub(crate) fn cause_of(before: &Before, dues: &[Due]) -> Cause
 
 // Why the first of the lines that are left may not come.
 fn first_cause(before: &Before, dues: &[Due], line: &[u8]) -> Cause
-    requires sound { IsWellFormed before.now.numbers before.now.state }
     requires dues { AreDue before.now dues.now }
     requires wrong { MayCome before.now line.now → ⊥ }
-    ensures { HoldsOn before.now line.now result }
+    ensures { IsCause before.now line.now result }
 {
     if before.is_ended() {
         Cause::AfterEnd
@@ -150,8 +148,8 @@ fn has_end(line: &[u8]) -> bool
 // Why a line that begins as the end line may not come.
 fn end_cause(before: &Before) -> Cause
     requires { before.now.ended ≡ false }
-    ensures { (line : List ℕ) → is_end line ≡ true → (MayCome before.now line → ⊥)
-        → HoldsOn before.now line result }
+    ensures { (line : List ℕ) → HasEnd line → is_end line ≡ true → (MayCome before.now line → ⊥)
+        → IsCause before.now line result }
 {
     let left = before.left();
     if left > 0 {
@@ -163,11 +161,12 @@ fn end_cause(before: &Before) -> Cause
 
 // Why a line that does not may not come.
 fn line_cause(before: &Before, dues: &[Due], line: &[u8]) -> Cause
-    requires sound { IsWellFormed before.now.numbers before.now.state }
     requires dues { AreDue before.now dues.now }
     requires wrong { MayCome before.now line.now → ⊥ }
+    requires going { before.now.ended ≡ false }
+    requires end { HasEnd line.now }
     requires begins { is_end line.now ≡ false }
-    ensures { HoldsOn before.now line.now result }
+    ensures { IsCause before.now line.now result }
 {
     let Some(stated) = parts_of(line) else {
         return Cause::NoLine;
@@ -201,10 +200,11 @@ fn find_due(dues: &[Due], caller: u32) -> Option<&Due>
 
 // Why a line of the caller of what is due may not come.
 fn number_cause(before: &Before, due: &Due, stated: Stated) -> Cause
-    requires sound { IsWellFormed before.now.numbers before.now.state }
+    requires left { before.now.left ≢ 0 }
+    requires known { stated.caller < before.now.numbers.callers }
     requires is_due { IsDue before.now due.now }
     requires caller { due.now.caller ≡ stated.caller }
-    ensures { Explains before.now (parts_in stated.entry) result }
+    ensures { ExplainsFirst before.now (parts_in stated.entry) result }
 {
     if stated.number != due.number {
         return Cause::Number(due.number);
@@ -230,12 +230,26 @@ fn due_cause(before: &Before, due: &Due, stated: Stated) -> Cause
     }
 }
 
+// Whether a reply is that of a line.
+fn is_like(stated: Stated, reply: Reply) -> bool
+    ensures { IsTrue result ↔ IsLike (parts_in stated.entry) reply }
+{
+    if !has_reply(stated.tail, reply) {
+        return false;
+    }
+    if let Reply::Place(address) = reply {
+        address == stated.address
+    } else {
+        true
+    }
+}
+
 // Why a line is not that of the one entry that may come.
 fn entry_cause(before: &Before, entry: Entry, stated: Stated) -> Cause
     requires { IsOnly before.now (parts_in stated) entry }
     ensures { Explains before.now (parts_in stated.entry) result }
 {
-    if has_reply(stated.tail, entry.reply) {
+    if is_like(stated, entry.reply) {
         return marks_cause(before, entry, stated);
     }
     if let Reply::Place(own) = entry.reply {
@@ -250,13 +264,16 @@ fn marks_cause(before: &Before, entry: Entry, stated: Stated) -> Cause
     requires { IsOnlyLike before.now (parts_in stated) entry }
     ensures { Explains before.now (parts_in stated.entry) result }
 {
+    if !same_blocks(entry.grown, stated.grown) {
+        return blocks_cause(entry.grown, stated);
+    }
     match (entry.slot, stated.slot) {
-        (None, None) => blocks_cause(entry.grown, stated),
+        (None, None) => Cause::Spelled,
         (None, Some(_)) => Cause::Slot(SlotCause::Needless),
         (Some(_), None) => Cause::Slot(SlotCause::Missing),
         (Some(own), Some(slot)) => {
             if slot.0 == own.0 {
-                blocks_cause(entry.grown, stated)
+                Cause::Spelled
             } else {
                 other_slot(before, own, stated)
             }
@@ -268,7 +285,7 @@ fn marks_cause(before: &Before, entry: Entry, stated: Stated) -> Cause
 // weak table.
 fn other_slot(before: &Before, own: Slot, stated: Stated) -> Cause
     requires { (parts_in stated).slot ≢ Some own }
-    ensures { let p = parts_in stated.entry in
+    ensures { let p = parts_in stated.entry in IsGrown before.now p →
         EachLike before.now p (λ e. e.slot ≡ Some own) → Explains before.now p result }
 {
     if let Some(idle) = before.idle() {
@@ -279,14 +296,13 @@ fn other_slot(before: &Before, own: Slot, stated: Stated) -> Cause
     Cause::Slot(SlotCause::Freed(own))
 }
 
-// Other blocks than those of each entry that may come, or other bytes.
+// Other blocks than those of each entry that may come.
 fn blocks_cause(wanted: Grown, stated: Stated) -> Cause
-    ensures { let p = parts_in stated.entry in (k : Known) → EachLike k p (λ e. e.grown ≡ wanted)
-        → (p.grown ≡ wanted → Explains k p Spelled) → Explains k p result }
+    requires { wanted ≢ stated.grown }
+    ensures { let p = parts_in stated.entry in (k : Known) → IsReplied k p
+        → EachLike k p (λ e. e.grown ≡ wanted) → Explains k p result }
 {
-    if same_blocks(wanted, stated.grown) {
-        Cause::Spelled
-    } else if same_blocks(stated.grown, Grown::Zero) {
+    if same_blocks(stated.grown, Grown::Zero) {
         Cause::Blocks(BlockCause::Missing)
     } else if same_blocks(wanted, Grown::Zero) {
         Cause::Blocks(BlockCause::Needless)
@@ -304,16 +320,16 @@ fn same_blocks(one: Grown, other: Grown) -> bool
 
 // Why a line is not that of a new row, or of a full table.
 fn row_cause(before: &Before, kind: Kind, full: Option<Entry>, stated: Stated) -> Cause
-    requires like { (entry : Entry) → full ≡ Some entry
-        → HasReply stated.tail.now entry.reply → IsOnlyLike before.now (parts_in stated) entry }
-    requires other { ((entry : Entry) → full ≡ Some entry
-        → HasReply stated.tail.now entry.reply → ⊥) → IsSlotNext before.now (parts_in stated) kind }
+    requires like { (entry : EntryValue) → full ≡ Some entry
+        → IsLike (parts_in stated) entry.reply → IsOnlyLike before.now (parts_in stated) entry }
+    requires other { ((entry : EntryValue) → full ≡ Some entry
+        → IsLike (parts_in stated) entry.reply → ⊥) → IsSlotNext before.now (parts_in stated) kind }
     ensures { Explains before.now (parts_in stated.entry) result }
 {
     let Some(entry) = full else {
         return slot_cause(before, kind, stated);
     };
-    if has_reply(stated.tail, entry.reply) {
+    if is_like(stated, entry.reply) {
         marks_cause(before, entry, stated)
     } else {
         slot_cause(before, kind, stated)
@@ -325,25 +341,86 @@ fn slot_cause(before: &Before, kind: Kind, stated: Stated) -> Cause
     requires { IsSlotNext before.now (parts_in stated) kind }
     ensures { Explains before.now (parts_in stated.entry) result }
 {
-    if !has_reply(stated.tail, Reply::Done) {
-        return Cause::Reply;
+    if !is_like(stated, Reply::Done) {
+        Cause::Reply
+    } else if may_give(before, kind) {
+        done_cause(before, kind, stated)
+    } else {
+        full_cause(before, kind, stated)
     }
-    let Some(slot) = stated.slot else {
-        return Cause::Slot(SlotCause::Missing);
-    };
+}
+
+// Whether a new row of a kind may get a slot.
+fn may_give(before: &Before, kind: Kind) -> bool
+    ensures { IsTrue result ↔ MayGiveSome before.now kind }
+{
+    let grown = before.growth(kind);
+    if same_blocks(grown, Grown::Zero) {
+        any_free(before, kind)
+    } else {
+        true
+    }
+}
+
+// Why a line does not give a slot, where none may be given.
+fn full_cause(before: &Before, kind: Kind, stated: Stated) -> Cause
+    ensures { let p = parts_in stated.entry in NoneLike before.now p → DueTakes before.now p kind
+        → Explains before.now p result }
+{
+    let unused = unused_blocks(before);
+    let needed = needed_blocks(kind);
+    if !grows(stated.grown) {
+        Cause::Reply
+    } else if unused < needed {
+        Cause::TooFew(unused, kind)
+    } else {
+        Cause::Reply
+    }
+}
+
+// The number of blocks without a use.
+fn unused_blocks(before: &Before) -> u32
+    ensures { result ≡ before.now.numbers.blocks - given_of before.now.state }
+{
+    before.blocks().saturating_sub(before.given())
+}
+
+// Whether blocks came into use.
+fn grows(grown: Grown) -> bool
+    ensures { result ≡ is_some (first_stated grown) }
+{
+    match grown {
+        Grown::One(_) => true,
+        Grown::Two(..) => true,
+        Grown::Zero => false,
+        Grown::Back(_) => false,
+    }
+}
+
+// Why a line gives another slot or other blocks than a new row may get.
+fn done_cause(before: &Before, kind: Kind, stated: Stated) -> Cause
+    ensures { let p = parts_in stated.entry in IsDoneNext before.now p kind
+        → Explains before.now p result }
+{
     match stated.grown {
-        Grown::Zero => free_cause(before, kind, slot),
+        Grown::Zero => free_cause(before, kind, stated.slot),
         Grown::Back(_) => Cause::Blocks(BlockCause::Other),
-        Grown::One(block) => one_cause(before, kind, slot, block),
-        Grown::Two(block, other) => two_cause(before, kind, slot, block, other),
+        Grown::One(block) => one_cause(before, kind, stated.slot, block),
+        Grown::Two(block, other) => two_cause(before, kind, stated.slot, block, other),
     }
 }
 
 // Why a slot is no free one of a kind.
-fn free_cause(before: &Before, kind: Kind, slot: Slot) -> Cause
-    ensures { (p : Parts) → IsSlotNext before.now p kind → p.slot ≡ Some slot → p.grown ≡ Zero
+fn free_cause(before: &Before, kind: Kind, slot: Option<Slot>) -> Cause
+    ensures { (p : Parts) → IsDoneNext before.now p kind → p.slot ≡ slot → p.grown ≡ Zero
         → Explains before.now p result }
 {
+    if !any_free(before, kind) {
+        return Cause::Blocks(BlockCause::Missing);
+    }
+    let Some(slot) = slot else {
+        return Cause::Slot(SlotCause::Missing);
+    };
     if before.is_free(kind, slot) {
         Cause::Spelled
     } else if before.is_taken(slot) {
@@ -354,13 +431,11 @@ fn free_cause(before: &Before, kind: Kind, slot: Slot) -> Cause
 }
 
 // Why the table does not grow by one block for a kind, or why the slot is not in that block.
-fn one_cause(before: &Before, kind: Kind, slot: Slot, block: u32) -> Cause
-    ensures { (p : Parts) → IsSlotNext before.now p kind → p.slot ≡ Some slot → p.grown ≡ One block
+fn one_cause(before: &Before, kind: Kind, slot: Option<Slot>, block: u32) -> Cause
+    ensures { (p : Parts) → IsDoneNext before.now p kind → p.slot ≡ slot → p.grown ≡ One block
         → Explains before.now p result }
 {
-    if is_short(before, kind) {
-        too_few(before, kind)
-    } else if kind.paired() {
+    if kind.paired() {
         Cause::Blocks(BlockCause::Other)
     } else if before.has_use(block) {
         Cause::Blocks(BlockCause::InUse(block))
@@ -370,13 +445,11 @@ fn one_cause(before: &Before, kind: Kind, slot: Slot, block: u32) -> Cause
 }
 
 // The same of two blocks.
-fn two_cause(before: &Before, kind: Kind, slot: Slot, block: u32, other: u32) -> Cause
-    ensures { (p : Parts) → IsSlotNext before.now p kind → p.slot ≡ Some slot
+fn two_cause(before: &Before, kind: Kind, slot: Option<Slot>, block: u32, other: u32) -> Cause
+    ensures { (p : Parts) → IsDoneNext before.now p kind → p.slot ≡ slot
         → p.grown ≡ Two block other → Explains before.now p result }
 {
-    if is_short(before, kind) {
-        too_few(before, kind)
-    } else if !kind.paired() {
+    if !kind.paired() {
         Cause::Blocks(BlockCause::Other)
     } else if before.has_use(block) {
         Cause::Blocks(BlockCause::InUse(block))
@@ -387,23 +460,6 @@ fn two_cause(before: &Before, kind: Kind, slot: Slot, block: u32, other: u32) ->
     } else {
         least_cause(before, Growth::First, 1, block, slot, block)
     }
-}
-
-// Whether fewer blocks are without a use than a new row of a kind may need.
-fn is_short(before: &Before, kind: Kind) -> bool
-    ensures { IsTrue result
-        ↔ (before.now.numbers.blocks < given_of before.now.state + blocks_needed kind) }
-{
-    before.blocks() < before.given() + needed_blocks(kind)
-}
-
-// That they are too few.
-fn too_few(before: &Before, kind: Kind) -> Cause
-    ensures { let unused = before.now.numbers.blocks - given_of before.now.state in
-        result ≡ Blocks (TooFew unused kind) }
-{
-    let unused = before.blocks().saturating_sub(before.given());
-    Cause::Blocks(BlockCause::TooFew(unused, kind))
 }
 
 // Whether a block is the least one without a use.
@@ -424,18 +480,22 @@ fn least_cause(
     growth: Growth,
     from: u32,
     block: u32,
-    slot: Slot,
+    slot: Option<Slot>,
     new: u32,
 ) -> Cause
-    ensures { (p : Parts) (kind : Kind) → IsGrowing before.now p kind growth block from slot new
-        → Explains before.now p result }
+    ensures { (p : Parts) (kind : Kind) → IsGrowing before.now p kind growth block from new
+        → p.slot ≡ slot → Explains before.now p result }
 {
     let Some(least) = before.least_unused(from) else {
         return Cause::Blocks(BlockCause::Other);
     };
     if least != block {
-        Cause::Blocks(BlockCause::NotLeast(growth, least))
-    } else if is_first(slot, new) {
+        return Cause::Blocks(BlockCause::NotLeast(growth, least));
+    }
+    let Some(slot) = slot else {
+        return Cause::Slot(SlotCause::Missing);
+    };
+    if is_first(slot, new) {
         Cause::Spelled
     } else {
         Cause::Slot(SlotCause::NotFirst(new))
@@ -458,10 +518,14 @@ fn address_cause(free: &NumberSet, stated: Stated) -> Cause
         Cause::Reply
     } else if !free.has(stated.address) {
         Cause::AddressTaken(stated.address)
+    } else if !is_like(stated, Reply::Place(stated.address)) {
+        Cause::Reply
+    } else if !same_blocks(Grown::Zero, stated.grown) {
+        blocks_cause(Grown::Zero, stated)
     } else if stated.slot.is_some() {
         Cause::Slot(SlotCause::Needless)
     } else {
-        blocks_cause(Grown::Zero, stated)
+        Cause::Spelled
     }
 }
 
@@ -470,9 +534,9 @@ fn block_cause(before: &Before, kind: Kind, stated: Stated) -> Cause
     requires { IsBlockNext before.now (parts_in stated) kind }
     ensures { Explains before.now (parts_in stated.entry) result }
 {
-    if has_reply(stated.tail, Reply::Value(0)) {
+    if is_like(stated, Reply::Value(0)) {
         none_cause(stated)
-    } else if has_reply(stated.tail, Reply::Value(1)) {
+    } else if is_like(stated, Reply::Value(1)) {
         back_cause(before, kind, stated)
     } else {
         Cause::Reply
@@ -481,40 +545,55 @@ fn block_cause(before: &Before, kind: Kind, stated: Stated) -> Cause
 
 // Why a line that gives back none is not right.
 fn none_cause(stated: Stated) -> Cause
-    ensures { let p = parts_in stated.entry in HasReply p.tail (Value 0)
+    ensures { let p = parts_in stated.entry in IsLike p (Value 0)
         → (k : Known) (kind : Kind) → IsBlockNext k p kind → Explains k p result }
 {
-    if stated.slot.is_some() {
+    if !same_blocks(Grown::Zero, stated.grown) {
+        blocks_cause(Grown::Zero, stated)
+    } else if stated.slot.is_some() {
         Cause::Slot(SlotCause::Needless)
     } else {
-        blocks_cause(Grown::Zero, stated)
+        Cause::Spelled
     }
 }
 
 // Why a line that gives back a block is not right.
 fn back_cause(before: &Before, kind: Kind, stated: Stated) -> Cause
     requires next { IsBlockNext before.now (parts_in stated) kind }
-    requires reply { HasReply stated.tail.now (Value 1) }
+    requires like { IsLike (parts_in stated) (Value 1) }
     ensures { Explains before.now (parts_in stated.entry) result }
 {
-    if stated.slot.is_some() {
-        return Cause::Slot(SlotCause::Needless);
+    if !any_whole(before, kind) {
+        return Cause::Reply;
     }
     match stated.grown {
         Grown::Zero => Cause::Blocks(BlockCause::Missing),
         Grown::One(_) | Grown::Two(..) => Cause::Blocks(BlockCause::Other),
-        Grown::Back(block) => given_cause(before, kind, block),
+        Grown::Back(block) => given_cause(before, kind, block, stated.slot),
     }
 }
 
 // Why a block of a kind is not given back.
-fn given_cause(before: &Before, kind: Kind, block: u32) -> Cause
-    ensures { (p : Parts) → IsBlockNext before.now p kind → HasReply p.tail (Value 1)
-        → p.slot ≡ None → p.grown ≡ Back block → Explains before.now p result }
+fn given_cause(before: &Before, kind: Kind, block: u32, slot: Option<Slot>) -> Cause
+    ensures { (p : Parts) → IsBlockNext before.now p kind → IsLike p (Value 1) → IsReplied before.now p
+        → p.slot ≡ slot → p.grown ≡ Back block → Explains before.now p result }
 {
-    if before.is_all_free(kind, block) {
+    if !before.is_all_free(kind, block) {
+        other_block(before, kind, block)
+    } else if slot.is_some() {
+        Cause::Slot(SlotCause::Needless)
+    } else {
         Cause::Spelled
-    } else if before.is_of(kind, block) {
+    }
+}
+
+// The same of a block that may not be.
+fn other_block(before: &Before, kind: Kind, block: u32) -> Cause
+    requires { IsAllFree before.now.state kind block → ⊥ }
+    ensures { (p : Parts) → IsReplied before.now p → IsNotGiven before.now p block kind
+        → Explains before.now p result }
+{
+    if before.is_of(kind, block) {
         Cause::Blocks(BlockCause::NotFree(block, kind))
     } else {
         Cause::Blocks(BlockCause::OtherKind(block, kind))

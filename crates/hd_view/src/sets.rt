@@ -1,5 +1,5 @@
 // Sets of numbers, by ranges.
-ghost use Rattle.std.specs.Prelude.{◌≡◌, ℕ, ◌+◌, ◌≤◌, ◌↔◌, [], ◌++◌, ◌∷◌, max, IfOk, IsTrue};
+ghost use Rattle.std.specs.Prelude.{◌≡◌, ℕ, ◌+◌, ◌≤◌, ◌<◌, ◌↔◌, [], ◌++◌, ◌∷◌, max, IfOk, IsTrue, MatchOption};
 ghost use Rattle.hd_view.specs.Inside.{Adds, Between};
 ghost use Rattle.hd_view.specs.Sets.{IsIn, IsMember};
 
@@ -105,6 +105,19 @@ pub(crate) trait Test {
     /// Whether that is so.
     fn has(&self, number: u32) -> bool
         ensures { IsTrue result ↔ tells self.now number };
+}
+
+/// The first number below one that passes a test.
+pub(crate) fn first_of<T: Test>(test: &T, end: u32) -> Option<u32>
+    ensures { MatchOption result ((x : ℕ) → x < end → T.tells test.now x → ⊥)
+        (T.tells test.now) }
+{
+    for number in 0..end {
+        if test.has(number) {
+            return Some(number);
+        }
+    }
+    None
 }
 
 /// Adds the numbers from one up to another that pass a test.

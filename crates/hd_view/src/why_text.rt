@@ -371,6 +371,7 @@ fn push_cause(text: &mut Text, cause: Cause) -> Result<(), Memory>
         Cause::AddressTaken(address) => {
             push_numbered(text, "an object with a pinned address is at ", address)
         }
+        Cause::TooFew(unused, kind) => push_too_few(text, unused, kind),
         Cause::Slot(cause) => push_slot_cause(text, cause),
         Cause::Blocks(cause) => push_block_cause(text, cause),
         Cause::Spelled => text.push("it reads as a line that may come, but has other bytes"),
@@ -406,7 +407,6 @@ fn push_block_cause(text: &mut Text, cause: BlockCause) -> Result<(), Memory>
         BlockCause::Other => text.push("the blocks are others"),
         BlockCause::InUse(block) => push_worded(text, "block ", block, " is in use"),
         BlockCause::NotLeast(growth, least) => push_numbered(text, growth_words(growth), least),
-        BlockCause::TooFew(unused, kind) => push_too_few(text, unused, kind),
         BlockCause::OtherKind(block, kind) => {
             push_kinded(text, "block ", block, " has no handles of kind ", kind)
         }

@@ -1,5 +1,4 @@
-use Rattle.std.proofs.Common.{subst, sym, ◌≡◌}
-use Rattle.hd_io.specs.Sink.{SinkView}
+use Rattle.std.proofs.Common.{subst, sym}
 use Rattle.hd_run.specs.Bounds.{Bounds}
 use Rattle.hd_talk.specs.Machine.{numbers_with}
 use Rattle.hd_talk.specs.Talked.{Talked}

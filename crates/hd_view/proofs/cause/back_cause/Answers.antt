@@ -1,24 +1,34 @@
-use Rattle.std.proofs.Common.{ap, sym, ⊎_elim, ◌∙◌}
+use Rattle.std.proofs.Common.{ap, sym, ⊎_elim, ◌∙◌, refl, true≢false}
 use Rattle.hd_view.specs.Inside.{parts_in}
-use Rattle.hd_view.proofs.RowCauses.{back_missing, back_other, block_slot, is_absent, is_back, is_there}
+use Rattle.hd_view.proofs.RowCauses.{back_missing, back_other, back_replied, is_back, no_whole}
 use Rattle.hd_view.proofs.cause.back_cause.Goals as goal
 
-pub returns-then-is_some : goal.returns-then-is_some
-returns-then-is_some c =
-    block_slot c.args.before.now (parts_in c.args.stated) c.args.kind c.requires.next
-    (is_there (parts_in c.args.stated).slot (sym c.is_some.ensures ∙ c.if-is_some.true))
+pub returns-then-not-any_whole : goal.returns-then-not-any_whole
+returns-then-not-any_whole c =
+    no_whole c.args.before.now (parts_in c.args.stated) c.args.kind c.requires.next c.requires.like
+    (λ whole. true≢false (sym (c.any_whole.ensures.1 whole) ∙ c.if-not-any_whole.true))
 
 pub returns-in-Zero : goal.returns-in-Zero
 returns-in-Zero c =
-    back_missing c.args.before.now (parts_in c.args.stated) c.args.kind c.requires.next c.requires.reply
-    c.in-Zero.is
+    let k = c.args.before.now in
+    let p = parts_in c.args.stated in
+    let whole = c.any_whole.ensures.0 c.if-not-any_whole.false in
+    back_missing k p c.args.kind c.requires.next c.requires.like
+    (back_replied k p c.args.kind c.requires.next c.requires.like whole.0 whole.1) c.in-Zero.is
 
 pub returns-in-One : goal.returns-in-One
 returns-in-One c =
-    back_other c.args.before.now (parts_in c.args.stated) c.args.kind c.requires.next c.requires.reply
+    let k = c.args.before.now in
+    let p = parts_in c.args.stated in
+    let whole = c.any_whole.ensures.0 c.if-not-any_whole.false in
+    back_other k p c.args.kind c.requires.next c.requires.like
+    (back_replied k p c.args.kind c.requires.next c.requires.like whole.0 whole.1)
     (⊎_elim (λ one. ap is_back one.1) (λ two. ap is_back two.2) c.in-One.is)
 
 pub returns-in-Back : goal.returns-in-Back
 returns-in-Back c =
-    c.given_cause.ensures (parts_in c.args.stated) c.requires.next c.requires.reply
-    (is_absent (parts_in c.args.stated).slot (sym c.is_some.ensures ∙ c.if-is_some.false)) c.in-Back.is
+    let k = c.args.before.now in
+    let p = parts_in c.args.stated in
+    let whole = c.any_whole.ensures.0 c.if-not-any_whole.false in
+    c.given_cause.ensures p c.requires.next c.requires.like
+    (back_replied k p c.args.kind c.requires.next c.requires.like whole.0 whole.1) refl c.in-Back.is

@@ -1,18 +1,11 @@
-use Rattle.std.proofs.Common.{take, ◌++◌, ◌≡◌}
+use Rattle.std.proofs.Common.{◌++◌, ◌≡◌}
 use Rattle.std.proofs.lemmas.Result.{IfOk-weaker}
-use Rattle.hd_model.specs.RunTexts.{cut_lines}
 use Rattle.hd_audit.specs.RightVerdicts.{numbers_of}
 use Rattle.hd_run.specs.Audit.{wrong_text}
 use Rattle.hd_view.specs.Inside.{IsReasonOf}
 use Rattle.hd_view.specs.WhyText.{why_text}
-use Rattle.hd_view.proofs.WrongLines.{is_sound, is_wrong, reason_is, written_by}
+use Rattle.hd_view.proofs.WrongLines.{is_wrong, reason_is, written_by}
 use Rattle.hd_view.proofs.why.reason_after.Goals as goal
-
-pub cause_of-cause-requires-clause-sound : goal.cause_of-cause-requires-clause-sound
-cause_of-cause-requires-clause-sound c =
-    let j = c.args.judgement.now in
-    is_sound (numbers_of j.scripts.now j.heap j.blocks) j.scripts.now (take j.count (cut_lines j.text.now))
-    c.args.before.now c.requires.known
 
 pub cause_of-cause-requires-clause-wrong : goal.cause_of-cause-requires-clause-wrong
 cause_of-cause-requires-clause-wrong c =
